@@ -2,24 +2,24 @@
 use Rattle.std.proofs.Common.{◌≡◌, ◌==◌, not, Bool, true, false, ℕ, zero, suc, ◌<◌, Option, Some, None, List, [], ◌∷◌, refl, sym, ap, ◌∙◌, subst, inl, inr, arith}
 use Rattle.std.specs.Prelude.{if◌then◌else◌}
 use Rattle.std.proofs.lemmas.Bool.{cases_lt}
-use Rattle.kube_objects.specs.declared.call.Request.{Request}
 use Rattle.kube_objects.specs.declared.script.Event.{Event}
 use Rattle.kube_objects.specs.declared.script.What.{What}
 use Rattle.kube_objects.specs.declared.script.What.TheVariants as what
 use Rattle.kube_objects.specs.Document.{Doc, processes, is_up_first}
-use Rattle.kube_objects.specs.Elector.{deadline, acts, release}
-use Rattle.kube_objects.specs.Entry.{Entry, Identity, Call, Event as Happens, Stops, script_entry, entry, Expires, Ends}
+use Rattle.kube_objects.specs.Elector.{deadline, acts}
+use Rattle.kube_objects.specs.Entry.{Entry, Identity, Call, Event as Happens, script_entry}
 use Rattle.kube_objects.specs.Identities.{identity}
 use Rattle.kube_objects.specs.Kubelet.{round_if, round}
 use Rattle.kube_objects.specs.Newest.{only_if}
 use Rattle.kube_objects.specs.Pauses.{is_paused}
-use Rattle.kube_objects.specs.Process.{alive, call_in, is_late, ended, is_restart_due}
+use Rattle.kube_objects.specs.Process.{alive, call_in, is_late, release_begun, ended, is_restart_due}
 use Rattle.kube_objects.specs.Seen.{is_synced}
+use Rattle.kube_objects.specs.Stalls.{is_stalled}
 use Rattle.kube_objects.specs.Tick.{sync, pass, cleaned, tainted, evicted, tick, phases}
-use Rattle.kube_objects.specs.Turns.{expire_call, end_term, attempt_if, try}
-use Rattle.history.specs.Steps.{start_first, starts_below, first_starts, start_if_down, crash, stall, released, stop, effect, stamp, event_version, happen_all, step_one, restart_if, restart, expire, finish, attempts, ticks, elector_turn, controller_turn, rounds, kubelet_turn, happens, start}
+use Rattle.kube_objects.specs.Turns.{expire_as, expire_call, end_as, end_term, attempt_if, try}
+use Rattle.history.specs.Steps.{start_first, starts_below, first_starts, start_if_down, crash, stall, stop, effect, stamp, event_version, happen_all, step_one, restart_if, restart, expire, finish, attempts, ticks_while, ticks, elector_turn, controller_turn, rounds, kubelet_turn, happens, start}
 use Rattle.history_laws.specs.Tails.{IsTail}
-use Rattle.history_laws.proofs.Tailed.{tail_all, tail_trans}
+use Rattle.history_laws.proofs.Tailed.{tail_all, tail_trans, stop_as_adds, expire_as_adds, end_as_adds}
 use Rattle.history_laws.proofs.Ticks.{walk_sync, walk_pass, walk_cleaned, walk_tainted, walk_evicted, walk_tick}
 use Rattle.agenda_laws.specs.Parts.{IsUneventful, EventsAddByParts, IsStillElector, ElectorsAddByParts, IsStillController, ControllersAddByParts, IsStillKubelet, KubeletsAddByParts, IsStillSynced, IsStillTick, TicksAddByParts}
 use Rattle.agenda_laws.specs.Standing.{Among}
@@ -84,15 +84,9 @@ module _ (doc : Doc) (k : ℕ) where
   stall_adds p beats None h = tail_all h
   stall_adds p beats (Some i) h = inr (tail_all h)
 
-  released_adds : (q : Identity) (o : Option Request) (h : List Entry) → IsTail h (released k q o h)
-  released_adds q None h = tail_all h
-  released_adds q (Some request) h = inr (tail_all h)
-
   stop_adds : (p : ℕ) (o : Option ℕ) (before h : List Entry) → IsTail h (stop doc k p o before h)
   stop_adds p None before h = tail_all h
-  stop_adds p (Some i) before h =
-      let s = entry k 1 (identity p i) Stops ∷ h in
-      tail_trans h s (stop doc k p (Some i) before h) (inr (tail_all h)) (released_adds (identity p i) (release doc (identity p i) k before) s)
+  stop_adds p (Some i) before h = stop_as_adds doc.settings.rules.release doc k (identity p i) before h h (tail_all h)
 
   effect_adds : (w : What) (before h : List Entry) → IsTail h (effect doc k w before h)
   effect_adds (what.Crash id) before h = crash_adds id.0 (alive id.0 before) h
@@ -104,6 +98,7 @@ module _ (doc : Doc) (k : ℕ) where
   effect_adds (what.Watch id on) before h = tail_all h
   effect_adds (what.Ready id status) before h = tail_all h
   effect_adds (what.Pause id beats) before h = stall_adds id.0 beats (alive id.0 before) h
+  effect_adds (what.Stall beats) before h = tail_all h
   effect_adds (what.Put key object) before h = tail_all h
   effect_adds (what.Remove key) before h = tail_all h
 
@@ -242,24 +237,25 @@ module _ (doc : Doc) (k p : ℕ) where
   restart_adds : (h : List Entry) → IsTail h (restart doc k p h)
   restart_adds h = restart_if_adds (alive p h) h
 
-  expire_as_adds : (q : Identity) (call : Call) (b : Bool) (h : List Entry) → IsTail h (if b then entry k 4 q (Expires call) ∷ h else h)
-  expire_as_adds q call false h = tail_all h
-  expire_as_adds q call true h = inr (tail_all h)
+  late_adds : (q : Identity) (call : Call) (b : Bool) (h : List Entry)
+      → IsTail h (if b then expire_as doc k q call (release_begun doc.settings.rules.release call.kind) h else h)
+  late_adds q call false h = tail_all h
+  late_adds q call true h = expire_as_adds doc k q call (release_begun doc.settings.rules.release call.kind) h h (tail_all h)
 
   expire_call_adds : (q : Identity) (o : Option Call) (h : List Entry) → IsTail h (expire_call doc k q o h)
   expire_call_adds q None h = tail_all h
-  expire_call_adds q (Some call) h = expire_as_adds q call (is_late doc q k call) h
+  expire_call_adds q (Some call) h = late_adds q call (is_late doc q k call) h
 
   expire_adds : (h : List Entry) → IsTail h (expire doc k p h)
   expire_adds h = up_adds p (λ q T. expire_call doc k q (call_in q T) T) (λ q g. expire_call_adds q (call_in q g) g) (alive p h) h
 
-  end_as_adds : (q : Identity) (b : Bool) (h : List Entry) → IsTail h (if b then h else entry k 4 q Ends ∷ h)
-  end_as_adds q true h = tail_all h
-  end_as_adds q false h = inr (tail_all h)
+  deadline_adds : (q : Identity) (b : Bool) (h : List Entry) → IsTail h (if b then h else end_as doc.settings.rules.release doc k q h)
+  deadline_adds q true h = tail_all h
+  deadline_adds q false h = end_as_adds doc.settings.rules.release doc k q h h (tail_all h)
 
   end_term_adds : (q : Identity) (o : Option ℕ) (h : List Entry) → IsTail h (end_term doc k q o h)
   end_term_adds q None h = tail_all h
-  end_term_adds q (Some at) h = end_as_adds q _ h
+  end_term_adds q (Some at) h = deadline_adds q _ h
 
   finish_adds : (h : List Entry) → IsTail h (finish doc k p h)
   finish_adds h = up_adds p (λ q T. end_term doc k q (deadline doc q T) T) (λ q g. end_term_adds q (deadline doc q g) g) (alive p h) h
@@ -276,8 +272,12 @@ module _ (doc : Doc) (k p : ℕ) where
   tick_as_adds q false h = tail_all h
   tick_as_adds q true h = tick_adds doc k q h
 
+  ticks_while_add : (b : Bool) (h : List Entry) → IsTail h (ticks_while b doc k p h)
+  ticks_while_add true h = tail_all h
+  ticks_while_add false h = up_adds p (λ q T. (if (acts doc q k T) then tick doc k q T else T)) (λ q g. tick_as_adds q (acts doc q k g) g) (alive p h) h
+
   ticks_add : (h : List Entry) → IsTail h (ticks doc k p h)
-  ticks_add h = up_adds p (λ q T. (if (acts doc q k T) then tick doc k q T else T)) (λ q g. tick_as_adds q (acts doc q k g) g) (alive p h) h
+  ticks_add h = ticks_while_add (is_stalled doc k) h
 
   elector_adds : (h : List Entry) → IsTail h (elector_turn doc k p h)
   elector_adds h =

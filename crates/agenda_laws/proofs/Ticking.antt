@@ -1,5 +1,5 @@
 -- What a tick adds something for.
-use Rattle.std.proofs.Common.{◌≡◌, ◌↔◌, ◌⊎◌, ℕ, zero, suc, ◌+◌, ◌-◌, ◌*◌, ◌<◌, ◌≤◌, ◌==◌, ◌&&◌, nat_lt, nat_le, Bool, true, false, cond, List, [], ◌∷◌, Option, Some, None, refl, sym, ap, ◌∙◌, subst, inl, inr, arith}
+use Rattle.std.proofs.Common.{◌≡◌, ◌↔◌, ◌⊎◌, ℕ, zero, suc, ◌+◌, ◌-◌, ◌*◌, ◌<◌, ◌≤◌, ◌==◌, ◌&&◌, ◌||◌, nat_lt, nat_le, Bool, true, false, cond, List, [], ◌∷◌, Option, Some, None, refl, sym, ap, ◌∙◌, subst, inl, inr, arith}
 use Rattle.std.specs.Prelude.{if◌then◌else◌}
 use Rattle.std.specs.Int.{div_ceil}
 use Rattle.std.specs.List.{list_any}
@@ -15,7 +15,7 @@ use Rattle.kube_objects.specs.declared.pod.Due.{Due}
 use Rattle.kube_objects.specs.declared.pod.Due.TheVariants.{Never, At}
 use Rattle.kube_objects.specs.declared.pod.Pod.{Pod}
 use Rattle.kube_objects.specs.Clocks.{local, wall}
-use Rattle.kube_objects.specs.Document.{Doc}
+use Rattle.kube_objects.specs.Document.{Doc, of_millis}
 use Rattle.kube_objects.specs.Entry.{Entry, Identity, Place, Pass, Sync, Mode, Zone}
 use Rattle.kube_objects.specs.Health.{mark_of, last_pass, is_after_pass, is_pass_due}
 use Rattle.kube_objects.specs.Modes.{nodes, places, mode, state_in, rate_in, all_full}
@@ -23,7 +23,7 @@ use Rattle.kube_objects.specs.Newest.{only_if, has}
 use Rattle.kube_objects.specs.Seen.{seen_node, seen_pod, is_synced, is_stale, node_names, pod_keys}
 use Rattle.kube_objects.specs.Stored.{node_key}
 use Rattle.kube_objects.specs.Tainting.{Wants, Nothing, Wanted, Whatever, wants, has_condition, is_opposite, lacks_in, waits, Queued, queued, queued_as, first, head_of}
-use Rattle.kube_objects.specs.Tick.{add, mark_as, mark_seen, mark, marks, is_same_mode, set_mode, zone, set_zones, pass, clean_as, clean_seen, clean, taint_as, taint_head, taint, evict_due, evict_on, evict_seen, evict, tick, whole_pass, add_untaint, add_swap, taint_first, add_delete}
+use Rattle.kube_objects.specs.Tick.{add, sync, is_stripped, mark_as, mark_seen, mark, marks, is_same_mode, set_mode, zone, set_zones, pass, clean_as, clean_seen, clean, taint_as, taint_head, taint, evict_due, evict_on, evict_seen, evict, tick, whole_pass, add_untaint, add_swap, taint_first, add_delete}
 use Rattle.kube_objects.specs.Tokens.{Rated, rated, is_rated, base, token_size, is_grown, has_token}
 use Rattle.kube_objects.specs.Tolerations.{due}
 use Rattle.history_laws.specs.Tails.{IsTail}
@@ -36,6 +36,8 @@ use Rattle.agenda_laws.specs.Times.{is_early, sooner}
 use Rattle.agenda_laws.proofs.Between.{longer, grew, each_adds, each_still, still_each, or_none, none_or, and_none, none_and, sooner_both, both_sooner}
 use Rattle.agenda_laws.proofs.Parts.{ticks_add_by_parts}
 use Rattle.agenda_laws.proofs.Times.{Waits, never}
+use Rattle.kube_objects.specs.Own.{IsOwn}
+use Rattle.kube_objects.proofs.Own.{has_settled-own, pass_period-own, cleaned-own, tainted-own, has_token-own, evict-own, evicted-own}
 
 -- what adds nothing exactly where a test fails
 abbrev Needs : List Entry → List Entry → Bool → Type 0
@@ -131,12 +133,16 @@ module _ (doc : Doc) (q : Identity) where
 
 -- ---- the parts
 
-module _ (doc : Doc) (k : ℕ) (q : Identity) where
+module _ (doc : Doc) (own : IsOwn doc) (k : ℕ) (q : Identity) where
   -- the sync
 
   sync_needs : (b : Bool) (h : List Entry) → Needs (if b then add k q Sync h else h) h b
   sync_needs true h = busy _ h
   sync_needs false h = idle h
+
+  sync_waits : (h : List Entry) → Needs (sync doc k q h) h (is_sync_due doc q h)
+  sync_waits h =
+      subst (λ b. Needs (if (b && is_sync_due doc q h) then add k q Sync h else h) h (is_sync_due doc q h)) (sym (has_settled-own doc own k q h)) (sync_needs (is_sync_due doc q h) h)
 
   -- the pass
 
@@ -178,7 +184,7 @@ module _ (doc : Doc) (k : ℕ) (q : Identity) where
   pass_needs true h = (λ is. absurd (longer _ h (if true then whole_pass doc k q h else h) (pass_on h) is), λ is. absurd (true_is is))
   pass_needs false h = idle h
 
-  pass_is : (o : Option ℕ) → is_after_pass doc k q o ≡ false ↔ nat_lt (local doc q.process k) (pass_after doc q o) ≡ true
+  pass_is : (o : Option ℕ) → is_after_pass doc k q (of_millis doc.settings.monitor_period_millis) o ≡ false ↔ nat_lt (local doc q.process k) (pass_after doc q o) ≡ true
   pass_is None = (λ is. absurd (true_is is), λ is. grind (arith, nat_tests))
   pass_is (Some last) = (λ is. grind (arith, nat_tests), λ is. grind (arith, nat_tests))
 
@@ -186,7 +192,8 @@ module _ (doc : Doc) (k : ℕ) (q : Identity) where
   pass_waits h =
       let needs = pass_needs (is_pass_due doc k q h) h in
       let tells = pass_is (last_pass q h) in
-      (λ is. tells.0 (needs.0 is), λ is. needs.1 (tells.1 is))
+      let same : is_pass_due doc k q h ≡ is_after_pass doc k q (of_millis doc.settings.monitor_period_millis) (last_pass q h) = ap (λ n. is_after_pass doc k q n (last_pass q h)) (pass_period-own doc own q h) in
+      (λ is. tells.0 (sym same ∙ needs.0 is), λ is. needs.1 (same ∙ tells.1 is))
 
   -- untaints and swaps
 
@@ -206,7 +213,9 @@ module _ (doc : Doc) (k : ℕ) (q : Identity) where
   clean_seen_needs : (name : ℕ) (stale : Bool) (o : Option (Version × Node)) (h : List Entry) → Needs (clean_seen doc k q name stale o h) h (is_unclean_seen (mode q h) stale o)
   clean_seen_needs name true o h = idle h
   clean_seen_needs name false None h = idle h
-  clean_seen_needs name false (Some x) h = clean_as_needs name x.0 x.1 (wants (mode q h) x.1) h
+  clean_seen_needs name false (Some x) h =
+      subst (λ r. Needs (clean_as doc k q name x.0 x.1 (wants (is_stripped r.first_sight k q name h || mode q h) x.1) h) h (is_unclean x.1 (wants (mode q h) x.1))) (sym own.rules)
+      (clean_as_needs name x.0 x.1 (wants (mode q h) x.1) h)
 
   clean_needs : (name : ℕ) (h : List Entry) → Needs (clean doc k q name h) h (is_clean_due q h name)
   clean_needs name h = clean_seen_needs name (is_stale q (node_key name) h) (seen_node q name h) h
@@ -227,7 +236,7 @@ module _ (doc : Doc) (k : ℕ) (q : Identity) where
   clean_seen_adds : (name : ℕ) (stale : Bool) (o : Option (Version × Node)) (h : List Entry) → IsTail h (clean_seen doc k q name stale o h)
   clean_seen_adds name true o h = tail_all h
   clean_seen_adds name false None h = tail_all h
-  clean_seen_adds name false (Some x) h = clean_as_adds name x.0 x.1 (wants (mode q h) x.1) h
+  clean_seen_adds name false (Some x) h = clean_as_adds name x.0 x.1 (wants (is_stripped doc.settings.rules.first_sight k q name h || mode q h) x.1) h
 
   clean_adds : (name : ℕ) (h : List Entry) → IsTail h (clean doc k q name h)
   clean_adds name h = clean_seen_adds name (is_stale q (node_key name) h) (seen_node q name h) h
@@ -308,7 +317,8 @@ module _ (doc : Doc) (k : ℕ) (q : Identity) where
   taint_waits : (place : Place) (h : List Entry) → Waits (taint doc k q place h) h (is_early (local doc q.process k) (head_at doc q place h))
   taint_waits place h =
       let needs = taint_needs place (has_token doc q k place h) h in
-      let grown = grown_waits (local doc q.process k) (local doc q.process (base q place h)) (rated q place h) in
+      let grown = subst (λ b. b ≡ false ↔ is_early (local doc q.process k) (token_at doc q place h) ≡ true) (sym (has_token-own doc own q k place h))
+      (grown_waits (local doc q.process k) (local doc q.process (base q place h)) (rated q place h)) in
       let tells = both_wait (has_token doc q k place h) (has (head_of q place (node_names h) h)) (local doc q.process k) (token_at doc q place h) grown in
       (λ is. tells.0 (needs.0 is), λ is. needs.1 (tells.1 is))
 
@@ -338,7 +348,8 @@ module _ (doc : Doc) (k : ℕ) (q : Identity) where
   evict_seen_waits pod false (Some x) h = evict_on_waits pod x (seen_node q x.1.node h) h
 
   evict_waits : (pod : Key) (h : List Entry) → Waits (evict doc k q pod h) h (is_early (wall doc q.process k) (due_at q pod h))
-  evict_waits pod h = evict_seen_waits pod (is_stale q pod h) (seen_pod q pod h) h
+  evict_waits pod h =
+      subst (λ g. Waits g h (is_early (wall doc q.process k) (due_at q pod h))) (sym (evict-own doc own k q pod h)) (evict_seen_waits pod (is_stale q pod h) (seen_pod q pod h) h)
 
   delete_adds : (pod : Key) (given : Version) (node : ℕ) (node_given : Version) (at : ℕ) (b : Bool) (h : List Entry) → IsTail h (if b then add_delete k q pod given node node_given at h else h)
   delete_adds pod given node node_given at true h = inr (tail_all h)
@@ -358,7 +369,7 @@ module _ (doc : Doc) (k : ℕ) (q : Identity) where
   evict_seen_adds pod false (Some x) h = evict_on_adds pod x (seen_node q x.1.node h) h
 
   evict_adds : (pod : Key) (h : List Entry) → IsTail h (evict doc k q pod h)
-  evict_adds pod h = evict_seen_adds pod (is_stale q pod h) (seen_pod q pod h) h
+  evict_adds pod h = subst (λ g. IsTail h g) (sym (evict-own doc own k q pod h)) (evict_seen_adds pod (is_stale q pod h) (seen_pod q pod h) h)
 
   -- ---- the tick
 
@@ -381,10 +392,10 @@ module _ (doc : Doc) (k : ℕ) (q : Identity) where
   still_early : (h : List Entry) → IsStillSynced doc k q h → Early h
   still_early h s =
       record {
-        clean = none_any (is_clean_due q h) (node_names h) (λ name at. (clean_needs name h).0 (each_still (clean doc k q) clean_adds (node_names h) h s.cleans name at));
+        clean = none_any (is_clean_due q h) (node_names h) (λ name at. (clean_needs name h).0 (each_still (clean doc k q) clean_adds (node_names h) h (sym (cleaned-own doc own k q h) ∙ s.cleans) name at));
         reading = both_sooner (local doc q.process k) (pass_at doc q h) (heads_at doc q (places (nodes q h)) h) ((pass_waits h).0 s.passes)
-            (early_heads doc q (local doc q.process k) (places (nodes q h)) h (λ place at. (taint_waits place h).0 (each_still (taint doc k q) taint_adds (places (nodes q h)) h s.taints place at)));
-        time = early_dues (wall doc q.process k) (pod_keys h) h (λ pod at. (evict_waits pod h).0 (each_still (evict doc k q) evict_adds (pod_keys h) h s.evicts pod at));
+            (early_heads doc q (local doc q.process k) (places (nodes q h)) h (λ place at. (taint_waits place h).0 (each_still (taint doc k q) taint_adds (places (nodes q h)) h (sym (tainted-own doc own k q h) ∙ s.taints) place at)));
+        time = early_dues (wall doc q.process k) (pod_keys h) h (λ pod at. (evict_waits pod h).0 (each_still (evict doc k q) evict_adds (pod_keys h) h (sym (evicted-own doc own k q h) ∙ s.evicts) pod at));
       }
 
   early_still : (h : List Entry) → Early h → IsStillSynced doc k q h
@@ -392,9 +403,9 @@ module _ (doc : Doc) (k : ℕ) (q : Identity) where
       let both = sooner_both (local doc q.process k) (pass_at doc q h) (heads_at doc q (places (nodes q h)) h) s.reading in
       record {
         passes = (pass_waits h).1 both.0;
-        cleans = still_each (clean doc k q) (node_names h) h (λ name at. (clean_needs name h).1 (any_none (is_clean_due q h) (node_names h) s.clean name at));
-        taints = still_each (taint doc k q) (places (nodes q h)) h (λ place at. (taint_waits place h).1 (heads_early doc q (local doc q.process k) (places (nodes q h)) h both.1 place at));
-        evicts = still_each (evict doc k q) (pod_keys h) h (λ pod at. (evict_waits pod h).1 (dues_early (wall doc q.process k) (pod_keys h) h s.time pod at));
+        cleans = cleaned-own doc own k q h ∙ still_each (clean doc k q) (node_names h) h (λ name at. (clean_needs name h).1 (any_none (is_clean_due q h) (node_names h) s.clean name at));
+        taints = tainted-own doc own k q h ∙ still_each (taint doc k q) (places (nodes q h)) h (λ place at. (taint_waits place h).1 (heads_early doc q (local doc q.process k) (places (nodes q h)) h both.1 place at));
+        evicts = evicted-own doc own k q h ∙ still_each (evict doc k q) (pod_keys h) h (λ pod at. (evict_waits pod h).1 (dues_early (wall doc q.process k) (pod_keys h) h s.time pod at));
       }
 
   only_early : (reads : ℕ) (b : Bool) (o : Option ℕ) → (b ≡ true → is_early reads o ≡ true) → is_early reads (only_if b o) ≡ true
@@ -410,7 +421,7 @@ module _ (doc : Doc) (k : ℕ) (q : Identity) where
       let s = (ticks_add_by_parts doc k q h).0 is in
       let early : is_synced q h ≡ true → Early h = λ yet. still_early h (s.synced yet) in
       record {
-        at_once = none_or (is_sync_due doc q h) (is_synced q h && list_any (is_clean_due q h) (node_names h)) ((sync_needs (is_sync_due doc q h) h).0 s.syncs)
+        at_once = none_or (is_sync_due doc q h) (is_synced q h && list_any (is_clean_due q h) (node_names h)) ((sync_waits h).0 s.syncs)
             (none_and (is_synced q h) (list_any (is_clean_due q h) (node_names h)) (λ yet. (early yet).clean));
         reading = only_early (local doc q.process k) (is_synced q h) (sooner (pass_at doc q h) (heads_at doc q (places (nodes q h)) h)) (λ yet. (early yet).reading);
         time = only_early (wall doc q.process k) (is_synced q h) (dues_at q (pod_keys h) h) (λ yet. (early yet).time);
@@ -420,7 +431,7 @@ module _ (doc : Doc) (k : ℕ) (q : Identity) where
   early_tick h s =
       let parts = or_none (is_sync_due doc q h) (is_synced q h && list_any (is_clean_due q h) (node_names h)) s.at_once in
       (ticks_add_by_parts doc k q h).1 (record {
-        syncs = (sync_needs (is_sync_due doc q h) h).1 parts.0;
+        syncs = (sync_waits h).1 parts.0;
         synced = λ yet. early_still h (record {
           clean = and_none (is_synced q h) (list_any (is_clean_due q h) (node_names h)) parts.1 yet;
           reading = early_only (local doc q.process k) (is_synced q h) (sooner (pass_at doc q h) (heads_at doc q (places (nodes q h)) h)) s.reading yet;
@@ -429,19 +440,19 @@ module _ (doc : Doc) (k : ℕ) (q : Identity) where
       })
 
 pub syncs_wake : SyncsWake
-syncs_wake doc k q h = sync_needs doc k q (is_sync_due doc q h) h
+syncs_wake doc own k q h = sync_waits doc own k q h
 
 pub passes_wake : PassesWake
-passes_wake doc k q h = pass_waits doc k q h
+passes_wake doc own k q h = pass_waits doc own k q h
 
 pub cleans_wake : CleansWake
-cleans_wake doc k q name h = clean_needs doc k q name h
+cleans_wake doc own k q name h = clean_needs doc own k q name h
 
 pub heads_wake : HeadsWake
-heads_wake doc k q place h = taint_waits doc k q place h
+heads_wake doc own k q place h = taint_waits doc own k q place h
 
 pub deletes_wake : DeletesWake
-deletes_wake doc k q pod h = evict_waits doc k q pod h
+deletes_wake doc own k q pod h = evict_waits doc own k q pod h
 
 pub ticks_wake : TicksWake
-ticks_wake doc k q h = (tick_early doc k q h, early_tick doc k q h)
+ticks_wake doc own k q h = (tick_early doc own k q h, early_tick doc own k q h)

@@ -1,21 +1,23 @@
 -- Each part of a turn but for the tick adds something exactly from a reading on.
-use Rattle.std.proofs.Common.{◌≡◌, ◌↔◌, ℕ, ◌+◌, ◌&&◌, not, nat_lt, Bool, true, false, List, ◌∷◌, Option, Some, None, refl, arith}
+use Rattle.std.proofs.Common.{◌≡◌, ◌↔◌, ℕ, ◌+◌, ◌&&◌, not, nat_lt, Bool, true, false, List, ◌∷◌, Option, Some, None, refl, sym, ◌∙◌, subst, arith}
 use Rattle.std.specs.Prelude.{if◌then◌else◌}
 use Rattle.std.proofs.lemmas.Bool.Decides.{nat_tests}
 use Rattle.kube_objects.specs.Clocks.{local}
 use Rattle.kube_objects.specs.Document.{Doc, call_timeout, restart_delay}
 use Rattle.kube_objects.specs.Elector.{deadline, timer}
-use Rattle.kube_objects.specs.Entry.{Entry, Identity, Call, entry, Expires, Ends}
+use Rattle.kube_objects.specs.Entry.{Entry, Identity, Call}
 use Rattle.kube_objects.specs.Identities.{identity}
 use Rattle.kube_objects.specs.Kubelet.{has_round, round_timer, round_if, round, is_post_call}
 use Rattle.kube_objects.specs.Newest.{has}
-use Rattle.kube_objects.specs.Process.{alive, call_in, is_late, ended, is_restart_due}
-use Rattle.kube_objects.specs.Turns.{expire_call, end_term, just_expired, is_fast_call, attempt_if, try}
+use Rattle.kube_objects.specs.Process.{alive, call_in, is_late, release_begun, ended, is_restart_due}
+use Rattle.kube_objects.specs.Turns.{expire_as, expire_call, end_as, end_term, just_expired, is_fast_call, attempt_if, try}
 use Rattle.history.specs.Steps.{if_up as steps_if_up, restart_if, elector_turn, kubelet_turn, start}
 use Rattle.history_laws.proofs.Plainly.{true_is, false_is}
 use Rattle.agenda_laws.specs.Times.{is_early, sooner, if_up, restart_at, round_at, deadline_at, expiry_at, attempt_at, restart_after, restart_if_down, RestartsWake, late_at, ExpiriesWake, DeadlinesWake, unless_waiting, AttemptsWake, LostNoUpdate, LostNoPost, elector_reading, ElectorsWake, kubelet_reading, KubeletsWake, unless_running, RoundsWake}
 use Rattle.agenda_laws.proofs.Between.{grew, sooner_both, both_sooner}
 use Rattle.agenda_laws.proofs.Parts.{electors_add_by_parts, kubelets_add_by_parts}
+use Rattle.kube_objects.specs.Own.{IsOwn}
+use Rattle.kube_objects.proofs.Own.{is_late-own, expire_as-own, end_term-own}
 
 -- what adds nothing exactly before a time
 abbrev pub Waits : List Entry → List Entry → Bool → Type 0
@@ -52,26 +54,27 @@ module _ (doc : Doc) (k p : ℕ) (h : List Entry) where
   late_is : (at reads : ℕ) → nat_lt at reads ≡ false ↔ nat_lt reads (at + 1) ≡ true
   late_is at reads = (λ is. grind (arith, nat_tests), λ is. grind (arith, nat_tests))
 
-  expire_none : (q : Identity) (call : Call) (b : Bool) → (if b then entry k 4 q (Expires call) ∷ h else h) ≡ h ↔ b ≡ false
-  expire_none q call false = (λ is. refl, λ is. refl)
-  expire_none q call true = (λ is. absurd (grew _ h is), λ is. absurd (true_is is))
+  expire_none : IsOwn doc → (q : Identity) (call : Call) (b : Bool) → (if b then expire_as doc k q call (release_begun doc.settings.rules.release call.kind) h else h) ≡ h ↔ b ≡ false
+  expire_none own q call false = (λ is. refl, λ is. refl)
+  expire_none own q call true = (λ is. absurd (grew _ h (sym (expire_as-own doc own k q call h) ∙ is)), λ is. absurd (true_is is))
 
-  expire_waits : (q : Identity) (o : Option Call) → Waits (expire_call doc k q o h) h (is_early (local doc q.process k) (late_at doc q o))
-  expire_waits q None = never h
-  expire_waits q (Some call) =
+  expire_waits : IsOwn doc → (q : Identity) (o : Option Call) → Waits (expire_call doc k q o h) h (is_early (local doc q.process k) (late_at doc q o))
+  expire_waits own q None = never h
+  expire_waits own q (Some call) =
       let tells = late_is (local doc q.process call.sent + call_timeout doc q.process) (local doc q.process k) in
-      let none = expire_none q call (is_late doc q k call) in
-      (λ is. tells.0 (none.0 is), λ is. none.1 (tells.1 is))
+      let none = expire_none own q call (is_late doc q k call) in
+      let same = is_late-own doc own q k call in
+      (λ is. tells.0 (sym same ∙ none.0 is), λ is. none.1 (same ∙ tells.1 is))
 
   -- ---- the end of a term
 
-  end_waits_if : (q : Identity) (b : Bool) → Waits (if b then h else entry k 4 q Ends ∷ h) h b
-  end_waits_if q true = never h
-  end_waits_if q false = now _ h
+  end_waits_if : IsOwn doc → (q : Identity) (b : Bool) → Waits (if b then h else end_as doc.settings.rules.release doc k q h) h b
+  end_waits_if own q true = never h
+  end_waits_if own q false = subst (λ g. Waits g h false) (sym (end_term-own doc own k q h)) (now _ h)
 
-  end_waits : (q : Identity) (o : Option ℕ) → Waits (end_term doc k q o h) h (is_early (local doc q.process k) o)
-  end_waits q None = never h
-  end_waits q (Some at) = end_waits_if q (nat_lt (local doc q.process k) at)
+  end_waits : IsOwn doc → (q : Identity) (o : Option ℕ) → Waits (end_term doc k q o h) h (is_early (local doc q.process k) o)
+  end_waits own q None = never h
+  end_waits own q (Some at) = end_waits_if own q (nat_lt (local doc q.process k) at)
 
   -- ---- an attempt
 
@@ -107,12 +110,12 @@ pub restarts_wake : RestartsWake
 restarts_wake doc k p h = restart_waits doc k p h (alive p h)
 
 pub expiries_wake : ExpiriesWake
-expiries_wake doc k p h =
-    up_waits p (λ q T. expire_call doc k q (call_in q T) T) (λ q. late_at doc q (call_in q h)) (local doc p k) h (alive p h) (λ i up. expire_waits doc k p h (identity p i) (call_in (identity p i) h))
+expiries_wake doc own k p h =
+    up_waits p (λ q T. expire_call doc k q (call_in q T) T) (λ q. late_at doc q (call_in q h)) (local doc p k) h (alive p h) (λ i up. expire_waits doc k p h own (identity p i) (call_in (identity p i) h))
 
 pub deadlines_wake : DeadlinesWake
-deadlines_wake doc k p h =
-    up_waits p (λ q T. end_term doc k q (deadline doc q T) T) (λ q. deadline doc q h) (local doc p k) h (alive p h) (λ i up. end_waits doc k p h (identity p i) (deadline doc (identity p i) h))
+deadlines_wake doc own k p h =
+    up_waits p (λ q T. end_term doc k q (deadline doc q T) T) (λ q. deadline doc q h) (local doc p k) h (alive p h) (λ i up. end_waits doc k p h own (identity p i) (deadline doc (identity p i) h))
 
 pub attempts_wake : AttemptsWake
 attempts_wake doc k p h rested =
@@ -134,40 +137,40 @@ module _ (doc : Doc) (k p : ℕ) (h : List Entry) where
   abbrev last_three : Option ℕ
   last_three = sooner (expiry_at doc p h) last_two
 
-  elector_early : LostNoUpdate k p h → elector_turn doc k p h ≡ h → is_early reads (elector_reading doc p h) ≡ true
-  elector_early rested is =
+  elector_early : IsOwn doc → LostNoUpdate k p h → elector_turn doc k p h ≡ h → is_early reads (elector_reading doc p h) ≡ true
+  elector_early own rested is =
       let s = (electors_add_by_parts doc k p h).0 is in
-      let two = both_sooner reads (deadline_at doc p h) (attempt_at doc p h) ((deadlines_wake doc k p h).0 s.finishes) ((attempts_wake doc k p h rested).0 s.tries) in
-      let three = both_sooner reads (expiry_at doc p h) last_two ((expiries_wake doc k p h).0 s.expires) two in
+      let two = both_sooner reads (deadline_at doc p h) (attempt_at doc p h) ((deadlines_wake doc own k p h).0 s.finishes) ((attempts_wake doc k p h rested).0 s.tries) in
+      let three = both_sooner reads (expiry_at doc p h) last_two ((expiries_wake doc own k p h).0 s.expires) two in
       both_sooner reads (restart_at doc p h) last_three ((restarts_wake doc k p h).0 s.restarts) three
 
-  early_elector : LostNoUpdate k p h → is_early reads (elector_reading doc p h) ≡ true → elector_turn doc k p h ≡ h
-  early_elector rested early =
+  early_elector : IsOwn doc → LostNoUpdate k p h → is_early reads (elector_reading doc p h) ≡ true → elector_turn doc k p h ≡ h
+  early_elector own rested early =
       let one = sooner_both reads (restart_at doc p h) last_three early in
       let two = sooner_both reads (expiry_at doc p h) last_two one.1 in
       let three = sooner_both reads (deadline_at doc p h) (attempt_at doc p h) two.1 in
       (electors_add_by_parts doc k p h).1 (record {
         restarts = (restarts_wake doc k p h).1 one.0;
-        expires = (expiries_wake doc k p h).1 two.0;
-        finishes = (deadlines_wake doc k p h).1 three.0;
+        expires = (expiries_wake doc own k p h).1 two.0;
+        finishes = (deadlines_wake doc own k p h).1 three.0;
         tries = (attempts_wake doc k p h rested).1 three.1;
       })
 
-  kubelet_early : LostNoPost k p h → kubelet_turn doc k p h ≡ h → is_early reads (kubelet_reading doc p h) ≡ true
-  kubelet_early rested is =
+  kubelet_early : IsOwn doc → LostNoPost k p h → kubelet_turn doc k p h ≡ h → is_early reads (kubelet_reading doc p h) ≡ true
+  kubelet_early own rested is =
       let s = (kubelets_add_by_parts doc k p h).0 is in
-      both_sooner reads (expiry_at doc p h) (round_at doc p h) ((expiries_wake doc k p h).0 s.expires) ((rounds_wake doc k p h rested).0 s.rounds)
+      both_sooner reads (expiry_at doc p h) (round_at doc p h) ((expiries_wake doc own k p h).0 s.expires) ((rounds_wake doc k p h rested).0 s.rounds)
 
-  early_kubelet : LostNoPost k p h → is_early reads (kubelet_reading doc p h) ≡ true → kubelet_turn doc k p h ≡ h
-  early_kubelet rested early =
+  early_kubelet : IsOwn doc → LostNoPost k p h → is_early reads (kubelet_reading doc p h) ≡ true → kubelet_turn doc k p h ≡ h
+  early_kubelet own rested early =
       let both = sooner_both reads (expiry_at doc p h) (round_at doc p h) early in
-      (kubelets_add_by_parts doc k p h).1 (record { expires = (expiries_wake doc k p h).1 both.0; rounds = (rounds_wake doc k p h rested).1 both.1 })
+      (kubelets_add_by_parts doc k p h).1 (record { expires = (expiries_wake doc own k p h).1 both.0; rounds = (rounds_wake doc k p h rested).1 both.1 })
 
 pub electors_wake : ElectorsWake
-electors_wake doc k p h rested = (elector_early doc k p h rested, early_elector doc k p h rested)
+electors_wake doc own k p h rested = (elector_early doc k p h own rested, early_elector doc k p h own rested)
 
 pub kubelets_wake : KubeletsWake
-kubelets_wake doc k p h rested = (kubelet_early doc k p h rested, early_kubelet doc k p h rested)
+kubelets_wake doc own k p h rested = (kubelet_early doc k p h own rested, early_kubelet doc k p h own rested)
 
 -- before the soonest the deadline isn't reached
 pub before_deadline : (doc : Doc) (k p : ℕ) (h : List Entry) → is_early (local doc p k) (elector_reading doc p h) ≡ true → is_early (local doc p k) (deadline_at doc p h) ≡ true

@@ -23,6 +23,7 @@ use Rattle.kube_objects.specs.Tick.{sync, pass, clean, taint, evict, tick}
 use Rattle.kube_objects.specs.Tokens.{Rated, rated, base, token_size}
 use Rattle.kube_objects.specs.Tolerations.{due}
 use Rattle.agenda_laws.specs.Times.{is_early, sooner}
+use Rattle.kube_objects.specs.Own.{IsOwn}
 
 -- ---- at once: a sync, an untaint, a swap
 
@@ -31,7 +32,7 @@ abbrev pub is_sync_due : Doc → Identity → List Entry → Bool
 is_sync_due doc q h = watches doc q.process h && not (is_fresh q h)
 
 abbrev pub SyncsWake : Type 0
-SyncsWake = (doc : Doc) (k : ℕ) (q : Identity) (h : List Entry) → sync doc k q h ≡ h ↔ is_sync_due doc q h ≡ false
+SyncsWake = (doc : Doc) → IsOwn doc → (k : ℕ) (q : Identity) (h : List Entry) → sync doc k q h ≡ h ↔ is_sync_due doc q h ≡ false
 
 -- a condition taint that isn't wanted, or the opposite of the one that is
 abbrev pub is_unclean : Node → Wants → Bool
@@ -50,7 +51,7 @@ abbrev pub is_clean_due : Identity → List Entry → ℕ → Bool
 is_clean_due q h name = is_unclean_seen (mode q h) (is_stale q (node_key name) h) (seen_node q name h)
 
 abbrev pub CleansWake : Type 0
-CleansWake = (doc : Doc) (k : ℕ) (q : Identity) (name : ℕ) (h : List Entry) → clean doc k q name h ≡ h ↔ is_clean_due q h name ≡ false
+CleansWake = (doc : Doc) → IsOwn doc → (k : ℕ) (q : Identity) (name : ℕ) (h : List Entry) → clean doc k q name h ≡ h ↔ is_clean_due q h name ≡ false
 
 -- a tick, were it to have no pass, has a sync, an untaint or a swap
 abbrev pub is_due_at_once : Doc → Identity → List Entry → Bool
@@ -68,7 +69,7 @@ pass_at doc q h = Some (pass_after doc q (last_pass q h))
 
 abbrev pub PassesWake : Type 0
 PassesWake =
-    (doc : Doc) (k : ℕ) (q : Identity) (h : List Entry)
+    (doc : Doc) → IsOwn doc → (k : ℕ) (q : Identity) (h : List Entry)
     → pass doc k q h ≡ h ↔ is_early (local doc q.process k) (pass_at doc q h) ≡ true
 
 -- at a rate of 0 there is never one; else the span in which it grows, rounded up
@@ -86,7 +87,7 @@ head_at doc q place h = only_if (has (head_of q place (node_names h) h)) (token_
 
 abbrev pub HeadsWake : Type 0
 HeadsWake =
-    (doc : Doc) (k : ℕ) (q : Identity) (place : Place) (h : List Entry)
+    (doc : Doc) → IsOwn doc → (k : ℕ) (q : Identity) (place : Place) (h : List Entry)
     → taint doc k q place h ≡ h ↔ is_early (local doc q.process k) (head_at doc q place h) ≡ true
 
 abbrev pub heads_at : Doc → Identity → List Place → List Entry → Option ℕ
@@ -115,7 +116,7 @@ due_at q pod h = due_seen q (is_stale q pod h) (seen_pod q pod h) h
 
 abbrev pub DeletesWake : Type 0
 DeletesWake =
-    (doc : Doc) (k : ℕ) (q : Identity) (pod : Key) (h : List Entry)
+    (doc : Doc) → IsOwn doc → (k : ℕ) (q : Identity) (pod : Key) (h : List Entry)
     → evict doc k q pod h ≡ h ↔ is_early (wall doc q.process k) (due_at q pod h) ≡ true
 
 abbrev pub dues_at : Identity → List Key → List Entry → Option ℕ
@@ -138,4 +139,4 @@ pub record IsEarlyTick (doc : Doc) (k : ℕ) (q : Identity) (h : List Entry) : T
   pub time : is_early (wall doc q.process k) (term_time q h) ≡ true
 
 abbrev pub TicksWake : Type 0
-TicksWake = (doc : Doc) (k : ℕ) (q : Identity) (h : List Entry) → tick doc k q h ≡ h ↔ IsEarlyTick doc k q h
+TicksWake = (doc : Doc) → IsOwn doc → (k : ℕ) (q : Identity) (h : List Entry) → tick doc k q h ≡ h ↔ IsEarlyTick doc k q h

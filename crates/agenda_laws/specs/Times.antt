@@ -10,6 +10,7 @@ use Rattle.kube_objects.specs.Kubelet.{has_round, round_timer, is_post_call}
 use Rattle.kube_objects.specs.Process.{alive, call_in, ended}
 use Rattle.kube_objects.specs.Turns.{just_expired, is_fast_call}
 use Rattle.history.specs.Steps.{restart, expire, finish, attempts, elector_turn, rounds, kubelet_turn}
+use Rattle.kube_objects.specs.Own.{IsOwn}
 
 -- whether a reading, a time of day or a beat is before another; None is never reached
 abbrev pub is_early : ℕ → Option ℕ → Bool
@@ -55,7 +56,7 @@ abbrev pub expiry_at : Doc → ℕ → List Entry → Option ℕ
 expiry_at doc p h = if_up p (λ q. late_at doc q (call_in q h)) (alive p h)
 
 abbrev pub ExpiriesWake : Type 0
-ExpiriesWake = (doc : Doc) (k p : ℕ) (h : List Entry) → expire doc k p h ≡ h ↔ is_early (local doc p k) (expiry_at doc p h) ≡ true
+ExpiriesWake = (doc : Doc) → IsOwn doc → (k p : ℕ) (h : List Entry) → expire doc k p h ≡ h ↔ is_early (local doc p k) (expiry_at doc p h) ≡ true
 
 -- ---- the end of a term
 
@@ -63,7 +64,7 @@ abbrev pub deadline_at : Doc → ℕ → List Entry → Option ℕ
 deadline_at doc p h = if_up p (λ q. deadline doc q h) (alive p h)
 
 abbrev pub DeadlinesWake : Type 0
-DeadlinesWake = (doc : Doc) (k p : ℕ) (h : List Entry) → finish doc k p h ≡ h ↔ is_early (local doc p k) (deadline_at doc p h) ≡ true
+DeadlinesWake = (doc : Doc) → IsOwn doc → (k p : ℕ) (h : List Entry) → finish doc k p h ≡ h ↔ is_early (local doc p k) (deadline_at doc p h) ≡ true
 
 -- ---- an attempt
 
@@ -92,7 +93,7 @@ elector_reading doc p h = sooner (restart_at doc p h) (sooner (expiry_at doc p h
 
 abbrev pub ElectorsWake : Type 0
 ElectorsWake =
-    (doc : Doc) (k p : ℕ) (h : List Entry) → LostNoUpdate k p h
+    (doc : Doc) → IsOwn doc → (k p : ℕ) (h : List Entry) → LostNoUpdate k p h
     → elector_turn doc k p h ≡ h ↔ is_early (local doc p k) (elector_reading doc p h) ≡ true
 
 -- ---- a kubelet's round
@@ -121,5 +122,5 @@ kubelet_reading doc p h = sooner (expiry_at doc p h) (round_at doc p h)
 
 abbrev pub KubeletsWake : Type 0
 KubeletsWake =
-    (doc : Doc) (k p : ℕ) (h : List Entry) → LostNoPost k p h
+    (doc : Doc) → IsOwn doc → (k p : ℕ) (h : List Entry) → LostNoPost k p h
     → kubelet_turn doc k p h ≡ h ↔ is_early (local doc p k) (kubelet_reading doc p h) ≡ true

@@ -1,5 +1,5 @@
 -- Processes ask for Leases alone, but for the statuses that kubelets post.
-use Rattle.std.proofs.Common.{◌≡◌, ℕ, ◌&&◌, Bool, true, false, cond, List, [], ◌∷◌, Option, Some, None, refl, sym, subst, inl, inr}
+use Rattle.std.proofs.Common.{◌≡◌, ℕ, ◌&&◌, Bool, true, false, cond, List, [], ◌∷◌, Option, Some, None, refl, sym, subst, inl, inr, IfSome}
 use Rattle.kube_objects.specs.declared.call.Reply.{Reply}
 use Rattle.kube_objects.specs.declared.call.Reply.TheVariants.{Found, Done, Absent}
 use Rattle.kube_objects.specs.declared.call.Request.{Request}
@@ -7,14 +7,17 @@ use Rattle.kube_objects.specs.declared.call.Request.TheVariants.{Get, Create, Up
 use Rattle.kube_objects.specs.declared.deed.Actor.{Actor}
 use Rattle.kube_objects.specs.Document.{Doc}
 use Rattle.kube_objects.specs.Clocks.{wall}
-use Rattle.kube_objects.specs.Elector.{Moment, Shown, Follow, Fails, Asks, moment, is_blocked, updated, follow_get, not_done, follow_write, follow_on, leads, observed_at, shown, is_valid, renewed, attempt_from, attempt, release_from, given_up, release}
-use Rattle.kube_objects.specs.Entry.{Entry, Identity, Call, CallKind, Plain, Fast, Release, Fact, Sends, Delivers, Expires}
+use Rattle.kube_objects.specs.Elector.{Moment, Shown, Follow, Fails, Asks, moment, is_blocked, respected, updated, follow_get, not_done, follow_write, follow_on, leads, observed_at, shown, is_valid, renewed, attempt_from, attempt, release_from, given_up, release}
+use Rattle.kube_objects.specs.Entry.{Entry, Identity, Call, CallKind, Plain, Fast, Release, Fact, Sends, Delivers, Expires, ReleaseBegins}
 use Rattle.kube_objects.specs.Identities.{is_by, is_own, identity_of}
 use Rattle.kube_objects.specs.Kubelet.{next_request}
 use Rattle.kube_objects.specs.Newest.{when, join}
 use Rattle.kube_objects.specs.Process.{open_as, call_says, last_call, call_in}
 use Rattle.kube_objects.specs.Stored.{election}
 use Rattle.kube_objects.specs.Wire.{Sent, sent_as, sent_of}
+use Rattle.kube_objects.specs.declared.rules.ReleaseRule.{ReleaseRule}
+use Rattle.kube_objects.specs.declared.rules.ReleaseRule.TheVariants as rules
+use Rattle.kube_objects.specs.Releases.{first_call, may_empty, after_look}
 use Rattle.history_laws.specs.Bare.{is_lease_request}
 use Rattle.history_laws.specs.Tails.{In}
 use Rattle.history_laws.proofs.Counting.{when_value, only_value}
@@ -63,6 +66,7 @@ waiting_asked q (e ∷ h) c all is = cases (waiting_asked q h c all.1) e.actor e
     cases below who (Sends call arrives) asked is = says below (is_by q who) (open_as call.kind call) (opened call.kind call asked) is
     cases below who (Delivers call reply counted) asked is = says below (counted && is_by q who) None (λ is. absurd (none_is c is)) is
     cases below who (Expires call) asked is = says below (is_by q who) None (λ is. absurd (none_is c is)) is
+    cases below who (ReleaseBegins at_deadline) asked is = says below (is_by q who) None (λ is. absurd (none_is c is)) is
     cases below who d asked is = below is
 
 -- ---- what is asked next
@@ -77,7 +81,7 @@ refused_asks kind = tt
 
 get_asks : (q : Identity) (m : Moment) (seen : ℕ) (reply : Reply) → AsksLease (follow_get q m seen reply)
 get_asks q m seen Absent = refl
-get_asks q m seen (Found version lease) = by_test (is_blocked q m.now seen lease)
+get_asks q m seen (Found version lease) = by_test (is_blocked q m.now seen (respected m.respect m.seconds lease))
   where
     by_test : (b : Bool) → AsksLease (cond b Fails (Asks (Update election version (updated q m lease))))
     by_test true = tt
@@ -111,6 +115,31 @@ release_asks doc q k h request is = by_shown (shown q h) (only_value (leads q h)
     by_shown : (o : Option Shown) → release_from q (wall doc q.process k) o ≡ Some request → IsLeaseRequest request
     by_shown None is = absurd (none_is request is)
     by_shown (Some x) is = subst IsLeaseRequest (when_value (is_own q x.1.holder) (Update election x.0 (given_up (wall doc q.process k) x.1)) request is) refl
+
+-- ---- a release's calls
+
+pub from_asks : (q : Identity) (at : ℕ) (o : Option Shown) → IfSome (release_from q at o) (λ r. IsLeaseRequest r)
+from_asks q at None = tt
+from_asks q at (Some x) = by_test (is_own q x.1.holder)
+  where
+    by_test : (b : Bool) → IfSome (when b (Update election x.0 (given_up at x.1))) (λ r. IsLeaseRequest r)
+    by_test true = refl
+    by_test false = tt
+
+pub first_asks : (rule : ReleaseRule) (k : ℕ) (own : Option Request) → IfSome own (λ r. IsLeaseRequest r) → IfSome (first_call rule k own) (λ call. IsLeaseRequest call.1)
+first_asks rules.Stop k own asked = tt
+first_asks rules.Own k None asked = tt
+first_asks rules.Own k (Some request) asked = asked
+first_asks rules.Checked k own asked = refl
+first_asks rules.Reread k own asked = refl
+
+pub look_asks : (rule : ReleaseRule) (q : Identity) (at : ℕ) (mine : Bool) (reply : Reply) → IfSome (after_look rule q at mine reply) (λ r. IsLeaseRequest r)
+look_asks rule q at mine (Found version lease) = by_test (mine && may_empty rule q lease)
+  where
+    by_test : (b : Bool) → IfSome (when b (Update election version (given_up at lease))) (λ r. IsLeaseRequest r)
+    by_test true = refl
+    by_test false = tt
+look_asks rule q at mine reply = tt
 
 pub next_asks : (doc : Doc) (q : Identity) (k : ℕ) (request : Request) (reply : Reply) (next : Request) → IsLeaseRequest request → next_request doc q k request reply ≡ Some next → IsLeaseRequest next
 next_asks doc q k (PostStatus name status at) reply next asked is = subst IsLeaseRequest (some_is _ next is) refl

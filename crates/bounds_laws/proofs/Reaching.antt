@@ -5,7 +5,7 @@ use Rattle.kube_objects.specs.declared.script.Event.{Event}
 use Rattle.kube_objects.specs.declared.script.Proc.{Proc}
 use Rattle.kube_base.specs.declared.numbers.ProcId.{ProcId}
 use Rattle.kube_objects.specs.declared.script.What.{What}
-use Rattle.kube_objects.specs.declared.script.What.TheVariants.{Rate, Delay, Loss, Crash, Start, Stop, Watch, Ready, Pause, Put, Remove}
+use Rattle.kube_objects.specs.declared.script.What.TheVariants.{Rate, Delay, Loss, Crash, Start, Stop, Watch, Ready, Pause, Stall, Put, Remove}
 use Rattle.kube_objects.specs.Clocks.{rate_of, last_rate, rate}
 use Rattle.kube_objects.specs.Document.{Doc, field, first_rate, is_controller}
 use Rattle.kube_objects.specs.Newest.{when, only_if, or_else}
@@ -46,6 +46,7 @@ event_grows count own (Stop id) r = same r
 event_grows count own (Watch id on) r = same r
 event_grows count own (Ready id status) r = same r
 event_grows count own (Pause id beats) r = same r
+event_grows count own (Stall beats) r = same r
 event_grows count own (Put key object) r = same r
 event_grows count own (Remove key) r = same r
 
@@ -118,6 +119,7 @@ module _ (count p : ℕ) (inside : nat_lt p count ≡ true) where
   event_has (Watch id on) r = nothing_said p (Watch id on) r refl refl refl
   event_has (Ready id status) r = nothing_said p (Ready id status) r refl refl refl
   event_has (Pause id beats) r = nothing_said p (Pause id beats) r refl refl refl
+  event_has (Stall beats) r = nothing_said p (Stall beats) r refl refl refl
   event_has (Put key object) r = nothing_said p (Put key object) r refl refl refl
   event_has (Remove key) r = nothing_said p (Remove key) r refl refl refl
 

@@ -1,14 +1,15 @@
 -- Replies to a process that is awake come within the document's greatest delay, and so does the release of a stop.
-use Rattle.std.proofs.Common.{◌≡◌, ◌<◌, ◌≤◌, ℕ, suc, ◌+◌, ◌==◌, Bool, true, false, List, ◌∷◌, Option, Some, None, IfSome, refl, sym, subst, inr, ⊎_elim, arith}
+use Rattle.std.proofs.Common.{◌≡◌, ◌<◌, ◌≤◌, ℕ, suc, ◌+◌, ◌==◌, Bool, true, false, List, ◌∷◌, Option, Some, None, IfSome, refl, sym, ◌∙◌, subst, inr, ⊎_elim, arith}
 use Rattle.std.proofs.lemmas.Bool.{eqb-true}
 use Rattle.kube_objects.specs.declared.deed.Actor.{Actor}
 use Rattle.kube_objects.specs.declared.deed.Actor.TheVariants as actors
 use Rattle.kube_objects.specs.Document.{Doc, is_controller}
-use Rattle.kube_objects.specs.Entry.{Entry, Identity, Fact, First, Event, Starts, Stops, Sends, Answers, Delivers, Expires, Leads, Ends, Crashes, Stalls, Ticks, entry}
+use Rattle.kube_objects.specs.Entry.{Entry, Identity, Fact, First, Event, Starts, Stops, Sends, Answers, Delivers, Expires, Leads, Ends, Crashes, Stalls, Ticks, entry, StepsDown, ReleaseBegins, ReleaseEnds, ReleaseStops}
 use Rattle.kube_objects.specs.Identities.{of_process}
 use Rattle.kube_objects.specs.Newest.{when, has, or_else}
 use Rattle.kube_objects.specs.Pauses.{pause_end, is_paused, resume, held_up}
 use Rattle.kube_objects.specs.Wire.{back_of, arrival, request_arrival, reply_arrival, request_delay, reply_delay, loses_requests, loses_replies}
+use Rattle.kube_objects.proofs.Own.{request_arrival-own}
 use Rattle.history.specs.History.{history}
 use Rattle.history_laws.specs.Tails.{IsTail}
 use Rattle.history_laws.proofs.Order.{entries_are_earlier}
@@ -20,6 +21,7 @@ use Rattle.call_laws.proofs.Placing.{messages_travel}
 use Rattle.takeover_laws.proofs.Rounds.{sent_is}
 use Rattle.silence_laws.specs.Silence.{IsReleased}
 use Rattle.succession_laws.specs.Successions.{RepliesCome}
+use Rattle.document_laws.proofs.SoundDocuments.{sound-document}
 use Rattle.script_reader.specs.Lawful.{IsLawfulDoc}
 use Rattle.bounds_laws.specs.Undisturbed.{far_of, GivesUp}
 use Rattle.bounds_laws.proofs.Steady.{request_within, reply_within}
@@ -57,6 +59,10 @@ module _ (doc : Doc) (lawful : IsLawfulDoc doc) (p : ℕ) (role : is_controller 
     cases (actors.Proc id i) Crashes own travels = tt
     cases (actors.Proc id i) Stops own travels = tt
     cases (actors.Proc id i) (Stalls beats) own travels = tt
+    cases (actors.Proc id i) StepsDown own travels = tt
+    cases (actors.Proc id i) (ReleaseBegins at_deadline) own travels = tt
+    cases (actors.Proc id i) ReleaseEnds own travels = tt
+    cases (actors.Proc id i) ReleaseStops own travels = tt
     cases (actors.Proc id i) Ends own travels = tt
     cases (actors.Proc id i) (Sends call arrives) own travels = tt
     cases (actors.Proc id i) (Delivers call reply counted) own travels = tt
@@ -74,6 +80,10 @@ module _ (doc : Doc) (lawful : IsLawfulDoc doc) (p : ℕ) (role : is_controller 
   no_answer who Crashes k step h made first = refl
   no_answer who Stops k step h made first = refl
   no_answer who (Stalls beats) k step h made first = refl
+  no_answer who StepsDown k step h made first = absurd made
+  no_answer who (ReleaseBegins at_deadline) k step h made first = absurd made
+  no_answer who ReleaseEnds k step h made first = absurd made
+  no_answer who ReleaseStops k step h made first = absurd made
   no_answer who Ends k step h made first = refl
   no_answer who (Sends call arrives) k step h made first = refl
   no_answer who (Delivers call reply counted) k step h made first = refl
@@ -91,7 +101,7 @@ module _ (doc : Doc) (lawful : IsLawfulDoc doc) (p : ℕ) (role : is_controller 
       low = tail_trans place.before (x ∷ place.before) (history doc m) (inr (tail_all place.before)) place.position
 
       travels : IfSome (back_of x.actor x.fact) (λ b. b.comes ≡ reply_arrival doc b.who.process x.beat place.before)
-      travels = (messages_travel doc m x place.before place.position).1
+      travels = (messages_travel doc (sound-document doc lawful).2 m x place.before place.position).1
 
       none_at : {A : Type 0} (o : Option A) (P : A → Type 0) → has o ≡ false → IfSome o P
       none_at None P is = tt
@@ -100,7 +110,7 @@ module _ (doc : Doc) (lawful : IsLawfulDoc doc) (p : ℕ) (role : is_controller 
       first : (x.beat ≡ 0) × (x.step ≡ 0) → IfSome (back_of x.actor x.fact) (λ b. IfSome b.comes (λ n. n < m + far_of doc))
       first is =
           none_at (back_of x.actor x.fact) (λ b. IfSome b.comes (λ n. n < m + far_of doc))
-          (no_answer x.actor x.fact x.beat x.step place.before (are_made doc m x place.before place.position) is)
+          (no_answer x.actor x.fact x.beat x.step place.before (are_made doc (sound-document doc lawful).2 m x place.before place.position) is)
 
 -- a release that arrives travels as the document's delays have it
 pub released : (doc : Doc) → IsLawfulDoc doc → (b e : ℕ) (q : Identity) → is_controller doc q.process ≡ true → GivesUp doc b e q → IsReleased doc 1 (far_of doc) b e q
@@ -126,10 +136,11 @@ released doc lawful b e q role g = record {
     low : IsTail place.before (history doc (suc b))
     low = tail_trans place.before (x ∷ place.before) (history doc (suc b)) (inr (tail_all place.before)) place.position
 
-    arrives : Some g.at ≡ request_arrival q.process b place.before
+    arrives : Some g.at ≡ arrival (loses_requests q.process place.before) b (request_delay q.process place.before)
     arrives =
-        (subst (λ o. IfSome o (λ s. (s.call.sent ≡ b) × (s.arrives ≡ request_arrival s.who.process b place.before))) (sent_is x q g.call (Some g.at) refl refl)
-        (messages_travel doc (suc b) x place.before place.position).0).1
+        (subst (λ o. IfSome o (λ s. (s.call.sent ≡ b) × (s.arrives ≡ request_arrival doc s.who.process b place.before))) (sent_is x q g.call (Some g.at) refl refl)
+        (messages_travel doc (sound-document doc lawful).2 (suc b) x place.before place.position).0).1
+        ∙ request_arrival-own doc (sound-document doc lawful).2 q.process b place.before
 
     way : (1 ≤ request_delay q.process place.before) × (request_delay q.process place.before ≤ far_of doc)
     way = request_within doc lawful q.process role (suc b) place.before low

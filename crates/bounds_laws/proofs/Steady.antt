@@ -6,9 +6,10 @@ use Rattle.kube_objects.specs.declared.script.Event.{Event}
 use Rattle.kube_objects.specs.declared.script.What.{What}
 use Rattle.kube_objects.specs.declared.script.What.TheVariants as what
 use Rattle.kube_objects.specs.Document.{Doc, beat_micros, is_controller}
-use Rattle.kube_objects.specs.Entry.{Entry, Fact, First, Event as Happens, Starts, Stops, Sends, Answers, Delivers, Expires, Leads, Ends, Crashes, Stalls, Ticks}
+use Rattle.kube_objects.specs.Entry.{Entry, Fact, First, Event as Happens, Starts, Stops, Sends, Answers, Delivers, Expires, Leads, Ends, Crashes, Stalls, Ticks, StepsDown, ReleaseBegins, ReleaseEnds, ReleaseStops}
 use Rattle.kube_objects.specs.Newest.{when, or_else}
 use Rattle.kube_objects.specs.Wire.{of_event, in_force, request_delay_of, reply_delay_of, request_delay, reply_delay}
+use Rattle.kube_objects.specs.Own.{IsOwn}
 use Rattle.history.specs.History.{history}
 use Rattle.history.specs.Steps.{stamp}
 use Rattle.history_laws.specs.Tails.{IsTail}
@@ -20,6 +21,7 @@ use Rattle.call_laws.specs.Answering.{with_events}
 use Rattle.call_laws.proofs.Answering.{events_position}
 use Rattle.call_laws.proofs.Making.{MadeAs, are_made}
 use Rattle.takeover_laws.specs.Calm.{Passes, IsSteady}
+use Rattle.document_laws.proofs.SoundDocuments.{sound-document}
 use Rattle.script_reader.specs.Lawful.{IsLawfulDoc, IsLawfulWhat, AreLawfulFrom}
 use Rattle.lens_bounds.specs.Documents.{reach_of, calm_of}
 use Rattle.lens_bounds.proofs.Reaches.{reach-some}
@@ -28,7 +30,7 @@ use Rattle.bounds_laws.proofs.Reaching.{Has, event_within, rate_within}
 
 -- ---- what is in force is what an event of the script says
 
-module _ (doc : Doc) (f : What → Option ℕ) (P : ℕ → Type 0) (each : (k : ℕ) (u : What) → Scripted doc k u → IfSome (f (stamp doc k u)) P) where
+module _ (doc : Doc) (rules : IsOwn doc) (f : What → Option ℕ) (P : ℕ → Type 0) (each : (k : ℕ) (u : What) → Scripted doc k u → IfSome (f (stamp doc k u)) P) where
   by_fact : (k step : ℕ) (who : Actor) (d : Fact) (h : List Entry) → MadeAs doc k step who d h → IfSome (of_event f d) P
   by_fact k step who (Happens w version) h made = subst (λ w. IfSome (f w) P) (sym made.3) (each k made.1 made.2)
   by_fact k step who (First key object) h made = tt
@@ -36,6 +38,10 @@ module _ (doc : Doc) (f : What → Option ℕ) (P : ℕ → Type 0) (each : (k :
   by_fact k step who Crashes h made = tt
   by_fact k step who Stops h made = tt
   by_fact k step who (Stalls beats) h made = tt
+  by_fact k step who StepsDown h made = absurd made
+  by_fact k step who (ReleaseBegins at_deadline) h made = absurd made
+  by_fact k step who ReleaseEnds h made = absurd made
+  by_fact k step who ReleaseStops h made = absurd made
   by_fact k step who Ends h made = tt
   by_fact k step who (Sends call arrives) h made = tt
   by_fact k step who (Answers call reply comes wrote) h made = tt
@@ -51,7 +57,7 @@ module _ (doc : Doc) (f : What → Option ℕ) (P : ℕ → Type 0) (each : (k :
   in_force_is : (m : ℕ) (h : List Entry) → IsTail h (history doc m) → IfSome (in_force f h) P
   in_force_is m [] at = tt
   in_force_is m (x ∷ h) at =
-      either (of_event f x.fact) (in_force f h) (by_fact x.beat x.step x.actor x.fact h (are_made doc m x h at))
+      either (of_event f x.fact) (in_force f h) (by_fact x.beat x.step x.actor x.fact h (are_made doc rules m x h at))
       (in_force_is m h (tail_trans h (x ∷ h) (history doc m) (inr (tail_all h)) at))
 
 -- ---- delays
@@ -83,6 +89,7 @@ module _ (doc : Doc) (lawful : IsLawfulDoc doc) (p : ℕ) (role : is_controller 
   requests k (what.Watch id on) sc = tt
   requests k (what.Ready id status) sc = tt
   requests k (what.Pause id beats) sc = tt
+  requests k (what.Stall beats) sc = tt
   requests k (what.Put key object) sc = tt
   requests k (what.Remove key) sc = tt
 
@@ -96,6 +103,7 @@ module _ (doc : Doc) (lawful : IsLawfulDoc doc) (p : ℕ) (role : is_controller 
   replies k (what.Watch id on) sc = tt
   replies k (what.Ready id status) sc = tt
   replies k (what.Pause id beats) sc = tt
+  replies k (what.Stall beats) sc = tt
   replies k (what.Put key object) sc = tt
   replies k (what.Remove key) sc = tt
 
@@ -107,10 +115,10 @@ module _ (doc : Doc) (lawful : IsLawfulDoc doc) (p : ℕ) (role : is_controller 
   or_one (Some n) x = x
 
   pub request_within : (m : ℕ) (h : List Entry) → IsTail h (history doc m) → IsWithinReach doc (request_delay p h)
-  request_within m h at = or_one (in_force (request_delay_of p) h) (in_force_is doc (request_delay_of p) (IsWithinReach doc) requests m h at)
+  request_within m h at = or_one (in_force (request_delay_of p) h) (in_force_is doc (sound-document doc lawful).2 (request_delay_of p) (IsWithinReach doc) requests m h at)
 
   pub reply_within : (m : ℕ) (h : List Entry) → IsTail h (history doc m) → IsWithinReach doc (reply_delay p h)
-  reply_within m h at = or_one (in_force (reply_delay_of p) h) (in_force_is doc (reply_delay_of p) (IsWithinReach doc) replies m h at)
+  reply_within m h at = or_one (in_force (reply_delay_of p) h) (in_force_is doc (sound-document doc lawful).2 (reply_delay_of p) (IsWithinReach doc) replies m h at)
 
   passes : (k : ℕ) → IsHeard doc p k → Passes doc 1 (far_of doc) p k
   passes k s =

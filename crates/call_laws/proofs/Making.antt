@@ -11,7 +11,7 @@ use Rattle.kube_objects.specs.Answers.{answer, written}
 use Rattle.kube_objects.specs.Clocks.{local, store_wall, whole_second}
 use Rattle.kube_objects.specs.Document.{Doc, is_controller}
 use Rattle.kube_objects.specs.Elector.{attempt, deadline, attempt_from, Shown, shown, observed_at, moment, renewed, is_valid, leads, follow_on, Asks}
-use Rattle.kube_objects.specs.Entry.{Entry, Identity, Call, CallKind, Plain, Release, Fact, First, Event as Happens, Starts, Stops, Sends, Answers, Delivers, Expires, Leads, Ends, Crashes, Stalls, Ticks, actor_of, entry, script_entry, Fast}
+use Rattle.kube_objects.specs.Entry.{Entry, Identity, Call, CallKind, Plain, Release, Fact, First, Event as Happens, Starts, Stops, Sends, Answers, Delivers, Expires, Leads, Ends, Crashes, Stalls, Ticks, actor_of, entry, script_entry, Fast, StepsDown, ReleaseBegins, ReleaseEnds, ReleaseStops}
 use Rattle.kube_objects.specs.Identities.{identity, is_own}
 use Rattle.kube_objects.specs.Kubelet.{post, node_of}
 use Rattle.kube_objects.specs.Newest.{when, join}
@@ -19,6 +19,7 @@ use Rattle.kube_objects.specs.Process.{alive, starts, call_in, last_call, counte
 use Rattle.kube_objects.specs.Stamps.{stamped}
 use Rattle.kube_objects.specs.Stored.{election, node_lease}
 use Rattle.kube_objects.specs.Wire.{Sent, Back, next_call, request_arrival, reply_arrival, send}
+use Rattle.kube_objects.specs.Own.{IsOwn}
 use Rattle.history.specs.History.{put_all, history}
 use Rattle.history.specs.Steps.{stamp, event_version}
 use Rattle.history_laws.specs.Tails.{IsTail}
@@ -26,7 +27,7 @@ use Rattle.history_laws.proofs.Counting.{counted_is}
 use Rattle.history_laws.proofs.Plainly.{upper, same_self}
 use Rattle.history_laws.proofs.Tailed.{tail_of_empty, same_head, same_rest}
 use Rattle.history_laws.proofs.Ticks.{MadeTick, walk_tick}
-use Rattle.history_laws.proofs.Walk.{Scripted, Arriving, Coming, stopped_at, after_reply, Keeps, walk_history}
+use Rattle.history_laws.proofs.Walk.{Scripted, Arriving, Coming, stopped_at, after_reply, Keeps, no_release, walk_history}
 
 -- a controller has no call as it sends one, but for the release of who was just stopped
 pub record HasStopped (k : ℕ) (q : Identity) (kind : CallKind) (h : List Entry) : Type 0 where
@@ -59,7 +60,7 @@ pub record MadeSend (doc : Doc) (k step : ℕ) (who : Actor) (call : Call) (arri
   pub request : Request
   pub by : who ≡ actor_of q
   pub call_is : call ≡ next_call q k kind request h
-  pub arrives_is : arrives ≡ request_arrival q.process k h
+  pub arrives_is : arrives ≡ request_arrival doc q.process k h
   pub free : IsFreeToSend doc k step q kind h
   pub replied : IsReplied doc k step q request h
 
@@ -97,7 +98,7 @@ pub record MadeExpiry (doc : Doc) (k : ℕ) (who : Actor) (call : Call) (h : Lis
   pub waits : call_in q h ≡ Some call
   pub late : is_late doc q k call ≡ true
 
--- what an entry of this beat shows of the history before it
+-- what an entry of this beat shows of the history before it, under the project's own rules
 abbrev pub MadeAs : Doc → ℕ → ℕ → Actor → Fact → List Entry → Type 0
 MadeAs doc k step who (First key object) h = k ≡ 0
 MadeAs doc k step who (Happens w version) h = (step ≡ 1) × (u : What) × Scripted doc k u × (w ≡ stamp doc k u) × (version ≡ event_version u h)
@@ -113,6 +114,10 @@ MadeAs doc k step who Stops h = step ≡ 1
 MadeAs doc k step who (Stalls beats) h = Unit {0}
 MadeAs doc k step who Ends h = MadeEnd doc k step who h
 MadeAs doc k step who (Leads version) h = Unit {0}
+MadeAs doc k step who StepsDown h = ⊥
+MadeAs doc k step who (ReleaseBegins at_deadline) h = ⊥
+MadeAs doc k step who ReleaseEnds h = ⊥
+MadeAs doc k step who ReleaseStops h = ⊥
 
 abbrev pub IsMade : Doc → Entry → List Entry → Type 0
 IsMade doc x h = MadeAs doc x.beat x.step x.actor x.fact h
@@ -128,9 +133,9 @@ made_more doc x h new s e before (inr at) = s e before at
 
 -- ---- requests
 
-sends : (doc : Doc) (k step : ℕ) (q : Identity) (kind : CallKind) (request : Request) (h : List Entry) → (step ≡ 1) ⊎ ((step ≡ 3) ⊎ (step ≡ 4)) → IsFreeToSend doc k step q kind h → IsReplied doc k step q request h → AreMade doc h → AreMade doc (send k step q kind request h)
+sends : (doc : Doc) (k step : ℕ) (q : Identity) (kind : CallKind) (request : Request) (h : List Entry) → (step ≡ 1) ⊎ ((step ≡ 3) ⊎ (step ≡ 4)) → IsFreeToSend doc k step q kind h → IsReplied doc k step q request h → AreMade doc h → AreMade doc (send doc k step q kind request h)
 sends doc k step q kind request h at free replied s =
-    made_more doc (entry k step q (Sends (next_call q k kind request h) (request_arrival q.process k h))) h
+    made_more doc (entry k step q (Sends (next_call q k kind request h) (request_arrival doc q.process k h))) h
     (record { step_is = at; q = q; kind = kind; request = request; by = refl; call_is = refl; arrives_is = refl; free = free; replied = replied }) s
 
 -- after a counted reply no call waits
@@ -201,5 +206,6 @@ puts_made doc (x ∷ xs) h s =
     let e = script_entry 0 0 (First x.0 (stamped (whole_second (store_wall doc 0)) x.1)) in
     puts_made doc xs (e ∷ h) (made_more doc e h refl s)
 
-pub are_made : (doc : Doc) (k : ℕ) (x : Entry) (before : List Entry) → IsTail (x ∷ before) (history doc k) → IsMade doc x before
-are_made doc k = walk_history doc (λ k step h. AreMade doc h) (made_keeps doc) (puts_made doc doc.objects [] (λ x before at. absurd (tail_of_empty x before at))) k
+pub are_made : (doc : Doc) → IsOwn doc → (k : ℕ) (x : Entry) (before : List Entry) → IsTail (x ∷ before) (history doc k) → IsMade doc x before
+are_made doc own k =
+    walk_history doc (λ k step h. AreMade doc h) (made_keeps doc) (no_release doc (λ k step h. AreMade doc h) (ap (λ r. r.release) own.rules)) (puts_made doc doc.objects [] (λ x before at. absurd (tail_of_empty x before at))) k

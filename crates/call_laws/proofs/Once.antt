@@ -3,12 +3,13 @@ use Rattle.std.proofs.Common.{◌≡◌, ◌⊎◌, ◌<◌, ◌≤◌, ℕ, suc
 use Rattle.std.proofs.lemmas.Bool.{eqb-true, eq-eqb}
 use Rattle.kube_objects.specs.declared.deed.Actor.{Actor}
 use Rattle.kube_objects.specs.Document.{Doc}
-use Rattle.kube_objects.specs.Entry.{Entry, Identity, Call, Fact, First, Event as Happens, Starts, Stops, Sends, Answers, Delivers, Expires, Leads, Ends, Crashes, Stalls, Ticks}
+use Rattle.kube_objects.specs.Entry.{Entry, Identity, Call, Fact, First, Event as Happens, Starts, Stops, Sends, Answers, Delivers, Expires, Leads, Ends, Crashes, Stalls, Ticks, StepsDown, ReleaseBegins, ReleaseEnds, ReleaseStops}
 use Rattle.kube_objects.specs.Identities.{is_same, is_by, identity_of}
 use Rattle.kube_objects.specs.InFlight.{is_due, and_request, requests_due}
 use Rattle.kube_objects.specs.Newest.{count, added}
 use Rattle.kube_objects.specs.Process.{begun, is_send}
 use Rattle.kube_objects.specs.Wire.{Sent, Back, sent_of, back_of, sent_as, back_as}
+use Rattle.kube_objects.specs.Own.{IsOwn}
 use Rattle.history.specs.History.{history}
 use Rattle.history.specs.Steps.{answer_all, answered}
 use Rattle.history_laws.specs.Tails.{In, IsTail}
@@ -102,6 +103,10 @@ few_more doc m q n k e h within r = let two = made (sent_of e.actor e.fact) refl
         cases who (Stalls beats) is = absurd (none_is s is)
         cases who Ends is = absurd (none_is s is)
         cases who (Leads version) is = absurd (none_is s is)
+        cases who StepsDown is = absurd (none_is s is)
+        cases who (ReleaseBegins at_deadline) is = absurd (none_is s is)
+        cases who ReleaseEnds is = absurd (none_is s is)
+        cases who ReleaseStops is = absurd (none_is s is)
 
     by_match : (s : Sent) → sent_of e.actor e.fact ≡ Some s → (b : Bool) → is_asked q n s ≡ b → (begun q (e ∷ h) < n → asked q n (requests_due k h ++ s ∷ []) ≡ 0) × (asked q n (requests_due k h ++ s ∷ []) ≤ 1)
     by_match s is false other = plain (requests_due k h ++ s ∷ []) (asked_push q n (requests_due k h) s ∙ ap (λ b. added b (asked q n (requests_due k h))) other)
@@ -179,9 +184,13 @@ asker_as doc k e g x who Stops actor fact made is = absurd (none_is x is)
 asker_as doc k e g x who (Stalls beats) actor fact made is = absurd (none_is x is)
 asker_as doc k e g x who Ends actor fact made is = absurd (none_is x is)
 asker_as doc k e g x who (Leads version) actor fact made is = absurd (none_is x is)
+asker_as doc k e g x who StepsDown actor fact made is = absurd (none_is x is)
+asker_as doc k e g x who (ReleaseBegins at_deadline) actor fact made is = absurd (none_is x is)
+asker_as doc k e g x who ReleaseEnds actor fact made is = absurd (none_is x is)
+asker_as doc k e g x who ReleaseStops actor fact made is = absurd (none_is x is)
 
-asker : (doc : Doc) (k : ℕ) (e : Entry) (g : List Entry) (x : Back) → IsTail (e ∷ g) (history doc k) → back_of e.actor e.fact ≡ Some x → Asker doc k e g x
-asker doc k e g x at is = asker_as doc k e g x e.actor e.fact refl refl (are_made doc k e g at) is
+asker : (doc : Doc) → IsOwn doc → (k : ℕ) (e : Entry) (g : List Entry) (x : Back) → IsTail (e ∷ g) (history doc k) → back_of e.actor e.fact ≡ Some x → Asker doc k e g x
+asker doc own k e g x at is = asker_as doc k e g x e.actor e.fact refl refl (are_made doc own k e g at) is
 
 -- ---- answers of one beat
 
@@ -220,13 +229,13 @@ at_most_one doc k q n =
     omega (arith, answers_asked doc k q n (requests_due k one) one, r.once)
 
 pub answers_differ : AnswersDiffer
-answers_differ doc k e f g h x y at_e at_f is_e is_f who number = by_place (tails_meet (e ∷ g) (f ∷ h) (history doc k) at_e at_f)
+answers_differ doc own k e f g h x y at_e at_f is_e is_f who number = by_place (tails_meet (e ∷ g) (f ∷ h) (history doc k) at_e at_f)
   where
     a : Asker doc k e g x
-    a = asker doc k e g x at_e is_e
+    a = asker doc own k e g x at_e is_e
 
     b : Asker doc k f h y
-    b = asker doc k f h y at_f is_f
+    b = asker doc own k f h y at_f is_f
 
     -- both answer one request, so both are of one beat
     one : a.f ∷ a.before ≡ b.f ∷ b.before

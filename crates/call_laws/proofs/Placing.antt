@@ -5,8 +5,9 @@ use Rattle.kube_objects.specs.declared.deed.Actor.{Actor}
 use Rattle.kube_objects.specs.declared.script.What.{What}
 use Rattle.kube_objects.specs.Document.{Doc, processes}
 use Rattle.kube_objects.specs.Identities.{identity_of}
-use Rattle.kube_objects.specs.Entry.{Entry, Identity, Call, actor_of, Fact, First, Event as Happens, Starts, Stops, Sends, Answers, Delivers, Expires, Leads, Ends, Crashes, Stalls, Ticks}
+use Rattle.kube_objects.specs.Entry.{Entry, Identity, Call, actor_of, Fact, First, Event as Happens, Starts, Stops, Sends, Answers, Delivers, Expires, Leads, Ends, Crashes, Stalls, Ticks, StepsDown, ReleaseBegins, ReleaseEnds, ReleaseStops}
 use Rattle.kube_objects.specs.Wire.{of_event, in_force, request_arrival, reply_arrival, sent_as, sent_of, back_as, back_of}
+use Rattle.kube_objects.specs.Own.{IsOwn}
 use Rattle.history.specs.History.{history, three_steps}
 use Rattle.history.specs.Steps.{step_three}
 use Rattle.history_laws.specs.Order.{IsWithin}
@@ -15,7 +16,7 @@ use Rattle.history_laws.proofs.Order.{entries_are_earlier}
 use Rattle.history_laws.proofs.Plainly.{upper}
 use Rattle.history_laws.proofs.Plainly.{for_new, for_old}
 use Rattle.history_laws.proofs.Tailed.{tail_all, tail_trans, tails_meet, later_tail}
-use Rattle.history_laws.proofs.Walk.{Anyone, Keeps, KeepsTurn, all_kinds, all_turns, walk_one, walk_two, walk_three, walk_steps, walk_any_turns}
+use Rattle.history_laws.proofs.Walk.{Anyone, Keeps, KeepsRelease, KeepsTurn, all_kinds, all_release, all_turns, walk_one, walk_two, walk_three, walk_steps, walk_any_turns}
 use Rattle.call_laws.specs.Answering.{with_events, with_answers}
 use Rattle.call_laws.specs.Placing.{EntriesStandInBeats, ForcesStand, MessagesTravel}
 use Rattle.call_laws.proofs.Above.{Above, above_all, above_meet, in_head}
@@ -36,6 +37,9 @@ late_keeps doc k from g =
     (λ j h s. (omega (arith, s.0), λ is. absurd (omega (arith, is, s.0))))
     (λ x h next s. (s.0, λ is. let r = s.1 is in (r.0, inr ((is, r.0), r.1))))
 
+late_release : (doc : Doc) (k from : ℕ) (g : List Entry) → KeepsRelease doc (Late k from g)
+late_release doc k from g = all_release doc (Late k from g) (λ x h next s. (s.0, λ is. let r = s.1 is in (r.0, inr ((is, r.0), r.1))))
+
 late_turns : (doc : Doc) (k from : ℕ) (g : List Entry) → KeepsTurn doc Anyone (λ j h. Late k from g j 4 h)
 late_turns doc k from g =
     all_turns doc Anyone (λ j h. Late k from g j 4 h) (λ j x h beat step next s.
@@ -50,17 +54,17 @@ after_events doc k =
     let one = with_events doc k in
     let two = with_answers doc k in
     let keeps = late_keeps doc k 2 one in
-    let s2 : Late k 2 one k 2 two = walk_two doc (Late k 2 one) keeps k one (late_all k 2 one) in
-    let s3 : Late k 2 one k 3 (step_three doc k two) = walk_three doc (Late k 2 one) keeps k two (keeps.on k 2 two s2) in
-    ((walk_any_turns doc (λ j h. Late k 2 one j 4 h) (late_turns doc k 2 one) k (processes doc) (step_three doc k two) (keeps.on k 3 (step_three doc k two) s3)).1 refl).1
+    let s2 : Late k 2 one k 2 two = walk_two doc (Late k 2 one) keeps (late_release doc k 2 one) k one (late_all k 2 one) in
+    let s3 : Late k 2 one k 3 (step_three doc k two) = walk_three doc (Late k 2 one) keeps (late_release doc k 2 one) k two (keeps.on k 2 two s2) in
+    ((walk_any_turns doc (λ j h. Late k 2 one j 4 h) (late_turns doc k 2 one) (late_release doc k 2 one).turns k (processes doc) (step_three doc k two) (keeps.on k 3 (step_three doc k two) s3)).1 refl).1
 
 -- from the end of step 2 on
 pub after_answers : (doc : Doc) (k : ℕ) → Above (IsLate k 3) (with_answers doc k) (history doc (suc k))
 after_answers doc k =
     let two = with_answers doc k in
     let keeps = late_keeps doc k 3 two in
-    let s3 : Late k 3 two k 3 (step_three doc k two) = walk_three doc (Late k 3 two) keeps k two (late_all k 3 two) in
-    ((walk_any_turns doc (λ j h. Late k 3 two j 4 h) (late_turns doc k 3 two) k (processes doc) (step_three doc k two) (keeps.on k 3 (step_three doc k two) s3)).1 refl).1
+    let s3 : Late k 3 two k 3 (step_three doc k two) = walk_three doc (Late k 3 two) keeps (late_release doc k 3 two) k two (late_all k 3 two) in
+    ((walk_any_turns doc (λ j h. Late k 3 two j 4 h) (late_turns doc k 3 two) (late_release doc k 3 two).turns k (processes doc) (step_three doc k two) (keeps.on k 3 (step_three doc k two) s3)).1 refl).1
 
 -- ---- from a beat on
 
@@ -69,6 +73,9 @@ Later n g j step h = (n ≤ j) × Above (λ e. n ≤ e.beat) g h
 
 later_keeps : (doc : Doc) (n : ℕ) (g : List Entry) → Keeps doc (Later n g)
 later_keeps doc n g = all_kinds doc (Later n g) (λ j step h s. s) (λ j h s. (omega (arith, s.0), s.1)) (λ x h next s. (s.0, inr (s.0, s.1)))
+
+later_release : (doc : Doc) (n : ℕ) (g : List Entry) → KeepsRelease doc (Later n g)
+later_release doc n g = all_release doc (Later n g) (λ x h next s. (s.0, inr (s.0, s.1)))
 
 later_turns : (doc : Doc) (n : ℕ) (g : List Entry) → KeepsTurn doc Anyone (λ j h. Later n g j 4 h)
 later_turns doc n g = all_turns doc Anyone (λ j h. Later n g j 4 h) (λ j x h beat step next s. (s.0, inr (omega (arith, s.0, beat), s.1)))
@@ -79,7 +86,7 @@ later_on doc n (suc i) =
     let e : suc (n + i) ≡ n + suc i = omega arith in
     let g = history doc n in
     let h = history doc (n + i) in
-    let s = walk_any_turns doc (λ j h. Later n g j 4 h) (later_turns doc n g) (n + i) (processes doc) (three_steps doc (n + i) h) (walk_steps doc (Later n g) (later_keeps doc n g) (n + i) h (later_on doc n i)) in
+    let s = walk_any_turns doc (λ j h. Later n g j 4 h) (later_turns doc n g) (later_release doc n g).turns (n + i) (processes doc) (three_steps doc (n + i) h) (walk_steps doc (Later n g) (later_keeps doc n g) (later_release doc n g) (n + i) h (later_on doc n i)) in
     subst (λ m. Later n g m 1 (history doc m)) e ((later_keeps doc n g).next (n + i) s)
 
 pub from_beat : (doc : Doc) (n m : ℕ) → n ≤ m → Above (λ e. n ≤ e.beat) (history doc n) (history doc m)
@@ -102,8 +109,11 @@ within_keeps doc =
     next k e (inl before) = inl (omega (arith, before))
     next k e (inr here) = inl (omega (arith, here.0))
 
+within_release : (doc : Doc) → KeepsRelease doc (λ k step h. (e : Entry) → In e h → IsWithin k step e)
+within_release doc = all_release doc (λ k step h. (e : Entry) → In e h → IsWithin k step e) (λ x h next s. for_new (IsWithin x.beat x.step) x h (inr (refl, omega arith)) s)
+
 within_events : (doc : Doc) (k : ℕ) (e : Entry) → In e (with_events doc k) → IsWithin k 1 e
-within_events doc k = walk_one doc (λ k step h. (e : Entry) → In e h → IsWithin k step e) (within_keeps doc) k (history doc k) (λ e at. first e (entries_are_earlier doc k e at))
+within_events doc k = walk_one doc (λ k step h. (e : Entry) → In e h → IsWithin k step e) (within_keeps doc) (within_release doc) k (history doc k) (λ e at. first e (entries_are_earlier doc k e at))
   where
     first : (e : Entry) → (e.beat < k) ⊎ ((e.beat ≡ 0) × (e.step ≡ 0)) → IsWithin k 1 e
     first e (inl before) = inl before
@@ -112,7 +122,7 @@ within_events doc k = walk_one doc (λ k step h. (e : Entry) → In e h → IsWi
 pub within_answers : (doc : Doc) (k : ℕ) (e : Entry) → In e (with_answers doc k) → IsWithin k 2 e
 within_answers doc k =
     let one = with_events doc k in
-    walk_two doc (λ k step h. (e : Entry) → In e h → IsWithin k step e) (within_keeps doc) k one ((within_keeps doc).on k 1 one (within_events doc k))
+    walk_two doc (λ k step h. (e : Entry) → In e h → IsWithin k step e) (within_keeps doc) (within_release doc) k one ((within_keeps doc).on k 1 one (within_events doc k))
 
 -- ---- positions by beat and step
 
@@ -176,20 +186,24 @@ no_event doc k step who Stops h f made late = refl
 no_event doc k step who (Stalls beats) h f made late = refl
 no_event doc k step who Ends h f made late = refl
 no_event doc k step who (Leads version) h f made late = refl
+no_event doc k step who StepsDown h f made late = refl
+no_event doc k step who (ReleaseBegins at_deadline) h f made late = refl
+no_event doc k step who ReleaseEnds h f made late = refl
+no_event doc k step who ReleaseStops h f made late = refl
 
-force_stays : {A : Type 0} (doc : Doc) (k m : ℕ) (f : What → Option A) (g h : List Entry) → IsTail h (history doc m) → Above (IsLate k 2) g h → in_force f h ≡ in_force f g
-force_stays doc k m f g [] at above = ap (in_force f) (sym above)
-force_stays doc k m f g (e ∷ h) at (inl is) = ap (in_force f) (sym is)
-force_stays doc k m f g (e ∷ h) at (inr above) =
-    ap (λ o. upper o (in_force f h)) (no_event doc e.beat e.step e.actor e.fact h f (are_made doc m e h at) above.0.1)
-    ∙ force_stays doc k m f g h (tail_trans h (e ∷ h) (history doc m) (inr (tail_all h)) at) above.1
+force_stays : {A : Type 0} (doc : Doc) → IsOwn doc → (k m : ℕ) (f : What → Option A) (g h : List Entry) → IsTail h (history doc m) → Above (IsLate k 2) g h → in_force f h ≡ in_force f g
+force_stays doc own k m f g [] at above = ap (in_force f) (sym above)
+force_stays doc own k m f g (e ∷ h) at (inl is) = ap (in_force f) (sym is)
+force_stays doc own k m f g (e ∷ h) at (inr above) =
+    ap (λ o. upper o (in_force f h)) (no_event doc e.beat e.step e.actor e.fact h f (are_made doc own m e h at) above.0.1)
+    ∙ force_stays doc own k m f g h (tail_trans h (e ∷ h) (history doc m) (inr (tail_all h)) at) above.1
 
-stands_at : {A : Type 0} (doc : Doc) (m : ℕ) (e : Entry) (before : List Entry) → IsTail (e ∷ before) (history doc m) → 2 ≤ e.step → (f : What → Option A) → in_force f before ≡ in_force f (with_events doc e.beat)
-stands_at doc m e before at step f =
-    force_stays doc e.beat m f (with_events doc e.beat) before (tail_trans before (e ∷ before) (history doc m) (inr (tail_all before)) at) (above_events doc m e before at step)
+stands_at : {A : Type 0} (doc : Doc) → IsOwn doc → (m : ℕ) (e : Entry) (before : List Entry) → IsTail (e ∷ before) (history doc m) → 2 ≤ e.step → (f : What → Option A) → in_force f before ≡ in_force f (with_events doc e.beat)
+stands_at doc own m e before at step f =
+    force_stays doc own e.beat m f (with_events doc e.beat) before (tail_trans before (e ∷ before) (history doc m) (inr (tail_all before)) at) (above_events doc m e before at step)
 
 pub forces_stand : ForcesStand
-forces_stand doc m e before at step = (λ f. stands_at doc m e before at step f, λ f. stands_at doc m e before at step f)
+forces_stand doc own m e before at step = (λ f. stands_at doc own m e before at step f, λ f. stands_at doc own m e before at step f)
 
 -- ---- when messages arrive
 
@@ -197,9 +211,9 @@ sent_by : (who : Actor) (q : Identity) (call : Call) (arrives : Option ℕ) → 
 sent_by who q call arrives by = ap (λ who. sent_as call arrives (identity_of who)) by
 
 travels : (doc : Doc) (k step : ℕ) (who : Actor) (d : Fact) (h : List Entry) → MadeAs doc k step who d h
-    → IfSome (sent_of who d) (λ s. (s.call.sent ≡ k) × (s.arrives ≡ request_arrival s.who.process k h)) × IfSome (back_of who d) (λ b. b.comes ≡ reply_arrival doc b.who.process k h)
+    → IfSome (sent_of who d) (λ s. (s.call.sent ≡ k) × (s.arrives ≡ request_arrival doc s.who.process k h)) × IfSome (back_of who d) (λ b. b.comes ≡ reply_arrival doc b.who.process k h)
 travels doc k step who (Sends call arrives) h made = (
-  subst (λ o. IfSome o (λ s. (s.call.sent ≡ k) × (s.arrives ≡ request_arrival s.who.process k h))) (sym (sent_by who made.q call arrives made.by))
+  subst (λ o. IfSome o (λ s. (s.call.sent ≡ k) × (s.arrives ≡ request_arrival doc s.who.process k h))) (sym (sent_by who made.q call arrives made.by))
       (ap (λ (c : Call). c.sent) made.call_is, made.arrives_is),
   tt,
 )
@@ -216,6 +230,10 @@ travels doc k step who Stops h made = (tt, tt)
 travels doc k step who (Stalls beats) h made = (tt, tt)
 travels doc k step who Ends h made = (tt, tt)
 travels doc k step who (Leads version) h made = (tt, tt)
+travels doc k step who StepsDown h made = (tt, tt)
+travels doc k step who (ReleaseBegins at_deadline) h made = (tt, tt)
+travels doc k step who ReleaseEnds h made = (tt, tt)
+travels doc k step who ReleaseStops h made = (tt, tt)
 
 pub messages_travel : MessagesTravel
-messages_travel doc m e before at = travels doc e.beat e.step e.actor e.fact before (are_made doc m e before at)
+messages_travel doc own m e before at = travels doc e.beat e.step e.actor e.fact before (are_made doc own m e before at)

@@ -23,8 +23,10 @@ use Rattle.kube_objects.specs.Process.{born, alive, life, starts, is_start, coun
 use Rattle.kube_objects.specs.Stamps.{stamped}
 use Rattle.kube_objects.specs.Turns.{react}
 use Rattle.kube_objects.specs.Wire.{Sent, Back}
+use Rattle.kube_objects.specs.Own.{IsOwn}
+use Rattle.kube_objects.proofs.Own.{release_begun-own}
 use Rattle.history.specs.History.{put_all, history}
-use Rattle.history.specs.Steps.{start, start_first, starts_below, first_starts, start_if_down, crash, stall, released, stop, effect, stamp, event_version, happens, happen_all, answer_all, answered, deliver_all, deliver_as, delivered, react_as, step_one, step_two, step_three, turns}
+use Rattle.history.specs.Steps.{start, start_first, starts_below, first_starts, start_if_down, crash, stall, released, stop, effect, stamp, event_version, happens, happen_all, answer_all, answered, deliver_all, deliver_as, delivered, react_as, step_one, step_two, step_three, turns, stop_as, elector_react}
 use Rattle.history_laws.specs.Tails.{IsTail}
 use Rattle.history_laws.proofs.Plainly.{upper, identity_eq}
 use Rattle.history_laws.proofs.Tailed.{tail_of_empty, same_head, same_rest}
@@ -48,7 +50,8 @@ SendsDue doc x h = x.step ≡ 4 → (q : Identity) → x.actor ≡ actor_of q �
 
 -- ---- one walk through a beat that tells where a process is down as it starts, and when requests of turns are due
 
-module _ (doc : Doc) (P : List Entry → Type 0) (begins : (k step p : ℕ) (h : List Entry) → alive p h ≡ None → P h → P (start k step p h))
+-- under the project's own rules
+module _ (doc : Doc) (own : IsOwn doc) (P : List Entry → Type 0) (begins : (k step p : ℕ) (h : List Entry) → alive p h ≡ None → P h → P (start k step p h))
     (more : (x : Entry) (h : List Entry) → is_start x.fact ≡ false → SendsDue doc x h → P h → P (x ∷ h)) where
   sooner : (x : Entry) (h : List Entry) → is_start x.fact ≡ false → x.step ≤ 3 → P h → P (x ∷ h)
   sooner x h none early s = more x h none (λ four q by. absurd (omega (arith, four, early))) s
@@ -65,13 +68,15 @@ module _ (doc : Doc) (P : List Entry → Type 0) (begins : (k step p : ℕ) (h :
   by_start k p None h is s = begins k 1 p h is s
   by_start k p (Some i) h is s = s
 
-  by_release : (k : ℕ) (q : Identity) (o : Option Request) (h : List Entry) → P h → P (released k q o h)
+  by_release : (k : ℕ) (q : Identity) (o : Option Request) (h : List Entry) → P h → P (released doc k q o h)
   by_release k q None h s = s
   by_release k q (Some request) h s = sooner _ h refl (omega arith) s
 
   by_stop : (k p : ℕ) (up : Option ℕ) (before h : List Entry) → P h → P (stop doc k p up before h)
   by_stop k p None before h s = s
-  by_stop k p (Some i) before h s = by_release k (identity p i) (release doc (identity p i) k before) (entry k 1 (identity p i) Stops ∷ h) (sooner _ h refl (omega arith) s)
+  by_stop k p (Some i) before h s =
+      let q = identity p i in
+      subst (λ r. P (stop_as r doc k q before h)) (sym (ap (λ r. r.release) own.rules)) (by_release k q (release doc q k before) (entry k 1 q Stops ∷ h) (sooner _ h refl (omega arith) s))
 
   by_effect : (k : ℕ) (w : What) (before : List Entry) → P (script_entry k 1 (Happens (stamp doc k w) (event_version w before)) ∷ before)
       → P (effect doc k w before (script_entry k 1 (Happens (stamp doc k w) (event_version w before)) ∷ before))
@@ -86,6 +91,7 @@ module _ (doc : Doc) (P : List Entry → Type 0) (begins : (k step p : ℕ) (h :
   by_effect k (what.Ready id status) before s = s
   by_effect k (what.Put key object) before s = s
   by_effect k (what.Remove key) before s = s
+  by_effect k (what.Stall beats) before s = s
 
   by_events : (k : ℕ) (es : List Event) (h : List Entry) → P h → P (happen_all doc k es h)
   by_events k [] h s = s
@@ -99,18 +105,18 @@ module _ (doc : Doc) (P : List Entry → Type 0) (begins : (k step p : ℕ) (h :
   by_answers k [] h s = s
   by_answers k (x ∷ ss) h s = by_answers k ss (answered doc k x h) (sooner _ h refl (omega arith) s)
 
-  by_follow : (k : ℕ) (q : Identity) (led : Bool) (f : Follow) (h : List Entry) → P h → P (react k q led f h)
+  by_follow : (k : ℕ) (q : Identity) (led : Bool) (f : Follow) (h : List Entry) → P h → P (react doc k q led f h)
   by_follow k q led Fails h s = s
   by_follow k q led (Asks request) h s = sooner _ h refl (omega arith) s
   by_follow k q true (Succeeds version) h s = s
   by_follow k q false (Succeeds version) h s = sooner _ h refl (omega arith) s
 
-  by_next : (k : ℕ) (q : Identity) (o : Option Request) (h : List Entry) → P h → P (send_next k q o h)
+  by_next : (k : ℕ) (q : Identity) (o : Option Request) (h : List Entry) → P h → P (send_next doc k q o h)
   by_next k q None h s = s
   by_next k q (Some request) h s = sooner _ h refl (omega arith) s
 
   by_reply : (k : ℕ) (q : Identity) (c : Call) (reply : Reply) (b : Bool) (h : List Entry) → P h → P (react_as doc k q c reply b h)
-  by_reply k q c reply true h s = by_follow k q (leads q h) (follow_on doc q k c.kind c.request reply h) h s
+  by_reply k q c reply true h s = subst (λ o. P (elector_react doc k q c reply o h)) (sym (release_begun-own doc own c.kind)) (by_follow k q (leads q h) (follow_on doc q k c.kind c.request reply h) h s)
   by_reply k q c reply false h s = by_next k q (next_request doc q k c.request reply) h s
 
   by_delivery : (k : ℕ) (q : Identity) (c : Call) (reply : Reply) (o : Option Call) (h : List Entry) → P h → P (deliver_as doc k q c reply o h)
@@ -124,7 +130,7 @@ module _ (doc : Doc) (P : List Entry → Type 0) (begins : (k step p : ℕ) (h :
   by_turns : (k n : ℕ) (h : List Entry) → P h → P (turns doc k n h)
   by_turns k zero h s = s
   by_turns k (suc p) h s =
-      walk_own_turn doc k p P (λ h down s. begins k 4 p h down s)
+      walk_own_turn doc own k p P (λ h down s. begins k 4 p h down s)
       (λ i x h beat by none due s. more x h none (λ four q mine. subst (λ k. IsTurnSend doc k q x.fact h) (sym beat) (subst (λ q. IsTurnSend doc k q x.fact h) (actor_is (identity p i) q (sym by ∙ mine)) due)) s)
       (turns doc k p h) (by_turns k p h s)
 
@@ -196,10 +202,10 @@ starts_down k step p h down fact q by = ap (λ p. alive p h) (process by) ∙ do
     process by = sym (ap process_of by)
 
 pub starts_are_down : StartsAreDown
-starts_are_down doc zero = puts_start doc doc.objects [] (λ x before at. absurd (tail_of_empty x before at))
-starts_are_down doc (suc k) =
-    by_beat doc Down (λ k step p h down s. down_more _ h (starts_down k step p h down) s) (λ x h none due s. down_more x h (no_start x h none) s) k (history doc k)
-    (first k) (starts_are_down doc k)
+starts_are_down doc own zero = puts_start doc doc.objects [] (λ x before at. absurd (tail_of_empty x before at))
+starts_are_down doc own (suc k) =
+    by_beat doc own Down (λ k step p h down s. down_more _ h (starts_down k step p h down) s) (λ x h none due s. down_more x h (no_start x h none) s) k (history doc k)
+    (first k) (starts_are_down doc own k)
   where
     first : (k : ℕ) → k ≡ 0 → (p : ℕ) → alive p (history doc k) ≡ None
     first k is p = subst (λ k. alive p (history doc k) ≡ None) (sym is) (puts_down doc p doc.objects [] refl)
@@ -220,11 +226,11 @@ puts_due doc (x ∷ xs) h s =
     let e = script_entry 0 0 (First x.0 (stamped (whole_second (store_wall doc 0)) x.1)) in
     puts_due doc xs (e ∷ h) (due_more doc e h (λ four q by. tt) s)
 
-pub sends_are_due : (doc : Doc) (k : ℕ) (x : Entry) (before : List Entry) → IsTail (x ∷ before) (history doc k) → SendsDue doc x before
-sends_are_due doc zero = puts_due doc doc.objects [] (λ x before at. absurd (tail_of_empty x before at))
-sends_are_due doc (suc k) =
-    by_beat doc (Due doc) (λ k step p h down s. due_more doc _ h (λ four q by. tt) s) (λ x h none due s. due_more doc x h due s) k (history doc k)
-    (first k) (sends_are_due doc k)
+pub sends_are_due : (doc : Doc) → IsOwn doc → (k : ℕ) (x : Entry) (before : List Entry) → IsTail (x ∷ before) (history doc k) → SendsDue doc x before
+sends_are_due doc own zero = puts_due doc doc.objects [] (λ x before at. absurd (tail_of_empty x before at))
+sends_are_due doc own (suc k) =
+    by_beat doc own (Due doc) (λ k step p h down s. due_more doc _ h (λ four q by. tt) s) (λ x h none due s. due_more doc x h due s) k (history doc k)
+    (first k) (sends_are_due doc own k)
   where
     first : (k : ℕ) → k ≡ 0 → (p : ℕ) → alive p (history doc k) ≡ None
     first k is p = subst (λ k. alive p (history doc k) ≡ None) (sym is) (puts_down doc p doc.objects [] refl)

@@ -1,4 +1,7 @@
 -- A process's turn adds entries of its own alone, and a start only where it is down.
+use Rattle.kube_objects.specs.Own.{IsOwn}
+use Rattle.kube_objects.proofs.Own.{expire_as-own, end_term-own}
+use Rattle.history.proofs.Own.{ticks-own}
 use Rattle.history_laws.proofs.Plainly.{not_true, and_right, true_is}
 use Rattle.std.proofs.Common.{◌≡◌, ℕ, zero, suc, ◌==◌, ◌&&◌, not, nat_lt, Bool, true, false, List, [], ◌∷◌, Option, Some, None, refl, sym, subst, ◌⊎◌, inl, inr, ◌∙◌}
 use Rattle.std.specs.Prelude.{if◌then◌else◌}
@@ -11,10 +14,10 @@ use Rattle.kube_objects.specs.Identities.{identity}
 use Rattle.kube_objects.specs.Kubelet.{node_of, post, is_post_call, round_if, is_round_due, round}
 use Rattle.kube_objects.specs.Newest.{has}
 use Rattle.kube_objects.specs.Pauses.{is_paused}
-use Rattle.kube_objects.specs.Process.{alive, is_start, call_in, is_late, ended, is_restart_due}
+use Rattle.kube_objects.specs.Process.{alive, is_start, call_in, is_late, ended, is_restart_due, release_begun}
 use Rattle.kube_objects.specs.Stored.{election, node_lease}
 use Rattle.kube_objects.specs.Tick.{tick}
-use Rattle.kube_objects.specs.Turns.{expire_call, expired, end_term, just_expired, is_fast_call, attempt_if, try}
+use Rattle.kube_objects.specs.Turns.{expire_call, expire_as, expired, end_term, end_as, just_expired, is_fast_call, attempt_if, try}
 use Rattle.history.specs.Steps.{start, if_up, restart_if, restart, expire, finish, attempts, ticks, elector_turn, controller_turn, rounds, kubelet_turn, unpaused_turn, turn}
 use Rattle.history_laws.proofs.Ticks.{walk_tick}
 
@@ -26,7 +29,7 @@ abbrev pub IsTurnSend : Doc → ℕ → Identity → Fact → List Entry → Typ
 IsTurnSend doc k q (Sends call arrives) h = is_controller doc q.process ≡ true → IsDue doc k q call h
 IsTurnSend doc k q _ h = Unit {0}
 
-module _ (doc : Doc) (k p : ℕ) (P : List Entry → Type 0) (starts : (h : List Entry) → alive p h ≡ None → P h → P (start k 4 p h))
+module _ (doc : Doc) (own : IsOwn doc) (k p : ℕ) (P : List Entry → Type 0) (starts : (h : List Entry) → alive p h ≡ None → P h → P (start k 4 p h))
     (more : (i : ℕ) (x : Entry) (h : List Entry) → x.beat ≡ k → x.actor ≡ actor_of (identity p i) → is_start x.fact ≡ false → IsTurnSend doc k (identity p i) x.fact h → P h → P (x ∷ h)) where
   own_up : (f : Identity → List Entry → List Entry) → ((i : ℕ) (h : List Entry) → P h → P (f (identity p i) h)) → (up : Option ℕ) (h : List Entry) → P h → P (if_up p f up h)
   own_up f one None h s = s
@@ -44,17 +47,17 @@ module _ (doc : Doc) (k p : ℕ) (P : List Entry → Type 0) (starts : (h : List
   own_expiry i None h s = s
   own_expiry i (Some c) h s = by_test (is_late doc (identity p i) k c)
     where
-      by_test : (b : Bool) → P (if b then entry k 4 (identity p i) (Expires c) ∷ h else h)
-      by_test true = more i (entry k 4 (identity p i) (Expires c)) h refl refl refl tt s
+      by_test : (b : Bool) → P (if b then expire_as doc k (identity p i) c (release_begun doc.settings.rules.release c.kind) h else h)
+      by_test true = subst P (sym (expire_as-own doc own k (identity p i) c h)) (more i (entry k 4 (identity p i) (Expires c)) h refl refl refl tt s)
       by_test false = s
 
   own_end : (i : ℕ) (o : Option ℕ) (h : List Entry) → P h → P (end_term doc k (identity p i) o h)
   own_end i None h s = s
   own_end i (Some at) h s = by_test (nat_lt (local doc p k) at)
     where
-      by_test : (b : Bool) → P (if b then h else entry k 4 (identity p i) Ends ∷ h)
+      by_test : (b : Bool) → P (if b then h else end_as doc.settings.rules.release doc k (identity p i) h)
       by_test true = s
-      by_test false = more i (entry k 4 (identity p i) Ends) h refl refl refl tt s
+      by_test false = subst P (sym (end_term-own doc own k (identity p i) h)) (more i (entry k 4 (identity p i) Ends) h refl refl refl tt s)
 
   own_attempt : (i : ℕ) (fast due : Bool) (h : List Entry) → is_fast_call (just_expired (identity p i) k h) ≡ fast → (not (has (call_in (identity p i) h)) && not (nat_lt (local doc p k) (timer doc (identity p i) h))) ≡ due
       → P h → P (attempt_if doc k (identity p i) fast due h)
@@ -84,7 +87,7 @@ module _ (doc : Doc) (k p : ℕ) (P : List Entry → Type 0) (starts : (h : List
       let s3 : P h3 = own_up (λ q T. end_term doc k q (deadline doc q T) T) (λ i T s. own_end i (deadline doc (identity p i) T) T s) (alive p h2) h2 s2 in
       let h4 = attempts doc k p h3 in
       let s4 : P h4 = own_up (try doc k) (λ i T s. own_attempt i (is_fast_call (just_expired (identity p i) k T)) (not (has (call_in (identity p i) T)) && not (nat_lt (local doc p k) (timer doc (identity p i) T))) T refl refl s) (alive p h3) h3 s3 in
-      own_up (λ q T. if acts doc q k T then tick doc k q T else T) (λ i T s. own_tick i (acts doc (identity p i) k T) T s) (alive p h4) h4 s4
+      subst P (sym (ticks-own doc own k p h4)) (own_up (λ q T. if acts doc q k T then tick doc k q T else T) (λ i T s. own_tick i (acts doc (identity p i) k T) T s) (alive p h4) h4 s4)
 
   own_kubelet : is_controller doc p ≡ false → (h : List Entry) → P h → P (kubelet_turn doc k p h)
   own_kubelet role h s =

@@ -2,10 +2,11 @@
 use Rattle.std.proofs.Common.{◌≡◌, ◌⊎◌, ◌≤◌, ℕ, Bool, true, false, List, [], ◌∷◌, Option, Some, None, refl, sym, ap, ◌∙◌, subst, inl, inr}
 use Rattle.kube_objects.specs.declared.deed.Actor.{Actor}
 use Rattle.kube_objects.specs.Document.{Doc, is_controller}
-use Rattle.kube_objects.specs.Entry.{Entry, Identity, Call, Fact, First, Event as Happens, Starts, Stops, Sends, Answers, Delivers, Expires, Leads, Ends, Crashes, Stalls, Ticks, actor_of, entry}
+use Rattle.kube_objects.specs.Entry.{Entry, Identity, Call, Fact, First, Event as Happens, Starts, Stops, Sends, Answers, Delivers, Expires, Leads, Ends, Crashes, Stalls, Ticks, actor_of, entry, StepsDown, ReleaseBegins, ReleaseEnds, ReleaseStops}
 use Rattle.kube_objects.specs.Identities.{is_same, is_by}
 use Rattle.kube_objects.specs.Newest.{when, join}
 use Rattle.kube_objects.specs.Process.{alive, open_as, call_says, last_call, call_in}
+use Rattle.kube_objects.specs.Own.{IsOwn}
 use Rattle.history.specs.History.{history}
 use Rattle.history_laws.specs.Tails.{IsTail}
 use Rattle.history_laws.proofs.Counting.{counted_is}
@@ -62,11 +63,15 @@ still doc k step who Stops h q call role made waits = inl waits
 still doc k step who (Stalls beats) h q call role made waits = inl waits
 still doc k step who Ends h q call role made waits = inl waits
 still doc k step who (Leads version) h q call role made waits = inl waits
+still doc k step who StepsDown h q call role made waits = absurd made
+still doc k step who (ReleaseBegins at_deadline) h q call role made waits = absurd made
+still doc k step who ReleaseEnds h q call role made waits = absurd made
+still doc k step who ReleaseStops h q call role made waits = absurd made
 
 no_stop : (call : Call) (arrives : Option ℕ) → Sends call arrives ≡ Stops → ⊥
 no_stop call arrives is = cc
 
-module _ (doc : Doc) (m : ℕ) (q : Identity) (call : Call) (arrives : Option ℕ) (e : Entry) (before : List Entry) (role : is_controller doc q.process ≡ true)
+module _ (doc : Doc) (own : IsOwn doc) (m : ℕ) (q : Identity) (call : Call) (arrives : Option ℕ) (e : Entry) (before : List Entry) (role : is_controller doc q.process ≡ true)
     (actor : e.actor ≡ actor_of q) (fact : e.fact ≡ Sends call arrives) (opens : open_as call.kind call ≡ Some call) where
   sent : call_in q (e ∷ before) ≡ Some call
   sent =
@@ -89,7 +94,7 @@ module _ (doc : Doc) (m : ℕ) (q : Identity) (call : Call) (arrives : Option �
     where
       cases : (call_in q h ≡ Some call) ⊎ IsClosed q call (e ∷ before) h → (call_in q (x ∷ h) ≡ Some call) ⊎ IsClosed q call (e ∷ before) (x ∷ h)
       cases (inr closed) = inr (record { e = closed.e; before = closed.before; position = inr closed.position; since = closed.since; closes = closed.closes })
-      cases (inl waits) = by_entry (still doc x.beat x.step x.actor x.fact h q call role (are_made doc m x h within) waits)
+      cases (inl waits) = by_entry (still doc x.beat x.step x.actor x.fact h q call role (are_made doc own m x h within) waits)
         where
           by_entry : Still q call x.actor x.fact h → (call_in q (x ∷ h) ≡ Some call) ⊎ IsClosed q call (e ∷ before) (x ∷ h)
           by_entry (inl waits) = inl waits
@@ -99,4 +104,4 @@ module _ (doc : Doc) (m : ℕ) (q : Identity) (call : Call) (arrives : Option �
               inr (record { e = stop; before = stopped.1; position = inr (subst (λ g. IsTail (stop ∷ stopped.1) g) (sym stopped.2) (tail_all (stop ∷ stopped.1))); since = below stopped.0 stopped.1 h stopped.2 at; closes = same_self q })
 
 pub calls_wait : CallsWait
-calls_wait doc m h within q call arrives e before role at actor fact opens = calls_wait_in doc m q call arrives e before role actor fact opens h within at
+calls_wait doc own m h within q call arrives e before role at actor fact opens = calls_wait_in doc own m q call arrives e before role actor fact opens h within at

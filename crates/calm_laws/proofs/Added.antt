@@ -1,5 +1,5 @@
 -- How each request, each lead and each stop came about: for callers.
-use Rattle.std.proofs.Common.{◌≡◌, ℕ, true, false, List, [], ◌∷◌, refl, sym, ◌∙◌, subst, inl, inr, arith, ◌≤◌, Option, Some, ⊎_elim, ◌&&◌, ◌⊎◌}
+use Rattle.std.proofs.Common.{◌≡◌, ℕ, true, false, List, [], ◌∷◌, refl, sym, ap, ◌∙◌, subst, inl, inr, arith, ◌≤◌, Option, Some, ⊎_elim, ◌&&◌, ◌⊎◌}
 use Rattle.kube_base.specs.declared.numbers.Version.{Version}
 use Rattle.kube_objects.specs.Clocks.{store_wall, whole_second}
 use Rattle.kube_objects.specs.Document.{Doc, is_controller}
@@ -13,10 +13,11 @@ use Rattle.kube_objects.specs.declared.call.Reply.{Reply}
 use Rattle.kube_objects.specs.declared.call.Request.TheVariants.{Get}
 use Rattle.kube_objects.specs.declared.key.Key.{Key}
 use Rattle.kube_objects.specs.declared.object.Object.{Object}
+use Rattle.kube_objects.specs.Own.{IsOwn}
 use Rattle.history.specs.History.{put_all, history}
 use Rattle.history_laws.proofs.Tailed.{tail_of_empty, same_head, same_rest}
 use Rattle.history_laws.proofs.Ticks.{walk_tick}
-use Rattle.history_laws.proofs.Walk.{after_reply, stopped_at, Keeps, walk_history}
+use Rattle.history_laws.proofs.Walk.{after_reply, stopped_at, Keeps, no_release, walk_history}
 use Rattle.history_laws.specs.Tails.{IsTail}
 use Rattle.call_laws.proofs.Starting.{actor_is}
 
@@ -99,20 +100,20 @@ puts_added doc (x ∷ xs) h s =
     let e = script_entry 0 0 (First x.0 (stamped (whole_second (store_wall doc 0)) x.1)) in
     puts_added doc xs (e ∷ h) (more doc e h tt s)
 
-pub added : (doc : Doc) (k : ℕ) (x : Entry) (before : List Entry) → IsTail (x ∷ before) (history doc k) → AddedAs doc x x.fact before
-added doc k = walk_history doc (λ k step h. Added doc h) (added_keeps doc) (puts_added doc doc.objects [] (λ x before at. absurd (tail_of_empty x before at))) k
+pub added : (doc : Doc) → IsOwn doc → (k : ℕ) (x : Entry) (before : List Entry) → IsTail (x ∷ before) (history doc k) → AddedAs doc x x.fact before
+added doc rules k = walk_history doc (λ k step h. Added doc h) (added_keeps doc) (no_release doc (λ k step h. Added doc h) (ap (λ r. r.release) rules.rules)) (puts_added doc doc.objects [] (λ x before at. absurd (tail_of_empty x before at))) k
 
 -- who comes to lead has a success
-pub leads_by : (doc : Doc) (k : ℕ) (x : Entry) (before : List Entry) (version : Version) → IsTail (x ∷ before) (history doc k) → x.fact ≡ Leads version → LedBy doc x version before
-leads_by doc k x before version at fact = subst (λ d. AddedAs doc x d before) fact (added doc k x before at)
+pub leads_by : (doc : Doc) → IsOwn doc → (k : ℕ) (x : Entry) (before : List Entry) (version : Version) → IsTail (x ∷ before) (history doc k) → x.fact ≡ Leads version → LedBy doc x version before
+leads_by doc rules k x before version at fact = subst (λ d. AddedAs doc x d before) fact (added doc rules k x before at)
 
 -- why an identity sent a request
-pub sends_for : (doc : Doc) (k : ℕ) (x : Entry) (before : List Entry) (q : Identity) (call : Call) (arrives : Option ℕ) → IsTail (x ∷ before) (history doc k) → x.actor ≡ actor_of q → x.fact ≡ Sends call arrives → SentFor doc x q call before
-sends_for doc k x before q call arrives at by fact = subst (λ q. SentFor doc x q call before) (actor_is sent.q q (sym sent.by ∙ by)) sent.way
+pub sends_for : (doc : Doc) → IsOwn doc → (k : ℕ) (x : Entry) (before : List Entry) (q : Identity) (call : Call) (arrives : Option ℕ) → IsTail (x ∷ before) (history doc k) → x.actor ≡ actor_of q → x.fact ≡ Sends call arrives → SentFor doc x q call before
+sends_for doc rules k x before q call arrives at by fact = subst (λ q. SentFor doc x q call before) (actor_is sent.q q (sym sent.by ∙ by)) sent.way
   where
     sent : SentBy doc x call before
-    sent = subst (λ d. AddedAs doc x d before) fact (added doc k x before at)
+    sent = subst (λ d. AddedAs doc x d before) fact (added doc rules k x before at)
 
 -- who was stopped was up
-pub stops_up : (doc : Doc) (k : ℕ) (x : Entry) (before : List Entry) → IsTail (x ∷ before) (history doc k) → x.fact ≡ Stops → StoppedUp x before
-stops_up doc k x before at fact = subst (λ d. AddedAs doc x d before) fact (added doc k x before at)
+pub stops_up : (doc : Doc) → IsOwn doc → (k : ℕ) (x : Entry) (before : List Entry) → IsTail (x ∷ before) (history doc k) → x.fact ≡ Stops → StoppedUp x before
+stops_up doc rules k x before at fact = subst (λ d. AddedAs doc x d before) fact (added doc rules k x before at)

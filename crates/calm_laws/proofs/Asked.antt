@@ -6,10 +6,11 @@ use Rattle.kube_objects.specs.declared.call.Request.{Request}
 use Rattle.kube_objects.specs.declared.call.Request.TheVariants.{Get, Create, Update, PostStatus}
 use Rattle.kube_objects.specs.declared.key.Key.{Key}
 use Rattle.kube_objects.specs.Document.{Doc, is_controller}
-use Rattle.kube_objects.specs.Elector.{Moment, Follow, Fails, Asks, Succeeds, is_blocked, updated, follow_get, not_done, follow_write, follow, leads}
-use Rattle.kube_objects.specs.Entry.{Entry, Identity, Call, CallKind, Plain, Fast, Release, Sends, actor_of}
+use Rattle.kube_objects.specs.Elector.{Moment, Follow, Fails, Asks, Succeeds, is_blocked, updated, follow_get, not_done, follow_write, follow, leads, respected}
+use Rattle.kube_objects.specs.Entry.{Entry, Identity, Call, CallKind, Plain, Fast, Release, Look, Emptying, Sends, actor_of}
 use Rattle.kube_objects.specs.Process.{open_as, alive, call_in}
 use Rattle.kube_objects.specs.Stored.{election, key_of}
+use Rattle.kube_objects.specs.Own.{IsOwn}
 use Rattle.history.specs.History.{history}
 use Rattle.history_laws.specs.Tails.{IsTail}
 use Rattle.history_laws.proofs.Plainly.{none_is}
@@ -45,6 +46,8 @@ pub record IsNext (request r : Request) : Type 0 where
 not_done_asks : (kind : CallKind) (request r : Request) → not_done kind ≡ Asks r → IsNext request r
 not_done_asks Plain request r is = absurd (fails_not r is)
 not_done_asks Release request r is = absurd (fails_not r is)
+not_done_asks (Look begun) request r is = absurd (fails_not r is)
+not_done_asks (Emptying begun) request r is = absurd (fails_not r is)
 not_done_asks Fast request r is =
     let same : Get election ≡ r = asks_same (Get election) r is in
     record { key = sym (ap key_of same); written = λ w. absurd (subst IsWrite (sym same) w) }
@@ -59,7 +62,7 @@ write_asks kind request Unchanged r is = not_done_asks kind request r is
 
 get_asks : (q : Identity) (m : Moment) (seen : ℕ) (key : Key) (reply : Reply) (r : Request) → follow_get q m seen reply ≡ Asks r → IsNext (Get key) r
 get_asks q m seen key Absent r is = record { key = sym (ap key_of (asks_same (Create election _) r is)); written = λ w. (key, refl) }
-get_asks q m seen key (Found version lease) r is = by_test (is_blocked q m.now seen lease) is
+get_asks q m seen key (Found version lease) r is = by_test (is_blocked q m.now seen (respected m.respect m.seconds lease)) is
   where
     by_test : (b : Bool) → cond b Fails (Asks (Update election version (updated q m lease))) ≡ Asks r → IsNext (Get key) r
     by_test true is = absurd (fails_not r is)
@@ -89,12 +92,12 @@ reason_key doc k q request h (AfterReply f) = (next_is q _ _ f.waiting.kind f.wa
 pub not_open : (c : Call) → open_as Release c ≡ Some c → ⊥
 not_open c is = none_is c is
 
-pub reason_of : (doc : Doc) (m : ℕ) (q : Identity) → is_controller doc q.process ≡ true → (x : Entry) (T : List Entry) (call : Call) (arrives : Option ℕ) → IsTail (x ∷ T) (history doc m) → x.actor ≡ actor_of q → x.fact ≡ Sends call arrives
+pub reason_of : (doc : Doc) → IsOwn doc → (m : ℕ) (q : Identity) → is_controller doc q.process ≡ true → (x : Entry) (T : List Entry) (call : Call) (arrives : Option ℕ) → IsTail (x ∷ T) (history doc m) → x.actor ≡ actor_of q → x.fact ≡ Sends call arrives
     → leads q T ≡ false → open_as call.kind call ≡ Some call → Reason doc x.beat q call.request T × (3 ≤ x.step)
-reason_of doc m q role x T call arrives at actor fact unled opens = by_step made.step_is
+reason_of doc rules m q role x T call arrives at actor fact unled opens = by_step made.step_is
   where
     made : MadeSend doc x.beat x.step x.actor call arrives T
-    made = subst (λ d. MadeAs doc x.beat x.step x.actor d T) fact (are_made doc m x T at)
+    made = subst (λ d. MadeAs doc x.beat x.step x.actor d T) fact (are_made doc rules m x T at)
 
     mine : made.q ≡ q
     mine = actor_is made.q q (sym made.by ∙ actor)
@@ -106,7 +109,7 @@ reason_of doc m q role x T call arrives at actor fact unled opens = by_step made
     request = sym (ap (λ (c : Call). c.request) made.call_is)
 
     by_step : (x.step ≡ 1) ⊎ ((x.step ≡ 3) ⊎ (x.step ≡ 4)) → Reason doc x.beat q call.request T × (3 ≤ x.step)
-    by_step (inr (inr four)) = (InTurn (asks_in_turn doc m x T q call arrives at actor fact four role unled), omega (arith, four))
+    by_step (inr (inr four)) = (InTurn (asks_in_turn doc rules m x T q call arrives at actor fact four role unled), omega (arith, four))
     by_step (inr (inl three)) = (AfterReply (subst (λ r. Replied doc x.beat q r T) request (subst (λ p. Replied doc x.beat p made.request T) mine (made.replied role_made three))), omega (arith, three))
     by_step (inl one) = absurd (by_free (made.free role_made))
       where

@@ -5,7 +5,7 @@ use Rattle.kube_objects.specs.declared.deed.Actor.{Actor}
 use Rattle.kube_objects.specs.declared.deed.Actor.TheVariants as actors
 use Rattle.kube_objects.specs.Document.{Doc}
 use Rattle.kube_objects.specs.Elector.{timer_says, timer}
-use Rattle.kube_objects.specs.Entry.{Entry, Identity, Call, CallKind, Plain, Fast, Release, Fact, First, Event, Starts, Stops, Sends, Answers, Delivers, Expires, Leads, Ends, Crashes, Stalls, Ticks, actor_of}
+use Rattle.kube_objects.specs.Entry.{Entry, Identity, Call, CallKind, Plain, Fast, Release, Look, Emptying, Fact, First, Event, Starts, Stops, Sends, Answers, Delivers, Expires, Leads, Ends, Crashes, Stalls, Ticks, actor_of, StepsDown, ReleaseBegins, ReleaseEnds, ReleaseStops}
 use Rattle.kube_objects.specs.Identities.{is_by}
 use Rattle.kube_objects.specs.Newest.{newest, join, or_zero}
 use Rattle.kube_objects.specs.Process.{open_as, call_says, last_call, call_in}
@@ -25,6 +25,8 @@ opens_same : (kind : CallKind) (c call : Call) → open_as kind c ≡ Some call 
 opens_same Plain c call is = some_is c call is
 opens_same Fast c call is = some_is c call is
 opens_same Release c call is = absurd (none_is call is)
+opens_same (Look begun) c call is = some_is c call is
+opens_same (Emptying begun) c call is = some_is c call is
 
 -- the call that waits was sent, and its sender's call has been the same since
 pub record Begun (q : Identity) (call : Call) (h : List Entry) : Type 0 where
@@ -63,6 +65,10 @@ said q call who Starts is = absurd (none_is (Some call) is)
 said q call who Crashes is = absurd (none_is (Some call) is)
 said q call who Stops is = absurd (none_is (Some call) is)
 said q call who (Stalls beats) is = absurd (none_is (Some call) is)
+said q call who StepsDown is = absurd (none_is (Some call) is)
+said q call who (ReleaseBegins at_deadline) is = absurd (none_is call (when_value (is_by q who) None (Some call) is))
+said q call who ReleaseEnds is = absurd (none_is (Some call) is)
+said q call who ReleaseStops is = absurd (none_is (Some call) is)
 said q call who Ends is = absurd (none_is (Some call) is)
 said q call who (Answers c reply comes wrote) is = absurd (none_is (Some call) is)
 said q call who (Leads version) is = absurd (none_is (Some call) is)

@@ -8,12 +8,14 @@ use Rattle.kube_objects.specs.Document.{Doc, processes, end_beat, is_controller,
 use Rattle.kube_objects.specs.Elector.{leads}
 use Rattle.kube_objects.specs.Clocks.{local}
 use Rattle.kube_objects.proofs.Clocks.{local_up}
+use Rattle.kube_objects.proofs.Own.{is_late-own}
 use Rattle.kube_objects.specs.Entry.{Entry, Identity, Call}
 use Rattle.kube_objects.specs.Identities.{identity}
 use Rattle.kube_objects.specs.Newest.{has}
 use Rattle.kube_objects.specs.Pauses.{is_paused}
 use Rattle.kube_objects.specs.Process.{alive, is_late}
 use Rattle.kube_objects.specs.Stored.{Held, election, stored}
+use Rattle.kube_objects.specs.Own.{IsOwn}
 use Rattle.history.specs.History.{history, at_turn}
 use Rattle.history.specs.Safe.{Acts}
 use Rattle.history.specs.Sound.{IsSound}
@@ -77,7 +79,7 @@ events_low doc p k =
     let two = with_answers doc k in
     turns_add doc k p one (step_three doc k two) (three_adds doc k one two (two_adds doc k one one (tail_all one)))
 
-module _ (doc : Doc) (near far a settled e n : ℕ) (calm : IsCalm doc near far a e) (one : 1 ≤ near) (ways : near ≤ far) (ordered : a ≤ settled) (within : n ≤ e) (kept : IsKept doc far settled n)
+module _ (doc : Doc) (rules : IsOwn doc) (near far a settled e n : ℕ) (calm : IsCalm doc near far a e) (one : 1 ≤ near) (ways : near ≤ far) (ordered : a ≤ settled) (within : n ≤ e) (kept : IsKept doc far settled n)
     (lasting : ℕ) (lasts : LastsFor lasting (object_of (stored election (history doc (settled + far)))))
     (p later slow fast lost wait needed : ℕ) (c : IsCandidate doc near far a e p later slow fast) (b : AreBeats doc p slow fast lost wait needed) (my_time : IsInTime doc far a e p)
     (first : ℕ) (up_by : later ≤ first) (lost_by : lost + wait ≤ first) (ways_by : settled + 4 * far + wait ≤ a + first + 1)
@@ -136,20 +138,20 @@ module _ (doc : Doc) (near far a settled e n : ℕ) (calm : IsCalm doc near far 
 
       by_test : (t : Bool) → is_late doc q k call ≡ t → is_late doc q k call ≡ true
       by_test true is = is
-      by_test false is = absurd (omega (arith, sent_low, goes, long, b.lost_is, ltb-false (local doc p call.sent + call_timeout doc p) (local doc p k) is))
+      by_test false is = absurd (omega (arith, sent_low, goes, long, b.lost_is, ltb-false (local doc p call.sent + call_timeout doc p) (local doc p k) (sym (is_late-own doc rules q k call) ∙ is)))
 
   pub no_candidate : ⊥
   no_candidate =
-      none_first doc near far a e n one ways within q c.role c.steady my_time idle led lasting top lasts (settled + 4 * far) (omega (arith, ordered, one, ways))
-      (gets_show doc near far a settled e n calm one ways ordered within kept q c.role c.steady led lease)
-      (writes_fail doc near far a settled e n calm one ways ordered within kept q c.role c.steady led lease)
-      (none_written doc near far a settled e n calm one ways ordered within kept q c.role c.steady led lease)
+      none_first doc rules near far a e n one ways within q c.role c.steady my_time idle led lasting top lasts (settled + 4 * far) (omega (arith, ordered, one, ways))
+      (gets_show doc rules near far a settled e n calm one ways ordered within kept q c.role c.steady led lease)
+      (writes_fail doc rules near far a settled e n calm one ways ordered within kept q c.role c.steady led lease)
+      (none_written doc rules near far a settled e n calm one ways ordered within kept q c.role c.steady led lease)
       slow fast wait needed (a - 1) (omega (arith, ordered)) c.runs_least c.runs_most c.waits b.wait_is b.needed_is
-      enough most enough_is most_is G (omega (arith, ways_by)) (omega (arith, lost_by)) (omega (arith, room)) overdue (up_restarted doc p i G c.role awake stays (up (at_turn doc (suc p) G) s_low g_high))
+      enough most enough_is most_is G (omega (arith, ways_by)) (omega (arith, lost_by)) (omega (arith, room)) overdue (up_restarted doc rules p i G c.role awake stays (up (at_turn doc (suc p) G) s_low g_high))
 
 -- ---- the law
 
-module _ (doc : Doc) (near far a e n : ℕ) (p : ℕ) (role : is_controller doc p ≡ true) (steady : IsSteady doc near far a e p) (time : IsInTime doc far a e p) (within : n ≤ e) (none : NobodyActs doc near far a e n) (k : ℕ) (from : a ≤ k) (to : k ≤ n) where
+module _ (doc : Doc) (rules : IsOwn doc) (near far a e n : ℕ) (p : ℕ) (role : is_controller doc p ≡ true) (steady : IsSteady doc near far a e p) (time : IsInTime doc far a e p) (within : n ≤ e) (none : NobodyActs doc near far a e n) (k : ℕ) (from : a ≤ k) (to : k ≤ n) where
   events_below : (j : ℕ) → IsTail (with_events doc a) (at_turn doc j k)
   events_below j = ⊎_elim later (λ le. here (omega (arith, le, from))) (cases_lt a k)
     where
@@ -162,11 +164,11 @@ module _ (doc : Doc) (near far a e n : ℕ) (p : ℕ) (role : is_controller doc 
   -- while nobody acts, who is up stays so
   stays_from : (j i : ℕ) (g h : List Entry) → IsTail (at_turn doc j k) g → IsTail g h → IsTail h (history doc (suc n)) → alive p g ≡ Some i → alive p h ≡ Some i
   stays_from j i g h low high within_n there =
-      persists doc near far a e n (identity p i) role time.deadline steady within (none (identity p i) role steady) (omega (arith, from, to)) g h (tail_trans (with_events doc a) (at_turn doc j k) g (events_below j) low) high within_n there
+      persists doc rules near far a e n (identity p i) role time.deadline steady within (none (identity p i) role steady) (omega (arith, from, to)) g h (tail_trans (with_events doc a) (at_turn doc j k) g (events_below j) low) high within_n there
 
 pub takeovers_are_bounded : TakeoversAreBounded
 takeovers_are_bounded doc near far a e sound calm time one ways end p later slow fast lost wait needed c b first up_by lost_by ways_by lasting enough most lasts enough_is most_is within =
-    ⊎_elim (λ somebody. somebody) (λ none. absurd (nobody none)) (somebody_or_nobody doc near far a e n)
+    ⊎_elim (λ somebody. somebody) (λ none. absurd (nobody none)) (somebody_or_nobody doc sound.2 near far a e n)
   where
     n : ℕ
     n = a + first + most + 4 * far
@@ -196,21 +198,21 @@ takeovers_are_bounded doc near far a e sound calm time one ways end p later slow
 
         with_identity : (i : ℕ) → alive p S ≡ Some i → ⊥
         with_identity i up =
-            no_candidate doc near far a a e n calm one ways (omega arith) within kept lasting the_record p later slow fast lost wait needed c b my_time first up_by lost_by (omega (arith, ways_by, one, ways))
+            no_candidate doc sound.2 near far a a e n calm one ways (omega arith) within kept lasting the_record p later slow fast lost wait needed c b my_time first up_by lost_by (omega (arith, ways_by, one, ways))
             enough most enough_is most_is (omega arith) i (none (identity p i) c.role c.steady) led late stays
           where
             late : (h : List Entry) → IsTail S h → IsTail h (history doc (suc n)) → alive p h ≡ Some i
-            late h low high = stays_from doc near far a e n p c.role c.steady my_time within none (a + later) (omega arith) (omega (arith, up_by)) (suc p) i S h (tail_all S) low high up
+            late h low high = stays_from doc sound.2 near far a e n p c.role c.steady my_time within none (a + later) (omega arith) (omega (arith, up_by)) (suc p) i S h (tail_all S) low high up
 
             s_high : IsTail S (history doc (suc n))
             s_high = tail_trans S (history doc (suc (a + later))) (history doc (suc n)) (turn_tail doc (suc p) (a + later) (omega (arith, below))) (later_tail doc (suc (a + later)) (suc n) (omega (arith, up_by)))
 
             led : (h : List Entry) → IsTail h (history doc (suc n)) → leads (identity p i) h ≡ false
-            led = never_led doc near far a e n (identity p i) c.role my_time.deadline c.steady within (none (identity p i) c.role c.steady) (omega arith) (late (history doc (suc n)) s_high (tail_all (history doc (suc n))))
+            led = never_led doc sound.2 near far a e n (identity p i) c.role my_time.deadline c.steady within (none (identity p i) c.role c.steady) (omega arith) (late (history doc (suc n)) s_high (tail_all (history doc (suc n))))
 
             stays : (j : ℕ) (g : List Entry) → IsTail (at_turn doc p (a + first)) g → IsTail g (at_turn doc (suc p) (a + first)) → alive p g ≡ Some j → alive p (at_turn doc (suc p) (a + first)) ≡ Some j
             stays j g low high there =
-                stays_from doc near far a e n p c.role c.steady my_time within none (a + first) (omega arith) (omega arith) p j g (at_turn doc (suc p) (a + first)) low high
+                stays_from doc sound.2 near far a e n p c.role c.steady my_time within none (a + first) (omega arith) (omega arith) p j g (at_turn doc (suc p) (a + first)) low high
                 (tail_trans (at_turn doc (suc p) (a + first)) (history doc (suc (a + first))) (history doc (suc n)) (turn_tail doc (suc p) (a + first) (omega (arith, below))) (later_tail doc (suc (a + first)) (suc n) (omega arith))) there
 
         by_up : (o : Option ℕ) → alive p S ≡ o → ⊥

@@ -5,7 +5,7 @@ use Rattle.kube_objects.specs.declared.deed.Actor.{Actor}
 use Rattle.kube_objects.specs.declared.key.Key.{Key}
 use Rattle.kube_objects.specs.declared.object.Object.{Object}
 use Rattle.kube_objects.specs.Document.{Doc, end_beat, is_controller}
-use Rattle.kube_objects.specs.Entry.{Entry, Call, Fact, First as FirstPut, Event as Happens, Starts, Stops, Sends, Answers, Delivers, Expires, Leads, Ends, Crashes, Stalls, Ticks}
+use Rattle.kube_objects.specs.Entry.{Entry, Call, Fact, First as FirstPut, Event as Happens, Starts, Stops, Sends, Answers, Delivers, Expires, Leads, Ends, Crashes, Stalls, Ticks, StepsDown, ReleaseBegins, ReleaseEnds, ReleaseStops}
 use Rattle.kube_objects.specs.Keys.{key_eq}
 use Rattle.kube_objects.specs.Newest.{newest, when, only_if, join}
 use Rattle.kube_objects.specs.Stored.{election, event_write, request_write, at_key, write_of, held_as, holds, last_write, next_version, stored}
@@ -90,7 +90,7 @@ early_stored doc a x T w early =
 -- ---- every kind of entry
 
 pub change_of : (doc : Doc) → IsSound doc → (n : ℕ) → n ≤ end_beat doc → (x : Entry) (T : List Entry) → IsTail (x ∷ T) (history doc (suc n)) → Change doc x T
-change_of doc sound n end x T at = cases x.actor x.fact refl refl (are_made doc (suc n) x T at)
+change_of doc sound n end x T at = cases x.actor x.fact refl refl (are_made doc sound.2 (suc n) x T at)
   where
     unwritten : (d : Fact) → x.fact ≡ d → at_key election (write_of d) ≡ None → ((a : ℕ) → early_write a d ≡ None) → Change doc x T
     unwritten d fact none early =
@@ -149,5 +149,9 @@ change_of doc sound n end x T at = cases x.actor x.fact refl refl (are_made doc 
     cases who Crashes actor fact made = unwritten Crashes fact refl (λ a. refl)
     cases who Stops actor fact made = unwritten Stops fact refl (λ a. refl)
     cases who (Stalls beats) actor fact made = unwritten (Stalls beats) fact refl (λ a. refl)
+    cases who StepsDown actor fact made = absurd made
+    cases who (ReleaseBegins at_deadline) actor fact made = absurd made
+    cases who ReleaseEnds actor fact made = absurd made
+    cases who ReleaseStops actor fact made = absurd made
     cases who Ends actor fact made = unwritten Ends fact refl (λ a. refl)
     cases who (Leads version) actor fact made = unwritten (Leads version) fact refl (λ a. refl)

@@ -1,20 +1,22 @@
 -- Whether a controller's messages pass in a span, and whether somebody acts in it, is decided by looking.
-use Rattle.std.proofs.Common.{◌≡◌, ◌⊎◌, ◌<◌, ◌≤◌, ℕ, zero, suc, not, Bool, true, false, List, [], ◌∷◌, Option, Some, None, refl, sym, ap, ◌∙◌, subst, inl, inr, ⊎_elim, arith}
+use Rattle.std.proofs.Common.{◌≡◌, ◌⊎◌, ◌<◌, ◌≤◌, ℕ, zero, suc, Bool, true, false, List, [], ◌∷◌, Option, Some, None, refl, sym, ap, ◌∙◌, subst, inl, inr, ⊎_elim, arith}
 use Rattle.std.proofs.lemmas.Bool.{cases_lt, cases_eq}
 use Rattle.kube_objects.specs.Clocks.{local}
 use Rattle.kube_objects.specs.Document.{Doc, processes, is_controller}
-use Rattle.kube_objects.specs.Elector.{acts, in_term, is_before, deadline}
-use Rattle.kube_objects.specs.Entry.{Entry, Identity, Fact, First, Event, Starts, Stops, Sends, Answers, Delivers, Expires, Leads, Ends, Crashes, Stalls, Ticks}
+use Rattle.kube_objects.specs.Elector.{acts, is_before, deadline}
+use Rattle.kube_objects.specs.Entry.{Entry, Identity, Fact, First, Event, Starts, Stops, Sends, Answers, Delivers, Expires, Leads, Ends, Crashes, Stalls, Ticks, StepsDown, ReleaseBegins, ReleaseEnds, ReleaseStops}
 use Rattle.kube_objects.specs.Identities.{identity, of_process}
 use Rattle.kube_objects.specs.Newest.{has}
 use Rattle.kube_objects.specs.Pauses.{is_paused}
 use Rattle.kube_objects.specs.Process.{alive, is_present}
 use Rattle.kube_objects.specs.Wire.{loses_requests, loses_replies, request_delay, reply_delay}
+use Rattle.kube_objects.specs.Own.{IsOwn}
+use Rattle.lease_laws.proofs.Claims.{term_of}
 use Rattle.history.specs.History.{history, at_turn}
 use Rattle.history.specs.Safe.{Acts}
 use Rattle.history_laws.specs.Tails.{In}
 use Rattle.history_laws.proofs.Counting.{present_is}
-use Rattle.history_laws.proofs.Plainly.{false_is, true_is, and_left, and_right}
+use Rattle.history_laws.proofs.Plainly.{false_is, true_is, and_left}
 use Rattle.call_laws.specs.Answering.{with_events}
 use Rattle.takeover_laws.specs.Acting.{NobodyActs}
 use Rattle.takeover_laws.specs.Calm.{Passes, AllBeats, IsSteady}
@@ -88,6 +90,10 @@ is_crash Starts = inr (λ is. cc)
 is_crash Crashes = inl refl
 is_crash Stops = inr (λ is. cc)
 is_crash (Stalls beats) = inr (λ is. cc)
+is_crash StepsDown = inr (λ is. cc)
+is_crash (ReleaseBegins at_deadline) = inr (λ is. cc)
+is_crash ReleaseEnds = inr (λ is. cc)
+is_crash ReleaseStops = inr (λ is. cc)
 is_crash Ends = inr (λ is. cc)
 is_crash (Leads version) = inr (λ is. cc)
 
@@ -103,6 +109,10 @@ is_stop Starts = inr (λ is. cc)
 is_stop Crashes = inr (λ is. cc)
 is_stop Stops = inl refl
 is_stop (Stalls beats) = inr (λ is. cc)
+is_stop StepsDown = inr (λ is. cc)
+is_stop (ReleaseBegins at_deadline) = inr (λ is. cc)
+is_stop ReleaseEnds = inr (λ is. cc)
+is_stop ReleaseStops = inr (λ is. cc)
 is_stop Ends = inr (λ is. cc)
 is_stop (Leads version) = inr (λ is. cc)
 
@@ -118,6 +128,10 @@ is_end Starts = inr (λ is. cc)
 is_end Crashes = inr (λ is. cc)
 is_end Stops = inr (λ is. cc)
 is_end (Stalls beats) = inr (λ is. cc)
+is_end StepsDown = inr (λ is. cc)
+is_end (ReleaseBegins at_deadline) = inr (λ is. cc)
+is_end ReleaseEnds = inr (λ is. cc)
+is_end ReleaseStops = inr (λ is. cc)
 is_end Ends = inl refl
 is_end (Leads version) = inr (λ is. cc)
 
@@ -179,7 +193,7 @@ abbrev acting : Doc → ℕ → ℕ → Option ℕ → Bool
 acting doc p k None = false
 acting doc p k (Some i) = acts doc (identity p i) k (at_turn doc p k)
 
-module _ (doc : Doc) (near far a e n : ℕ) where
+module _ (doc : Doc) (rules : IsOwn doc) (near far a e n : ℕ) where
   abbrev Idle : ℕ → Type 0
   Idle m = (q : Identity) → q.process < m → is_controller doc q.process ≡ true → IsSteady doc near far a e q.process → (k : ℕ) → a ≤ k → k ≤ n → Acts doc q k → ⊥
 
@@ -205,7 +219,7 @@ module _ (doc : Doc) (near far a e n : ℕ) where
           up : alive q.process g ≡ Some q.incarnation
           up =
               present_is (alive q.process g) q.incarnation
-              (and_left (is_present (alive q.process g) q.incarnation) (is_before (local doc q.process k) (deadline doc q g)) (and_right (not (is_paused doc q.process k)) (in_term doc q k g) acts_q.1))
+              (and_left (is_present (alive q.process g) q.incarnation) (is_before (local doc q.process k) (deadline doc q g)) (term_of doc rules q k g acts_q.1))
 
       by_search : is_controller doc p ≡ true → IsSteady doc near far a e p → Searched (λ k. acting doc p k (alive p (at_turn doc p k))) a n → SomebodyActs doc near far a e n ⊎ Idle (suc p)
       by_search role s (inl f) = inl (found role s f.k f.from f.to (alive p (at_turn doc p f.k)) f.is)

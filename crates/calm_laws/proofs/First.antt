@@ -3,11 +3,12 @@ use Rattle.std.proofs.Common.{◌≡◌, ◌⊎◌, ◌<◌, ◌≤◌, ℕ, zer
 use Rattle.std.proofs.Math.Nat.{mul-le-mul_right}
 use Rattle.std.proofs.lemmas.Bool.{ltb-true, cases_lt}
 use Rattle.kube_objects.proofs.Clocks.{local_up}
+use Rattle.kube_objects.proofs.Own.{is_late-own, retry_at-own}
 use Rattle.kube_objects.specs.Answers.{lease_in, as_kind, answer_get}
 use Rattle.kube_objects.specs.Clocks.{local}
 use Rattle.kube_objects.specs.Document.{Doc, processes, is_controller, call_timeout, retry_period}
-use Rattle.kube_objects.specs.Elector.{Follow, Fails, Asks, Succeeds, is_fast, lead_says, leads, follow_on, timer_follow, timer_says, timer}
-use Rattle.kube_objects.specs.Entry.{Entry, Identity, Call, Release, Fact, First as FirstPut, Event as Happens, Starts, Stops, Sends, Answers, Delivers, Expires, Leads, Ends, Crashes, Stalls, Ticks, actor_of, entry}
+use Rattle.kube_objects.specs.Elector.{Follow, Fails, Asks, Succeeds, is_fast, lead_says, leads, follow_on, timer_follow, timer_says, timer, retry_at}
+use Rattle.kube_objects.specs.Entry.{Entry, Identity, Call, Release, Fact, First as FirstPut, Event as Happens, Starts, Stops, Sends, Answers, Delivers, Expires, Leads, Ends, Crashes, Stalls, Ticks, actor_of, entry, StepsDown, ReleaseBegins, ReleaseEnds, ReleaseStops}
 use Rattle.kube_objects.specs.Identities.{is_by}
 use Rattle.kube_objects.specs.Newest.{newest, when, has}
 use Rattle.kube_objects.specs.Pauses.{is_paused}
@@ -22,6 +23,7 @@ use Rattle.kube_objects.specs.declared.call.Request.TheVariants.{Get, Create, Up
 use Rattle.kube_objects.specs.declared.deed.Actor.{Actor}
 use Rattle.kube_objects.specs.declared.key.Key.{Key}
 use Rattle.kube_objects.specs.declared.key.Kind.TheVariants as kind
+use Rattle.kube_objects.specs.Own.{IsOwn}
 use Rattle.history.specs.History.{history, at_turn}
 use Rattle.history.specs.Safe.{Acts}
 use Rattle.history.specs.Steps.{restart, turn}
@@ -63,7 +65,7 @@ pub entry_is : (x : Entry) (step : ℕ) (q : Identity) (d : Fact) → x.step ≡
 entry_is x step q d at by is =
     ap (λ (s : ℕ). whole_entry x.beat s x.actor x.fact) at ∙ ap (λ who. whole_entry x.beat step who x.fact) by ∙ ap (λ d. whole_entry x.beat step (actor_of q) d) is
 
-module _ (doc : Doc) (near far a e n : ℕ) (one : 1 ≤ near) (ways : near ≤ far) (within : n ≤ e) (q : Identity) (role : is_controller doc q.process ≡ true)
+module _ (doc : Doc) (rules : IsOwn doc) (near far a e n : ℕ) (one : 1 ≤ near) (ways : near ≤ far) (within : n ≤ e) (q : Identity) (role : is_controller doc q.process ≡ true)
     (steady : IsSteady doc near far a e q.process) (my_time : IsInTime doc far a e q.process) (none : (k : ℕ) → a ≤ k → k ≤ n → Acts doc q k → ⊥) (led : (h : List Entry) → IsTail h (history doc (suc n)) → leads q h ≡ false)
     (lasting : ℕ) (top : Option Held) (lasts : LastsFor lasting (object_of top)) (K : ℕ) (some : a < K)
     (given : (w : Call) (reply : Reply) (T : List Entry) (y : ℕ) → (o : Origin doc q w reply T y) → IsTail T (history doc (suc n)) → w.request ≡ Get election → K ≤ y → y + far ≤ n → o.e.beat + far ≤ n → reply ≡ answer_get (as_kind lease_in top))
@@ -85,13 +87,13 @@ module _ (doc : Doc) (near far a e n : ℕ) (one : 1 ≤ near) (ways : near ≤ 
   into m le h at = tail_trans h (history doc (suc m)) (history doc (suc n)) at (later_tail doc (suc m) (suc n) (omega (arith, le)))
 
   stays : (start : List Entry) → IsTail (with_events doc a) start → alive q.process start ≡ Some q.incarnation → (h : List Entry) → IsTail start h → IsTail h (history doc (suc n)) → alive q.process h ≡ Some q.incarnation
-  stays start low up h below above = persists doc near far a e n q role my_time.deadline steady within none (omega (arith, some, after, some_wait, room)) start h low below above up
+  stays start low up h below above = persists doc rules near far a e n q role my_time.deadline steady within none (omega (arith, some, after, some_wait, room)) start h low below above up
 
   -- a look that comes in time is followed by acting
   close : (start : List Entry) (low : IsTail (with_events doc a) start) (up : alive q.process start ≡ Some q.incarnation) (o : ℕ) → K ≤ o → o ≤ G + 2 * far
-      → LookIn doc near far a e n one ways within q role steady my_time none led lasting top lasts K some given refused no_writes start low (stays start low up) o → ⊥
+      → LookIn doc rules near far a e n one ways within q role steady my_time none led lasting top lasts K some given refused no_writes start low (stays start low up) o → ⊥
   close start low up o late soon look =
-      none_looks doc near far a e n one ways within q role steady my_time none led lasting top lasts K some given refused no_writes start low (stays start low up)
+      none_looks doc rules near far a e n one ways within q role steady my_time none led lasting top lasts K some given refused no_writes start low (stays start low up)
       slow fast wait needed from low_from runs_least runs_most waits wait_is needed_is o late (look (omega (arith, soon, room))) enough most enough_is most_is (omega (arith, soon, room))
 
   -- a Get that it sends by beat G comes to one, where its reply comes late enough
@@ -99,9 +101,9 @@ module _ (doc : Doc) (near far a e n : ℕ) (one : 1 ≤ near) (ways : near ≤ 
       → IsTail (with_events doc a) T → alive q.process T ≡ Some q.incarnation → a ≤ x.beat → x.beat ≤ G
       → ((y : ℕ) (reply : Reply) (before : List Entry) → x.beat + 2 * near ≤ y → y ≤ x.beat + 2 * far → IsTail (entry y 3 q (Delivers call reply true) ∷ before) (history doc (suc y)) → K ≤ y) → ⊥
   asked x T call arrives at actor fact get low up since_a to late =
-      by_look (looked doc near far a e n one ways within q role steady my_time none led lasting top lasts K some given refused no_writes T low (stays T low up) x T call arrives at actor fact get (tail_all T) since_a (omega (arith, to, room)))
+      by_look (looked doc rules near far a e n one ways within q role steady my_time none led lasting top lasts K some given refused no_writes T low (stays T low up) x T call arrives at actor fact get (tail_all T) since_a (omega (arith, to, room)))
     where
-      by_look : Looked doc near far a e n one ways within q role steady my_time none led lasting top lasts K some given refused no_writes T low (stays T low up) x.beat call → ⊥
+      by_look : Looked doc rules near far a e n one ways within q role steady my_time none led lasting top lasts K some given refused no_writes T low (stays T low up) x.beat call → ⊥
       by_look r = let since : K ≤ r.at = late r.at r.reply r.before r.least r.most r.position in close T low up r.at since (omega (arith, r.most, to)) (r.look since)
 
   -- ---- a call that waits for longer than a round
@@ -112,13 +114,13 @@ module _ (doc : Doc) (near far a e n : ℕ) (one : 1 ≤ near) (ways : near ≤ 
 
     sent_at : call.sent ≡ b.f.beat
     sent_at =
-        (subst (λ p. IfSome p (λ s. (s.call.sent ≡ b.f.beat) × (s.arrives ≡ request_arrival s.who.process b.f.beat b.before))) (sent_is b.f q call b.arrives b.actor b.fact) (messages_travel doc (suc n) b.f b.before position).0).0
+        (subst (λ p. IfSome p (λ s. (s.call.sent ≡ b.f.beat) × (s.arrives ≡ request_arrival doc s.who.process b.f.beat b.before))) (sent_is b.f q call b.arrives b.actor b.fact) (messages_travel doc rules (suc n) b.f b.before position).0).0
 
     free : (alive q.process b.before ≡ Some q.incarnation) × (3 ≤ b.f.step)
     free = by_free (made.free (ap (λ (p : Identity). is_controller doc p.process) mine ∙ role))
       where
         made : MadeSend doc b.f.beat b.f.step b.f.actor call b.arrives b.before
-        made = subst (λ d. MadeAs doc b.f.beat b.f.step b.f.actor d b.before) b.fact (are_made doc (suc n) b.f b.before position)
+        made = subst (λ d. MadeAs doc b.f.beat b.f.step b.f.actor d b.before) b.fact (are_made doc rules (suc n) b.f b.before position)
 
         mine : made.q ≡ q
         mine = actor_is made.q q (sym made.by ∙ b.actor)
@@ -151,7 +153,7 @@ module _ (doc : Doc) (near far a e n : ℕ) (one : 1 ≤ near) (ways : near ≤ 
 
     -- so a reply to it has time left, where it was sent since beat a
     pub no_old : (y : ℕ) → IsTail (history doc y) T → a ≤ b.f.beat → b.f.beat + 2 * far < y → y ≤ suc n → ⊥
-    no_old y low from_a lt to = by_count (replies_count doc near far a e m q role steady my_time one (omega (arith, lt, to, within)) b.f b.before call b.arrives sending b.actor b.fact from_a (omega arith) still)
+    no_old y low from_a lt to = by_count (replies_count doc rules near far a e m q role steady my_time one (omega (arith, lt, to, within)) b.f b.before call b.arrives sending b.actor b.fact from_a (omega arith) still)
       where
         m : ℕ
         m = b.f.beat + 2 * far
@@ -172,7 +174,7 @@ module _ (doc : Doc) (near far a e n : ℕ) (one : 1 ≤ near) (ways : near ≤ 
     pub asks_election : key_of call.request ≡ election
     asks_election =
         reason_key doc b.f.beat q call.request b.before
-        (reason_of doc (suc n) q role b.f b.before call b.arrives position b.actor b.fact (led b.before (tail_trans b.before (b.f ∷ b.before) (history doc (suc n)) (inr (tail_all b.before)) position)) b.opens).0
+        (reason_of doc rules (suc n) q role b.f b.before call b.arrives position b.actor b.fact (led b.before (tail_trans b.before (b.f ∷ b.before) (history doc (suc n)) (inr (tail_all b.before)) position)) b.opens).0
 
     -- one that waits as beat G begins, and can't be closed before, comes to a look, or isn't sent
     pub waited : IsTail (history doc G) T → a ≤ b.f.beat → b.f.beat ≤ G → G ≤ b.f.beat + 2 * far → ⊥
@@ -196,7 +198,7 @@ module _ (doc : Doc) (near far a e n : ℕ) (one : 1 ≤ near) (ways : near ≤ 
 
     -- one that was sent before has expired by the end of a beat at which it is late
     pub no_lost : (k : ℕ) → b.f.beat < a → a ≤ k → k < n → is_late doc q k call ≡ true → alive q.process T ≡ Some q.incarnation → IsTail (history doc (suc k)) T → ⊥
-    no_lost k before from lt is_overdue up_t low = by_turn (turned doc k q g role awake (ap (alive q.process) same ∙ up_g) (turn_unset doc q k (led g (tail_trans g T (history doc (suc n)) g_low high))))
+    no_lost k before from lt is_overdue up_t low = by_turn (turned doc rules k q g role awake (ap (alive q.process) same ∙ up_g) (turn_unset doc q k (led g (tail_trans g T (history doc (suc n)) g_low high))))
       where
         g : List Entry
         g = at_turn doc q.process k
@@ -216,7 +218,7 @@ module _ (doc : Doc) (near far a e n : ℕ) (one : 1 ≤ near) (ways : near ≤ 
             (tail_trans (history doc (suc b.f.beat)) (history doc k) g (later_tail doc (suc b.f.beat) k (omega (arith, before, from))) (before_turn doc q.process k))
 
         up_g : alive q.process g ≡ Some q.incarnation
-        up_g = up_between doc (suc n) q b.before g T (tail_trans b.before (b.f ∷ b.before) g (inr (tail_all b.before)) f_low) g_low high up_sent up_t
+        up_g = up_between doc rules (suc n) q b.before g T (tail_trans b.before (b.f ∷ b.before) g (inr (tail_all b.before)) f_low) g_low high up_sent up_t
 
         same : restart doc k q.process g ≡ g
         same = restart_same doc k q.process q.incarnation g up_g
@@ -235,7 +237,7 @@ module _ (doc : Doc) (near far a e n : ℕ) (one : 1 ≤ near) (ways : near ≤ 
             true_is (sym (ap has (waits_between q call T b s.above (tail_trans (b.f ∷ b.before) (restart doc k q.process g) s.above f_restart s.low) (tail_trans s.above (turn doc k q.process g) T s.position turn_low))) ∙ s.idle)
         by_turn (inr (inl s)) =
             none_is (open_as s.kind (next_call q k s.kind s.request s.above))
-            (sym (b.alone (entry k 4 q (Sends (next_call q k s.kind s.request s.above) (request_arrival q.process k s.above))) s.above
+            (sym (b.alone (entry k 4 q (Sends (next_call q k s.kind s.request s.above) (request_arrival doc q.process k s.above))) s.above
             (tail_trans _ (turn doc k q.process g) T s.position turn_low) (tail_trans (b.f ∷ b.before) (restart doc k q.process g) s.above f_restart s.low))
             ∙ ap (λ t. when t (open_as s.kind (next_call q k s.kind s.request s.above))) (same_self q))
 
@@ -314,7 +316,7 @@ module _ (doc : Doc) (near far a e n : ℕ) (one : 1 ≤ near) (ways : near ≤ 
         since from = ⊎_elim (λ lt. no_old c T high b x.beat (beats_low x.beat some_beat (omega arith)) from lt (omega (arith, upto, room))) in_time (cases_lt (b.f.beat + 2 * far) x.beat)
           where
             in_time : x.beat ≤ b.f.beat + 2 * far → ⊥
-            in_time le = omega (arith, goes, short, my_time.timeout, sent_at c T high b, ap (local doc q.process) (sent_at c T high b), ltb-true (local doc q.process c.sent + call_timeout doc q.process) (local doc q.process x.beat) late_at)
+            in_time le = omega (arith, goes, short, my_time.timeout, sent_at c T high b, ap (local doc q.process) (sent_at c T high b), ltb-true (local doc q.process c.sent + call_timeout doc q.process) (local doc q.process x.beat) (sym (is_late-own doc rules q x.beat c) ∙ late_at))
               where
                 late_at : is_late doc q x.beat c ≡ true
                 late_at = subst (λ p. is_late doc p x.beat c ≡ true) whose made.late
@@ -350,10 +352,10 @@ module _ (doc : Doc) (near far a e n : ℕ) (one : 1 ≤ near) (ways : near ≤ 
         up_t = subst (λ (p : Identity). alive p.process T ≡ Some p.incarnation) whose counts.up
 
         o : Origin doc q w reply T x.beat
-        o = origin doc (suc n) q x T w reply at_n mine fact
+        o = origin doc rules (suc n) q x T w reply at_n mine fact
 
         is_key : key_of w.request ≡ election
-        is_key = key doc near far a e n one ways within q role steady my_time none led lasting top lasts K some given refused no_writes w reply T x.beat o high
+        is_key = key doc rules near far a e n one ways within q role steady my_time none led lasting top lasts K some given refused no_writes w reply T x.beat o high
 
         some_beat : 1 ≤ x.beat
         some_beat = omega (arith, y_late, some)
@@ -367,7 +369,7 @@ module _ (doc : Doc) (near far a e n : ℕ) (one : 1 ≤ near) (ways : near ≤ 
         look : w.request ≡ Get election → ⊥
         look get =
             close T low up_t x.beat y_late (omega (arith, upto))
-            (λ le. failed_look doc near far a e n one ways within q role steady my_time none led lasting top lasts K some given refused no_writes T low (stays T low up_t) w reply T x.beat get (tail_all T)
+            (λ le. failed_look doc rules near far a e n one ways within q role steady my_time none led lasting top lasts K some given refused no_writes T low (stays T low up_t) w reply T x.beat get (tail_all T)
             (subst (λ z. IsTail (z ∷ T) (history doc (suc x.beat))) whole (in_own_beat doc (suc n) x T at_n)) y_late le
             (ap (λ z. follow_on doc q x.beat w.kind w.request reply (z ∷ T)) (sym whole) ∙ failed))
 
@@ -404,18 +406,18 @@ module _ (doc : Doc) (near far a e n : ℕ) (one : 1 ≤ near) (ways : near ≤ 
             ap (λ d. has (upper (lead_says q x.actor d) (newest (λ e T. lead_says q e.actor e.fact) T))) fact
             ∙ ap (λ b. has (upper (when b version) (newest (λ e T. lead_says q e.actor e.fact) T))) (when_test (is_by q x.actor) (local doc q.process x.beat) t says)
     timer_from (Expires c) fact made t says lt =
-        expiry c made (and_left (is_by q x.actor) (not (is_fast c.kind)) (when_test (is_by q x.actor && not (is_fast c.kind)) (local doc q.process x.beat + retry_period doc q.process) t says))
-        (recent x.beat (omega (arith, lt, when_value (is_by q x.actor && not (is_fast c.kind)) (local doc q.process x.beat + retry_period doc q.process) t says)))
+        expiry c made (and_left (is_by q x.actor) (not (is_fast c.kind)) (when_test (is_by q x.actor && not (is_fast c.kind)) (retry_at (leads q T) doc q x T) t says))
+        (recent x.beat (omega (arith, lt, sym (retry_at-own doc rules (leads q T) q x T) ∙ when_value (is_by q x.actor && not (is_fast c.kind)) (retry_at (leads q T) doc q x T) t says)))
     timer_from (Delivers w reply true) fact made t says lt = by_follow (follow_on doc q x.beat w.kind w.request reply (x ∷ T)) refl (leads q T) (led T high) value
       where
         mine : x.actor ≡ actor_of q
-        mine = by_is q x.actor (only_test (is_by q x.actor) (timer_follow (follow_on doc q x.beat w.kind w.request reply (x ∷ T)) (leads q T) (local doc q.process x.beat + retry_period doc q.process)) t says)
+        mine = by_is q x.actor (only_test (is_by q x.actor) (timer_follow doc q x T (leads q T) (follow_on doc q x.beat w.kind w.request reply (x ∷ T))) t says)
 
-        value : timer_follow (follow_on doc q x.beat w.kind w.request reply (x ∷ T)) (leads q T) (local doc q.process x.beat + retry_period doc q.process) ≡ Some t
-        value = only_value (is_by q x.actor) (timer_follow (follow_on doc q x.beat w.kind w.request reply (x ∷ T)) (leads q T) (local doc q.process x.beat + retry_period doc q.process)) t says
+        value : timer_follow doc q x T (leads q T) (follow_on doc q x.beat w.kind w.request reply (x ∷ T)) ≡ Some t
+        value = only_value (is_by q x.actor) (timer_follow doc q x T (leads q T) (follow_on doc q x.beat w.kind w.request reply (x ∷ T))) t says
 
-        by_follow : (f : Follow) → follow_on doc q x.beat w.kind w.request reply (x ∷ T) ≡ f → (b : Bool) → b ≡ false → timer_follow f b (local doc q.process x.beat + retry_period doc q.process) ≡ Some t → ⊥
-        by_follow Fails failed b led_b is = reply_failed w reply made mine fact (recent x.beat (omega (arith, lt, some_is (local doc q.process x.beat + retry_period doc q.process) t is))) failed
+        by_follow : (f : Follow) → follow_on doc q x.beat w.kind w.request reply (x ∷ T) ≡ f → (b : Bool) → b ≡ false → timer_follow doc q x T b f ≡ Some t → ⊥
+        by_follow Fails failed b led_b is = reply_failed w reply made mine fact (recent x.beat (omega (arith, lt, sym (retry_at-own doc rules b q x T) ∙ some_is (retry_at b doc q x T) t is))) failed
         by_follow (Asks request) failed b led_b is = not_set t is
         by_follow (Succeeds version) failed true led_b is = true_is led_b
         by_follow (Succeeds version) failed false led_b is = not_set t is
@@ -426,6 +428,10 @@ module _ (doc : Doc) (near far a e n : ℕ) (one : 1 ≤ near) (ways : near ≤ 
     timer_from Crashes fact made t says lt = not_set t says
     timer_from Stops fact made t says lt = not_set t says
     timer_from (Stalls beats) fact made t says lt = not_set t says
+    timer_from StepsDown fact made t says lt = absurd made
+    timer_from (ReleaseBegins at_deadline) fact made t says lt = absurd made
+    timer_from ReleaseEnds fact made t says lt = absurd made
+    timer_from ReleaseStops fact made t says lt = absurd made
     timer_from Ends fact made t says lt = not_set t says
     timer_from (Answers c reply comes wrote) fact made t says lt = not_set t says
     timer_from (Ticks tick) fact made t says lt = not_set t says
@@ -433,7 +439,7 @@ module _ (doc : Doc) (near far a e n : ℕ) (one : 1 ≤ near) (ways : near ≤ 
   -- ---- the turn at beat G
 
   pub none_first : alive q.process (restart doc G q.process (at_turn doc q.process G)) ≡ Some q.incarnation → ⊥
-  none_first up = by_turn (turned doc G q g role awake up (turn_unset doc q G (led g (in_beat g g_high))))
+  none_first up = by_turn (turned doc rules G q g role awake up (turn_unset doc q G (led g (in_beat g g_high))))
     where
       g : List Entry
       g = at_turn doc q.process G
@@ -481,7 +487,7 @@ module _ (doc : Doc) (near far a e n : ℕ) (one : 1 ≤ near) (ways : near ≤ 
               ⊎_elim (λ lt. no_old s.call r (in_beat r r_high) b G low_r from_a lt (omega (arith, room)))
               (λ le. waited s.call r (in_beat r r_high) b low_r from_a (beat_by b.f b.before f_high) le) (cases_lt (b.f.beat + 2 * far) G)
       by_turn (inr (inl s)) =
-          asked x s.above call arrives at_x refl refl (asks_in_turn doc (suc n) x s.above q call arrives at_x refl refl refl role (led s.above (tail_trans s.above (x ∷ s.above) (history doc (suc n)) (inr (tail_all s.above)) at_x)))
+          asked x s.above call arrives at_x refl refl (asks_in_turn doc rules (suc n) x s.above q call arrives at_x refl refl refl role (led s.above (tail_trans s.above (x ∷ s.above) (history doc (suc n)) (inr (tail_all s.above)) at_x)))
           (tail_trans (with_events doc a) r s.above low_0 s.low)
           (stays r low_0 up s.above s.low (tail_trans s.above (x ∷ s.above) (history doc (suc n)) (inr (tail_all s.above)) at_x))
           (omega (arith, after, some, some_wait)) (omega arith) (λ y reply before least most delivered. omega (arith, least, after, some_wait))
@@ -490,7 +496,7 @@ module _ (doc : Doc) (near far a e n : ℕ) (one : 1 ≤ near) (ways : near ≤ 
           call = next_call q G s.kind s.request s.above
 
           arrives : Option ℕ
-          arrives = request_arrival q.process G s.above
+          arrives = request_arrival doc q.process G s.above
 
           x : Entry
           x = entry G 4 q (Sends call arrives)
@@ -502,5 +508,5 @@ module _ (doc : Doc) (near far a e n : ℕ) (one : 1 ≤ near) (ways : near ≤ 
           by_timer : Timed doc q s.above → ⊥
           by_timer t =
               timer_from t.x t.before (tail_trans (t.x ∷ t.before) s.above (history doc (suc G)) t.position (tail_trans s.above (turn doc G q.process g) (history doc (suc G)) s.position turn_high))
-              t.x.fact refl (are_made doc (suc G) t.x t.before (tail_trans (t.x ∷ t.before) s.above (history doc (suc G)) t.position (tail_trans s.above (turn doc G q.process g) (history doc (suc G)) s.position turn_high)))
+              t.x.fact refl (are_made doc rules (suc G) t.x t.before (tail_trans (t.x ∷ t.before) s.above (history doc (suc G)) t.position (tail_trans s.above (turn doc G q.process g) (history doc (suc G)) s.position turn_high)))
               (timer doc q s.above) t.says (ltb-true (local doc q.process G) (timer doc q s.above) s.ahead)

@@ -6,6 +6,7 @@ use Rattle.kube_objects.specs.Entry.{Entry, Identity, Call, Sends, Answers, acto
 use Rattle.kube_objects.specs.Newest.{has}
 use Rattle.kube_objects.specs.Stored.{election, request_write, at_key, stored}
 use Rattle.kube_objects.specs.Wire.{request_arrival, reply_arrival}
+use Rattle.kube_objects.specs.Own.{IsOwn}
 use Rattle.history.specs.History.{history}
 use Rattle.history_laws.specs.Tails.{IsTail}
 use Rattle.history_laws.proofs.Tailed.{tail_all, tail_trans, later_tail}
@@ -25,15 +26,15 @@ pub record IsKept (doc : Doc) (far settled n : ℕ) : Type 0 where
   pub stays : (m : ℕ) → settled + far ≤ m → m + far ≤ n → (g : List Entry) → IsTail (history doc (settled + far)) g → IsTail g (history doc (suc m)) → stored election g ≡ stored election (history doc (settled + far))
 
 -- so none is sent
-pub no_takeover : (doc : Doc) (near far a settled e n : ℕ) → IsKept doc far settled n → a ≤ settled → 1 ≤ near → near ≤ far → n ≤ e
+pub no_takeover : (doc : Doc) → IsOwn doc → (near far a settled e n : ℕ) → IsKept doc far settled n → a ≤ settled → 1 ≤ near → near ≤ far → n ≤ e
     → (q : Identity) → is_controller doc q.process ≡ true → IsSteady doc near far a e q.process
     → (m : ℕ) (x : Entry) (T : List Entry) (call : Call) (arrives : Option ℕ) → IsTail (x ∷ T) (history doc m) → x.actor ≡ actor_of q → x.fact ≡ Sends call arrives → 2 ≤ x.step
     → settled + far ≤ x.beat + near → x.beat + 2 * far ≤ n → settled ≤ x.beat → FitsStored (stored election (history doc (settled + far))) call.request → ⊥
-no_takeover doc near far a settled e n kept ordered one ways within q role steady m x T call arrives stands actor fact step after late from fits =
+no_takeover doc rules near far a settled e n kept ordered one ways within q role steady m x T call arrives stands actor fact step after late from fits =
     kept.no_write answer_entry r.before q answer_at refl role (since, wrote) (omega (arith, r.most, late))
   where
     r : IsRound doc near far q call arrives x.beat
-    r = rounds_in doc near far a e q steady one m x T call arrives stands actor fact step (omega (arith, ordered, from)) (omega (arith, late, within)) (λ k is most. omega (arith, most, late, within))
+    r = rounds_in doc rules near far a e q steady one m x T call arrives stands actor fact step (omega (arith, ordered, from)) (omega (arith, late, within)) (λ k is most. omega (arith, most, late, within))
 
     in_time : r.at + far ≤ n
     in_time = omega (arith, r.most, late)
@@ -46,7 +47,7 @@ no_takeover doc near far a settled e n kept ordered one ways within q role stead
 
     since : settled ≤ call.sent
     since =
-        let sent : call.sent ≡ x.beat = (subst (λ o. IfSome o (λ s. (s.call.sent ≡ x.beat) × (s.arrives ≡ request_arrival s.who.process x.beat T))) (sent_is x q call arrives actor fact) (messages_travel doc m x T stands).0).0 in
+        let sent : call.sent ≡ x.beat = (subst (λ o. IfSome o (λ s. (s.call.sent ≡ x.beat) × (s.arrives ≡ request_arrival doc s.who.process x.beat T))) (sent_is x q call arrives actor fact) (messages_travel doc rules m x T stands).0).0 in
         omega (arith, sent, from)
 
     same : stored election r.before ≡ stored election (history doc (settled + far))

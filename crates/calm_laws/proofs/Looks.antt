@@ -6,8 +6,8 @@ use Rattle.kube_objects.proofs.Clocks.{local_up}
 use Rattle.kube_objects.specs.Answers.{lease_in, versioned, as_kind, answer_get, answer}
 use Rattle.kube_objects.specs.Clocks.{local}
 use Rattle.kube_objects.specs.Document.{Doc, is_controller, of_seconds, retry_period}
-use Rattle.kube_objects.specs.Elector.{Moment, moment, Follow, Fails, Asks, Succeeds, is_blocked, is_valid, updated, created, follow_get, follow, follow_on, leads, Shown, told, shows, shown, is_known, newly, found_shows, observed, observed_at, done_shows}
-use Rattle.kube_objects.specs.Entry.{Entry, Identity, Call, Plain, Sends, Delivers, actor_of, entry, Fact, First, Event, Starts, Stops, Answers, Expires, Leads, Ends, Crashes, Stalls, Ticks}
+use Rattle.kube_objects.specs.Elector.{Moment, moment, Follow, Fails, Asks, Succeeds, is_blocked, is_valid, updated, created, follow_get, follow, follow_on, leads, Shown, told, shows, shown, is_known, newly, found_shows, observed, observed_at, done_shows, respected}
+use Rattle.kube_objects.specs.Entry.{Entry, Identity, Call, Plain, Sends, Delivers, actor_of, entry, Fact, First, Event, Starts, Stops, Answers, Expires, Leads, Ends, Crashes, Stalls, Ticks, StepsDown, ReleaseBegins, ReleaseEnds, ReleaseStops}
 use Rattle.kube_objects.specs.Identities.{is_other, is_by}
 use Rattle.kube_objects.specs.Newest.{only_if, or_zero}
 use Rattle.kube_objects.specs.Process.{alive, open_as}
@@ -22,6 +22,8 @@ use Rattle.kube_objects.specs.declared.lease.Lease.{Lease}
 use Rattle.kube_objects.specs.declared.object.Object.{Object}
 use Rattle.kube_objects.specs.declared.lease.Holder.TheVariants as holder
 use Rattle.kube_objects.specs.declared.object.Object.TheVariants as object
+use Rattle.kube_objects.specs.declared.rules.RespectRule.TheVariants.{Record}
+use Rattle.kube_objects.specs.Own.{IsOwn}
 use Rattle.history.specs.History.{history}
 use Rattle.history.specs.Safe.{Acts}
 use Rattle.history_laws.proofs.Counting.{only_test, only_value}
@@ -60,7 +62,7 @@ fails_succeeds version is = cc
 
 pub get_writes : (q : Identity) (m : Moment) (seen : ℕ) (reply : Reply) (r : Request) → follow_get q m seen reply ≡ Asks r → IsWrite r
 get_writes q m seen Absent r is = subst IsWrite (asks_same (Create election (created q m)) r is) tt
-get_writes q m seen (Found version lease) r is = by_test (is_blocked q m.now seen lease) is
+get_writes q m seen (Found version lease) r is = by_test (is_blocked q m.now seen (respected m.respect m.seconds lease)) is
   where
     by_test : (b : Bool) → cond b Fails (Asks (Update election version (updated q m lease))) ≡ Asks r → IsWrite r
     by_test true is = absurd (fails_not r is)
@@ -72,7 +74,7 @@ get_writes q m seen Unchanged r is = absurd (fails_not r is)
 
 pub get_no_success : (q : Identity) (m : Moment) (seen : ℕ) (reply : Reply) (v : Version) → follow_get q m seen reply ≡ Succeeds v → ⊥
 get_no_success q m seen Absent v is = asks_succeeds (Create election (created q m)) v is
-get_no_success q m seen (Found version lease) v is = by_test (is_blocked q m.now seen lease) is
+get_no_success q m seen (Found version lease) v is = by_test (is_blocked q m.now seen (respected m.respect m.seconds lease)) is
   where
     by_test : (b : Bool) → cond b Fails (Asks (Update election version (updated q m lease))) ≡ Succeeds v → ⊥
     by_test true is = fails_succeeds v is
@@ -103,23 +105,26 @@ pub record Blocked (q : Identity) (m : Moment) (seen : ℕ) (reply : Reply) (tim
   pub found : reply ≡ Found version lease
   pub before : m.now < seen + time
 
-pub blocked_by : (q : Identity) (m : Moment) (seen time : ℕ) (o : Option Held) → LastsFor time (object_of o) → follow_get q m seen (answer_get (as_kind lease_in o)) ≡ Fails → Blocked q m seen (answer_get (as_kind lease_in o)) time
-blocked_by q m seen time None lasts is = absurd (asks_fails (Create election (created q m)) is)
-blocked_by q m seen time (Some x) lasts is = by_object x.object lasts is
+pub blocked_by : (q : Identity) (m : Moment) → m.respect ≡ Record → (seen time : ℕ) (o : Option Held) → LastsFor time (object_of o) → follow_get q m seen (answer_get (as_kind lease_in o)) ≡ Fails → Blocked q m seen (answer_get (as_kind lease_in o)) time
+blocked_by q m own seen time None lasts is = absurd (asks_fails (Create election (created q m)) is)
+blocked_by q m own seen time (Some x) lasts is = by_object x.object lasts is
   where
     by_object : (y : Object) → LastsFor time (Some y) → follow_get q m seen (answer_get (versioned x.version (lease_in y))) ≡ Fails → Blocked q m seen (answer_get (versioned x.version (lease_in y))) time
     by_object (object.Node node) lasts is = absurd lasts
     by_object (object.Pod pod) lasts is = absurd lasts
-    by_object (object.Lease lease) lasts is = by_test (is_blocked q m.now seen lease) refl is
+    by_object (object.Lease lease) lasts is = by_test (is_blocked q m.now seen (respected m.respect m.seconds lease)) refl is
       where
+        blocks_so : is_blocked q m.now seen (respected m.respect m.seconds lease) ≡ is_blocked q m.now seen lease
+        blocks_so = ap (λ rule. is_blocked q m.now seen (respected rule m.seconds lease)) own
+
         bounded : is_blocked q m.now seen lease ≡ true → (lease.holder ≡ holder.Nobody) ⊎ (of_seconds (or_zero lease.duration) ≤ time) → m.now < seen + time
         bounded blocks (inl nobody) = absurd (true_is (sym (and_left (is_other q lease.holder) (is_valid m.now seen lease) blocks) ∙ ap (is_other q) nobody))
         bounded blocks (inr le) =
             let lt : m.now < seen + of_seconds (or_zero lease.duration) = ltb-true m.now (seen + of_seconds (or_zero lease.duration)) (and_right (is_other q lease.holder) (is_valid m.now seen lease) blocks) in
             omega (arith, lt, le)
 
-        by_test : (b : Bool) → is_blocked q m.now seen lease ≡ b → cond b Fails (Asks (Update election x.version (updated q m lease))) ≡ Fails → Blocked q m seen (Found x.version lease) time
-        by_test true blocks is = record { version = x.version; lease = lease; found = refl; before = bounded blocks lasts }
+        by_test : (b : Bool) → is_blocked q m.now seen (respected m.respect m.seconds lease) ≡ b → cond b Fails (Asks (Update election x.version (updated q m lease))) ≡ Fails → Blocked q m seen (Found x.version lease) time
+        by_test true blocks is = record { version = x.version; lease = lease; found = refl; before = bounded (sym blocks_so ∙ blocks) lasts }
         by_test false blocks is = absurd (asks_fails (Update election x.version (updated q m lease)) is)
 
 -- what was seen was seen by the last of these entries
@@ -137,7 +142,7 @@ seen_upto q o (x ∷ h) all = by_shows (shows q x.actor x.fact) (seen_upto q o h
 
 -- ---- looks
 
-module _ (doc : Doc) (near far a e n : ℕ) (one : 1 ≤ near) (ways : near ≤ far) (within : n ≤ e) (q : Identity) (role : is_controller doc q.process ≡ true)
+module _ (doc : Doc) (rules : IsOwn doc) (near far a e n : ℕ) (one : 1 ≤ near) (ways : near ≤ far) (within : n ≤ e) (q : Identity) (role : is_controller doc q.process ≡ true)
     (steady : IsSteady doc near far a e q.process) (my_time : IsInTime doc far a e q.process) (none : (k : ℕ) → a ≤ k → k ≤ n → Acts doc q k → ⊥) (led : (h : List Entry) → IsTail h (history doc (suc n)) → leads q h ≡ false)
     (lasting : ℕ) (top : Option Held) (lasts : LastsFor lasting (object_of top)) (K : ℕ) (some : a < K)
     (given : (w : Call) (reply : Reply) (T : List Entry) (y : ℕ) → (o : Origin doc q w reply T y) → IsTail T (history doc (suc n)) → w.request ≡ Get election → K ≤ y → y + far ≤ n → o.e.beat + far ≤ n → reply ≡ answer_get (as_kind lease_in top))
@@ -162,7 +167,7 @@ module _ (doc : Doc) (near far a e n : ℕ) (one : 1 ≤ near) (ways : near ≤ 
     pub key : key_of w.request ≡ election
     key =
         reason_key doc o.begun.f.beat q w.request o.begun.before
-        (reason_of doc (suc n) q role o.begun.f o.begun.before w o.begun.arrives sending o.begun.actor o.begun.fact (led o.begun.before before_sending) o.begun.opens).0
+        (reason_of doc rules (suc n) q role o.begun.f o.begun.before w o.begun.arrives sending o.begun.actor o.begun.fact (led o.begun.before before_sending) o.begun.opens).0
 
   -- ---- what it was shown stays
 
@@ -187,7 +192,7 @@ module _ (doc : Doc) (near far a e n : ℕ) (one : 1 ≤ near) (ways : near ≤ 
         counts w reply actor fact told_is = by_request w.request refl told_is
           where
             from_it : Origin doc q w reply Z z.beat
-            from_it = origin doc (suc n) q z Z w reply at_n actor fact
+            from_it = origin doc rules (suc n) q z Z w reply at_n actor fact
 
             soon : from_it.e.beat + far ≤ n
             soon =
@@ -226,6 +231,10 @@ module _ (doc : Doc) (near far a e n : ℕ) (one : 1 ≤ near) (ways : near ≤ 
         cases Crashes fact is = absurd (none_is s is)
         cases Stops fact is = absurd (none_is s is)
         cases (Stalls beats) fact is = absurd (none_is s is)
+        cases StepsDown fact is = absurd (none_is s is)
+        cases (ReleaseBegins at_deadline) fact is = absurd (none_is s is)
+        cases ReleaseEnds fact is = absurd (none_is s is)
+        cases ReleaseStops fact is = absurd (none_is s is)
         cases Ends fact is = absurd (none_is s is)
         cases (Leads v) fact is = absurd (none_is s is)
 
@@ -283,7 +292,7 @@ module _ (doc : Doc) (near far a e n : ℕ) (one : 1 ≤ near) (ways : near ≤ 
         high = tail_trans before (entry r 3 q (Delivers w reply true) ∷ before) (history doc (suc n)) (inr (tail_all before)) there
 
         o : Origin doc q w reply before r
-        o = origin doc (suc n) q (entry r 3 q (Delivers w reply true)) before w reply there refl refl
+        o = origin doc rules (suc n) q (entry r 3 q (Delivers w reply true)) before w reply there refl refl
 
         upto : o.e.beat ≤ r
         upto =
@@ -317,7 +326,7 @@ module _ (doc : Doc) (near far a e n : ℕ) (one : 1 ≤ near) (ways : near ≤ 
     }
       where
         s : IsReacted doc near far q call arrives x.beat
-        s = replies_react doc near far a e n q role steady my_time one within x T call arrives at actor fact from to (λ h below above. up h (tail_trans start T h low below) above)
+        s = replies_react doc rules near far a e n q role steady my_time one within x T call arrives at actor fact from to (λ h below above. up h (tail_trans start T h low below) above)
 
         r : ℕ
         r = s.round.comes
@@ -340,17 +349,17 @@ module _ (doc : Doc) (near far a e n : ℕ) (one : 1 ≤ near) (ways : near ≤ 
         get_follow f is = ap (λ request. follow q (moment doc q r) (observed_at doc q here) call.kind request reply) (sym get) ∙ is
 
         delivered_at : IsTail here (history doc (suc r))
-        delivered_at = tail_trans here _ (history doc (suc r)) (follow_adds r q (leads q here) (follow_on doc q r call.kind call.request reply here) here) s.position
+        delivered_at = tail_trans here _ (history doc (suc r)) (follow_adds doc r q (leads q here) (follow_on doc q r call.kind call.request reply here) here) s.position
 
         look : K ≤ r → r + 2 * far ≤ n → Look r
         look later time_left = by_follow (follow_on doc q r call.kind call.request reply here) refl s.position
           where
-            by_follow : (f : Follow) → follow_on doc q r call.kind call.request reply here ≡ f → IsTail (react r q (leads q here) f here) (history doc (suc r)) → Look r
+            by_follow : (f : Follow) → follow_on doc q r call.kind call.request reply here ≡ f → IsTail (react doc r q (leads q here) f here) (history doc (suc r)) → Look r
             by_follow Fails is position = failed_look call reply s.before r get below position later time_left is
             by_follow (Succeeds version) is position = absurd (get_no_success q (moment doc q r) (observed_at doc q here) reply version (get_follow (Succeeds version) is))
             by_follow (Asks request) is position =
                 absurd (no_writes
-                (entry r 3 q (Sends (next_call q r Plain request here) (request_arrival q.process r here))) here (next_call q r Plain request here) (request_arrival q.process r here)
+                (entry r 3 q (Sends (next_call q r Plain request here) (request_arrival doc q.process r here))) here (next_call q r Plain request here) (request_arrival doc q.process r here)
                 (tail_trans _ (history doc (suc r)) (history doc (suc n)) position (later_tail doc (suc r) (suc n) (omega (arith, time_left)))) refl refl refl
                 (get_writes q (moment doc q r) (observed_at doc q here) reply request (get_follow (Asks request) is)) (omega (arith, later)) time_left)
 
@@ -411,7 +420,7 @@ module _ (doc : Doc) (near far a e n : ℕ) (one : 1 ≤ near) (ways : near ≤ 
 
               h : HasAsked doc q (local doc q.process r + retry_period doc q.process) here (history doc (suc k))
               h =
-                  candidates_ask doc near far a e n r k q role my_time.deadline steady within none (omega (arith, late, some)) s.w s.reply s.before (tail_trans (with_events doc a) start s.before after s.low) at
+                  candidates_ask doc rules near far a e n r k q role my_time.deadline steady within none (omega (arith, late, some)) s.w s.reply s.before (tail_trans (with_events doc a) start s.before after s.low) at
                   (up s.before s.low (tail_trans s.before here (history doc (suc n)) (inr (tail_all s.before)) at)) s.failed (omega (arith, some_wait)) le
                   (readings_grow doc q.process from e slow (retry_period doc q.process) wait runs_least wait_is r k (omega (arith, late, low_from)) (omega arith) (omega (arith, le, within)))
 
@@ -444,7 +453,7 @@ module _ (doc : Doc) (near far a e n : ℕ) (one : 1 ≤ near) (ways : near ≤ 
 
         blocked : (r : ℕ) (s : Look r) → Blocked q (moment doc q r) (observed_at doc q (entry r 3 q (Delivers s.w s.reply true) ∷ s.before)) there_is lasting
         blocked r s =
-            blocked_by q (moment doc q r) seen lasting top lasts
+            blocked_by q (moment doc q r) (ap (λ r. r.respect) rules.rules) seen lasting top lasts
             (ap (λ reply. follow q (moment doc q r) seen s.w.kind (Get election) reply) (sym s.shows_it) ∙ ap (λ request. follow q (moment doc q r) seen s.w.kind request s.reply) (sym s.get) ∙ s.failed)
           where
             seen : ℕ

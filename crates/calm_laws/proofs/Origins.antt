@@ -6,11 +6,12 @@ use Rattle.kube_objects.specs.declared.deed.Actor.TheVariants as actors
 use Rattle.kube_objects.specs.declared.object.Object.{Object}
 use Rattle.kube_objects.specs.Answers.{answer, written}
 use Rattle.kube_objects.specs.Document.{Doc}
-use Rattle.kube_objects.specs.Entry.{Entry, Identity, Call, Fact, First, Event, Starts, Stops, Sends, Answers, Delivers, Expires, Leads, Ends, Crashes, Stalls, Ticks, actor_of}
+use Rattle.kube_objects.specs.Entry.{Entry, Identity, Call, Fact, First, Event, Starts, Stops, Sends, Answers, Delivers, Expires, Leads, Ends, Crashes, Stalls, Ticks, actor_of, StepsDown, ReleaseBegins, ReleaseEnds, ReleaseStops}
 use Rattle.kube_objects.specs.Identities.{is_by}
 use Rattle.kube_objects.specs.Newest.{added}
 use Rattle.kube_objects.specs.Process.{is_send, begun, call_in}
 use Rattle.kube_objects.specs.Wire.{Back, back_of, reply_arrival}
+use Rattle.kube_objects.specs.Own.{IsOwn}
 use Rattle.history.specs.History.{history}
 use Rattle.history_laws.specs.Tails.{IsTail}
 use Rattle.history_laws.proofs.Counting.{CountedFor, counted_is}
@@ -25,25 +26,25 @@ use Rattle.calm_laws.proofs.Begun.{Begun, begun_by}
 
 -- ---- two requests of one number are one entry
 
-numbered : (doc : Doc) (m : ℕ) (q : Identity) (x : Entry) (T : List Entry) (call : Call) (arrives : Option ℕ) → IsTail (x ∷ T) (history doc m) → x.actor ≡ actor_of q → x.fact ≡ Sends call arrives
+numbered : (doc : Doc) → IsOwn doc → (m : ℕ) (q : Identity) (x : Entry) (T : List Entry) (call : Call) (arrives : Option ℕ) → IsTail (x ∷ T) (history doc m) → x.actor ≡ actor_of q → x.fact ≡ Sends call arrives
     → (call.number ≡ begun q T + 1) × (begun q (x ∷ T) ≡ begun q T + 1)
-numbered doc m q x T call arrives at actor fact = (ap (λ (c : Call). c.number) made.call_is ∙ ap (λ p. begun p T + 1) (actor_is made.q q (sym made.by ∙ actor)), counts)
+numbered doc rules m q x T call arrives at actor fact = (ap (λ (c : Call). c.number) made.call_is ∙ ap (λ p. begun p T + 1) (actor_is made.q q (sym made.by ∙ actor)), counts)
   where
     made : MadeSend doc x.beat x.step x.actor call arrives T
-    made = subst (λ d. MadeAs doc x.beat x.step x.actor d T) fact (are_made doc m x T at)
+    made = subst (λ d. MadeAs doc x.beat x.step x.actor d T) fact (are_made doc rules m x T at)
 
     counts : begun q (x ∷ T) ≡ begun q T + 1
     counts = ap (λ d. added (is_send d && is_by q x.actor) (begun q T)) fact ∙ ap (λ who. added (is_by q who) (begun q T)) actor ∙ ap (λ b. added b (begun q T)) (same_self q)
 
-pub sends_differ : (doc : Doc) (m : ℕ) (q : Identity) (x y : Entry) (S T : List Entry) (c d : Call) (i j : Option ℕ) → IsTail (x ∷ S) (history doc m) → IsTail (y ∷ T) (history doc m)
+pub sends_differ : (doc : Doc) → IsOwn doc → (m : ℕ) (q : Identity) (x y : Entry) (S T : List Entry) (c d : Call) (i j : Option ℕ) → IsTail (x ∷ S) (history doc m) → IsTail (y ∷ T) (history doc m)
     → x.actor ≡ actor_of q → y.actor ≡ actor_of q → x.fact ≡ Sends c i → y.fact ≡ Sends d j → c.number ≡ d.number → x ∷ S ≡ y ∷ T
-sends_differ doc m q x y S T c d i j at_x at_y mine_x mine_y fact_x fact_y same = ⊎_elim below above (tails_meet (x ∷ S) (y ∷ T) (history doc m) at_x at_y)
+sends_differ doc rules m q x y S T c d i j at_x at_y mine_x mine_y fact_x fact_y same = ⊎_elim below above (tails_meet (x ∷ S) (y ∷ T) (history doc m) at_x at_y)
   where
     nx : (c.number ≡ begun q S + 1) × (begun q (x ∷ S) ≡ begun q S + 1)
-    nx = numbered doc m q x S c i at_x mine_x fact_x
+    nx = numbered doc rules m q x S c i at_x mine_x fact_x
 
     ny : (d.number ≡ begun q T + 1) × (begun q (y ∷ T) ≡ begun q T + 1)
-    ny = numbered doc m q y T d j at_y mine_y fact_y
+    ny = numbered doc rules m q y T d j at_y mine_y fact_y
 
     below : IsTail (x ∷ S) (y ∷ T) → x ∷ S ≡ y ∷ T
     below (inl is) = is
@@ -76,6 +77,10 @@ answer_facts who Starts b is = absurd (none_is b is)
 answer_facts who Crashes b is = absurd (none_is b is)
 answer_facts who Stops b is = absurd (none_is b is)
 answer_facts who (Stalls beats) b is = absurd (none_is b is)
+answer_facts who StepsDown b is = absurd (none_is b is)
+answer_facts who (ReleaseBegins at_deadline) b is = absurd (none_is b is)
+answer_facts who ReleaseEnds b is = absurd (none_is b is)
+answer_facts who ReleaseStops b is = absurd (none_is b is)
 answer_facts who Ends b is = absurd (none_is b is)
 answer_facts who (Leads version) b is = absurd (none_is b is)
 
@@ -93,8 +98,8 @@ pub record Origin (doc : Doc) (q : Identity) (w : Call) (reply : Reply) (T : Lis
   pub sent_low : IsTail (begun.f ∷ begun.before) low
   pub arrives : begun.arrives ≡ Some e.beat
 
-pub origin : (doc : Doc) (m : ℕ) (q : Identity) (x : Entry) (T : List Entry) (w : Call) (reply : Reply) → IsTail (x ∷ T) (history doc m) → x.actor ≡ actor_of q → x.fact ≡ Delivers w reply true → Origin doc q w reply T x.beat
-origin doc m q x T w reply at actor fact = record {
+pub origin : (doc : Doc) → IsOwn doc → (m : ℕ) (q : Identity) (x : Entry) (T : List Entry) (w : Call) (reply : Reply) → IsTail (x ∷ T) (history doc m) → x.actor ≡ actor_of q → x.fact ≡ Delivers w reply true → Origin doc q w reply T x.beat
+origin doc rules m q x T w reply at actor fact = record {
   e = e;
   low = low;
   answered = place.position;
@@ -112,7 +117,7 @@ origin doc m q x T w reply at actor fact = record {
 }
   where
     made : MadeDelivery doc x.beat x.step x.actor w reply T
-    made = subst (λ d. MadeAs doc x.beat x.step x.actor d T) fact (are_made doc m x T at)
+    made = subst (λ d. MadeAs doc x.beat x.step x.actor d T) fact (are_made doc rules m x T at)
 
     mine : made.b.who ≡ q
     mine = actor_is made.b.who q (sym made.by ∙ actor)
@@ -136,7 +141,7 @@ origin doc m q x T w reply at actor fact = record {
     facts = answer_facts e.actor e.fact made.b made.coming.is
 
     answering : MadeAnswer doc e.beat e.step e.actor made.b.call made.b.reply made.b.comes facts.wrote low
-    answering = subst (λ d. MadeAs doc e.beat e.step e.actor d low) facts.fact (are_made doc m e low (tail_trans (e ∷ low) T (history doc m) place.position at_t))
+    answering = subst (λ d. MadeAs doc e.beat e.step e.actor d low) facts.fact (are_made doc rules m e low (tail_trans (e ∷ low) T (history doc m) place.position at_t))
 
     whose : answering.s.who ≡ q
     whose = actor_is answering.s.who q (sym answering.by ∙ facts.by ∙ ap actor_of mine)
@@ -155,7 +160,7 @@ origin doc m q x T w reply at actor fact = record {
 
     same : b.f ∷ b.before ≡ answering.arriving.e ∷ asked.before
     same =
-        sends_differ doc m q b.f answering.arriving.e b.before asked.before w answering.s.call b.arrives answering.s.arrives
+        sends_differ doc rules m q b.f answering.arriving.e b.before asked.before w answering.s.call b.arrives answering.s.arrives
         (tail_trans (b.f ∷ b.before) T (history doc m) b.position at_t)
         (tail_trans (answering.arriving.e ∷ asked.before) low (history doc m) asked.position (tail_trans low T (history doc m) (tail_trans low (e ∷ low) T (inr (tail_all low)) place.position) at_t))
         b.actor (sent.0 ∙ ap actor_of whose) b.fact sent.1 (counts.number ∙ ap (λ (c : Call). c.number) answering.call_is)

@@ -10,13 +10,14 @@ use Rattle.kube_objects.specs.declared.lease.Lease.{Lease}
 use Rattle.kube_objects.specs.declared.object.Object.TheVariants as object
 use Rattle.kube_objects.specs.Answers.{lease_in, versioned, as_kind, answer_get, answer, if_done, written}
 use Rattle.kube_objects.specs.Document.{Doc, is_controller}
-use Rattle.kube_objects.specs.Elector.{Moment, moment, Fails, Asks, follow_get, follow, is_blocked, updated, created, leads, observed_at}
+use Rattle.kube_objects.specs.Elector.{Moment, moment, Fails, Asks, follow_get, follow, is_blocked, updated, created, leads, observed_at, respected}
 use Rattle.kube_objects.specs.Entry.{Entry, Identity, Call, Sends, Answers, Delivers, actor_of, entry}
 use Rattle.kube_objects.specs.Keys.{key_eq}
 use Rattle.kube_objects.specs.Newest.{when, has}
 use Rattle.kube_objects.specs.Process.{open_as}
 use Rattle.kube_objects.specs.Stored.{Held, election, key_of, request_write, at_key, stored}
 use Rattle.kube_objects.specs.Wire.{sent_of, back_of, request_delay, reply_delay, request_arrival}
+use Rattle.kube_objects.specs.Own.{IsOwn}
 use Rattle.history.specs.History.{history}
 use Rattle.history_laws.specs.Tails.{In, IsTail}
 use Rattle.history_laws.proofs.Order.{entries_are_earlier}
@@ -42,7 +43,7 @@ HasLease (Some x) = (lease : Lease) × (lease_in x.object ≡ Some lease)
 -- a write that follows a Get that showed what is stored fits it
 fits_of : (q : Identity) (m : Moment) (seen : ℕ) (o : Option Held) (r : Request) → HasLease o → follow_get q m seen (answer_get (as_kind lease_in o)) ≡ Asks r → FitsStored o r
 fits_of q m seen None r lease is = subst (FitsStored None) (asks_same (Create election (created q m)) r is) refl
-fits_of q m seen (Some x) r lease is = by_test (is_blocked q m.now seen lease.0) (ap (λ l. follow_get q m seen (answer_get (versioned x.version l))) (sym lease.1) ∙ is)
+fits_of q m seen (Some x) r lease is = by_test (is_blocked q m.now seen (respected m.respect m.seconds lease.0)) (ap (λ l. follow_get q m seen (answer_get (versioned x.version l))) (sym lease.1) ∙ is)
   where
     by_test : (b : Bool) → cond b Fails (Asks (Update election x.version (updated q m lease.0))) ≡ Asks r → FitsStored (Some x) r
     by_test true is = absurd (fails_not r is)
@@ -57,7 +58,7 @@ wrote_by (Update key given lease) h version w is done =
 wrote_by (Get key) h version w is done = absurd w
 wrote_by (PostStatus name status at) h version w is done = absurd w
 
-module _ (doc : Doc) (near far a settled e n : ℕ) (calm : IsCalm doc near far a e) (one : 1 ≤ near) (ways : near ≤ far) (ordered : a ≤ settled) (within : n ≤ e)
+module _ (doc : Doc) (rules : IsOwn doc) (near far a settled e n : ℕ) (calm : IsCalm doc near far a e) (one : 1 ≤ near) (ways : near ≤ far) (ordered : a ≤ settled) (within : n ≤ e)
     (kept : IsKept doc far settled n) (q : Identity) (role : is_controller doc q.process ≡ true) (steady : IsSteady doc near far a e q.process)
     (led : (h : List Entry) → IsTail h (history doc (suc n)) → leads q h ≡ false) (lease : HasLease (stored election (history doc (settled + far)))) where
   abbrev pub stored_reply : Reply
@@ -79,7 +80,7 @@ module _ (doc : Doc) (near far a settled e n : ℕ) (calm : IsCalm doc near far 
     pub key : key_of w.request ≡ election
     key =
         reason_key doc o.begun.f.beat q w.request o.begun.before
-        (reason_of doc (suc n) q role o.begun.f o.begun.before w o.begun.arrives sending o.begun.actor o.begun.fact (led o.begun.before before_sending) o.begun.opens).0
+        (reason_of doc rules (suc n) q role o.begun.f o.begun.before w o.begun.arrives sending o.begun.actor o.begun.fact (led o.begun.before before_sending) o.begun.opens).0
 
     key_is : key_eq (key_of w.request) election ≡ true
     key_is = ap (λ k. key_eq k election) key
@@ -108,7 +109,7 @@ module _ (doc : Doc) (near far a settled e n : ℕ) (calm : IsCalm doc near far 
             comes : o.e.beat + reply_delay q.process (with_events doc o.e.beat) ≡ y
             comes =
                 some_is (o.e.beat + reply_delay q.process (with_events doc o.e.beat)) y
-                (sym (reply_passes doc near far q.process o.e.beat o.low passes (forces_stand doc (suc n) o.e o.low position (omega (arith, o.step)))
+                (sym (reply_passes doc near far q.process o.e.beat o.low passes (forces_stand doc rules (suc n) o.e o.low position (omega (arith, o.step)))
                 (steady.passes (o.e.beat + reply_delay q.process (with_events doc o.e.beat)) (omega (arith, from)) (omega (arith, passes.reply_most, lt, late, to, within))).awake)
                 ∙ o.comes_is)
 
@@ -116,14 +117,14 @@ module _ (doc : Doc) (near far a settled e n : ℕ) (calm : IsCalm doc near far 
     answered_by = ⊎_elim (λ lt. omega (arith, lt)) (λ first. omega (arith, first.0)) (entries_are_earlier doc (suc n) o.e (in_head o.e o.low (history doc (suc n)) position))
 
     asked_in : Reason doc o.begun.f.beat q w.request o.begun.before × (3 ≤ o.begun.f.step)
-    asked_in = reason_of doc (suc n) q role o.begun.f o.begun.before w o.begun.arrives sending o.begun.actor o.begun.fact (led o.begun.before before_sending) o.begun.opens
+    asked_in = reason_of doc rules (suc n) q role o.begun.f o.begun.before w o.begun.arrives sending o.begun.actor o.begun.fact (led o.begun.before before_sending) o.begun.opens
 
     -- so its request was sent in the calm
     pub sent_since : settled + far ≤ o.e.beat → settled ≤ o.begun.f.beat
     sent_since late = ⊎_elim (λ lt. absurd (early lt)) (λ from. ⊎_elim (λ lt. absurd (soon from lt)) (λ le. le) (cases_lt o.begun.f.beat settled)) (cases_lt o.begun.f.beat a)
       where
-        travels : IfSome (sent_of o.begun.f.actor o.begun.f.fact) (λ s. (s.call.sent ≡ o.begun.f.beat) × (s.arrives ≡ request_arrival s.who.process o.begun.f.beat o.begun.before))
-        travels = (messages_travel doc (suc n) o.begun.f o.begun.before sending).0
+        travels : IfSome (sent_of o.begun.f.actor o.begun.f.fact) (λ s. (s.call.sent ≡ o.begun.f.beat) × (s.arrives ≡ request_arrival doc s.who.process o.begun.f.beat o.begun.before))
+        travels = (messages_travel doc rules (suc n) o.begun.f o.begun.before sending).0
 
         soon : a ≤ o.begun.f.beat → o.begun.f.beat < settled → ⊥
         soon from lt = omega (arith, arrives, passes.request_most, late, lt)
@@ -135,8 +136,8 @@ module _ (doc : Doc) (near far a settled e n : ℕ) (calm : IsCalm doc near far 
             arrives =
                 some_is o.e.beat (o.begun.f.beat + request_delay q.process (with_events doc o.begun.f.beat))
                 (sym o.arrives
-                ∙ (subst (λ p. IfSome p (λ s. (s.call.sent ≡ o.begun.f.beat) × (s.arrives ≡ request_arrival s.who.process o.begun.f.beat o.begun.before))) (sent_is o.begun.f q w o.begun.arrives o.begun.actor o.begun.fact) travels).1
-                ∙ request_passes doc near far q.process o.begun.f.beat o.begun.before passes (forces_stand doc (suc n) o.begun.f o.begun.before sending (omega (arith, asked_in.1))))
+                ∙ (subst (λ p. IfSome p (λ s. (s.call.sent ≡ o.begun.f.beat) × (s.arrives ≡ request_arrival doc s.who.process o.begun.f.beat o.begun.before))) (sent_is o.begun.f q w o.begun.arrives o.begun.actor o.begun.fact) travels).1
+                ∙ request_passes doc rules near far q.process o.begun.f.beat o.begun.before passes (forces_stand doc rules (suc n) o.begun.f o.begun.before sending (omega (arith, asked_in.1))))
 
         early : o.begun.f.beat < a → ⊥
         early lt =
@@ -161,15 +162,15 @@ module _ (doc : Doc) (near far a settled e n : ℕ) (calm : IsCalm doc near far 
         (subst (WritesElection settled) (sym o.fact) (omega (arith, sent, sent_since late), wrote_by w.request o.low version write key (sym o.reply_is ∙ done))) to
       where
         sent : w.sent ≡ o.begun.f.beat
-        sent = (subst (λ p. IfSome p (λ s. (s.call.sent ≡ o.begun.f.beat) × (s.arrives ≡ request_arrival s.who.process o.begun.f.beat o.begun.before)))
-            (sent_is o.begun.f q w o.begun.arrives o.begun.actor o.begun.fact) (messages_travel doc (suc n) o.begun.f o.begun.before sending).0).0
+        sent = (subst (λ p. IfSome p (λ s. (s.call.sent ≡ o.begun.f.beat) × (s.arrives ≡ request_arrival doc s.who.process o.begun.f.beat o.begun.before)))
+            (sent_is o.begun.f q w o.begun.arrives o.begun.actor o.begun.fact) (messages_travel doc rules (suc n) o.begun.f o.begun.before sending).0).0
 
   -- ---- a write after a Get ends in acting
 
   pub no_late_write : (x : Entry) (T : List Entry) (call : Call) (arrives : Option ℕ) → IsTail (x ∷ T) (history doc (suc n)) → x.actor ≡ actor_of q → x.fact ≡ Sends call arrives → 3 ≤ x.step
       → (f : Replied doc x.beat q call.request T) → IsWrite call.request → settled + 2 * far ≤ x.beat → x.beat + 2 * far ≤ n → ⊥
   no_late_write x T call arrives at actor fact step f write late to =
-      no_takeover doc near far a settled e n kept ordered one ways within q role steady (suc n) x T call arrives at actor fact (omega (arith, step)) (omega (arith, late)) to (omega (arith, late)) fits
+      no_takeover doc rules near far a settled e n kept ordered one ways within q role steady (suc n) x T call arrives at actor fact (omega (arith, step)) (omega (arith, late)) to (omega (arith, late)) fits
     where
       y : ℕ
       y = x.beat
@@ -184,7 +185,7 @@ module _ (doc : Doc) (near far a settled e n : ℕ) (calm : IsCalm doc near far 
       high = tail_trans f.before low (history doc (suc n)) (inr (tail_all f.before)) at_low
 
       o : Origin doc q f.waiting f.reply f.before x.beat
-      o = origin doc (suc n) q (entry x.beat 3 q (Delivers f.waiting f.reply true)) f.before f.waiting f.reply at_low refl refl
+      o = origin doc rules (suc n) q (entry x.beat 3 q (Delivers f.waiting f.reply true)) f.before f.waiting f.reply at_low refl refl
 
       next : IsNext f.waiting.request call.request
       next = next_is q (moment doc q x.beat) (observed_at doc q T) f.waiting.kind f.waiting.request f.reply call.request f.follows
@@ -226,7 +227,7 @@ module _ (doc : Doc) (near far a settled e n : ℕ) (calm : IsCalm doc near far 
   none_written x T call arrives at actor fact opens write late to = by_reason reason.0
     where
       reason : Reason doc x.beat q call.request T × (3 ≤ x.step)
-      reason = reason_of doc (suc n) q role x T call arrives at actor fact (led T (tail_trans T (x ∷ T) (history doc (suc n)) (inr (tail_all T)) at)) opens
+      reason = reason_of doc rules (suc n) q role x T call arrives at actor fact (led T (tail_trans T (x ∷ T) (history doc (suc n)) (inr (tail_all T)) at)) opens
 
       by_reason : Reason doc x.beat q call.request T → ⊥
       by_reason (InTurn get) = subst IsWrite get write

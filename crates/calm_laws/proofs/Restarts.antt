@@ -11,20 +11,22 @@ use Rattle.kube_objects.specs.Pauses.{is_paused}
 use Rattle.kube_objects.specs.Process.{alive, is_restart_due, ended, starts, born, life}
 use Rattle.kube_objects.specs.Tick.{tick}
 use Rattle.kube_objects.specs.Turns.{expired, end_term, try}
+use Rattle.kube_objects.specs.Stalls.{is_stalled}
+use Rattle.kube_objects.specs.Own.{IsOwn}
 use Rattle.history.specs.History.{at_turn}
-use Rattle.history.specs.Steps.{start, restart, expire, finish, attempts, ticks, restart_if, if_up, controller_turn, kubelet_turn, unpaused_turn, turn}
+use Rattle.history.specs.Steps.{start, restart, expire, finish, attempts, ticks_while, ticks, restart_if, if_up, controller_turn, kubelet_turn, unpaused_turn, turn}
 use Rattle.history_laws.specs.Tails.{IsTail}
 use Rattle.history_laws.proofs.Plainly.{upper, none_is}
 use Rattle.history_laws.proofs.Tailed.{tail_all, tail_trans}
-use Rattle.history_laws.proofs.Walk.{Anyone, all_turns, walk_any_turn}
+use Rattle.history_laws.proofs.Walk.{Anyone, all_turns, all_release_turns, walk_any_turn}
 use Rattle.takeover_laws.proofs.Fresh.{turn_counted}
 use Rattle.calm_laws.proofs.Life.{restart_same, restart_deadline}
 use Rattle.calm_laws.proofs.Turning.{Turned, turned}
 
 pub turn_adds : (doc : Doc) (k p : ℕ) (h : List Entry) → IsTail h (turn doc k p h)
-turn_adds doc k p h = walk_any_turn doc (λ j g. IsTail h g) (all_turns doc Anyone (λ j g. IsTail h g) (λ j x g beat step next s. inr s)) k p h (tail_all h)
+turn_adds doc k p h = walk_any_turn doc (λ j g. IsTail h g) (all_turns doc Anyone (λ j g. IsTail h g) (λ j x g beat step next s. inr s)) (all_release_turns doc (λ j g. IsTail h g) (λ j x g beat step next s. inr s)) k p h (tail_all h)
 
-module _ (doc : Doc) (p i k : ℕ) (role : is_controller doc p ≡ true) (awake : is_paused doc p k ≡ false)
+module _ (doc : Doc) (rules : IsOwn doc) (p i k : ℕ) (role : is_controller doc p ≡ true) (awake : is_paused doc p k ≡ false)
     (stays : (j : ℕ) (g : List Entry) → IsTail (at_turn doc p k) g → IsTail g (at_turn doc (suc p) k) → alive p g ≡ Some j → alive p (at_turn doc (suc p) k) ≡ Some j)
     (up : alive p (at_turn doc (suc p) k) ≡ Some i) where
   pub up_restarted : alive p (restart doc k p (at_turn doc p k)) ≡ Some i
@@ -59,7 +61,7 @@ module _ (doc : Doc) (p i k : ℕ) (role : is_controller doc p ≡ true) (awake 
               by_set (Some at) is = absurd (omega (arith, turn_counted doc (identity p j) p k at is))
 
           r_low : IsTail r (at_turn doc (suc p) k)
-          r_low = subst (λ h. IsTail h (at_turn doc (suc p) k)) r_is (by_turn (turned doc k (identity p j) g role awake (ap (alive p) r_is ∙ up_r) unset))
+          r_low = subst (λ h. IsTail h (at_turn doc (suc p) k)) r_is (by_turn (turned doc rules k (identity p j) g role awake (ap (alive p) r_is ∙ up_r) unset))
             where
               by_turn : Turned doc k (identity p j) (restart doc k p g) (turn doc k p g) → IsTail (restart doc k p g) (at_turn doc (suc p) k)
               by_turn (inl s) = s.position
@@ -81,7 +83,11 @@ module _ (doc : Doc) (p i k : ℕ) (role : is_controller doc p ≡ true) (awake 
               ∙ ap (λ o. ticks doc k p (attempts doc k p (finish doc k p (if_up p (λ q T. expired doc k q T) o g)))) down
               ∙ ap (λ o. ticks doc k p (attempts doc k p (if_up p (λ q T. end_term doc k q (deadline doc q T) T) o g))) down
               ∙ ap (λ o. ticks doc k p (if_up p (try doc k) o g)) down
-              ∙ ap (λ o. if_up p (λ q T. if acts doc q k T then tick doc k q T else T) o g) down
+              ∙ idle_ticks (is_stalled doc k)
+            where
+              idle_ticks : (b : Bool) → ticks_while b doc k p g ≡ g
+              idle_ticks true = refl
+              idle_ticks false = ap (λ o. if_up p (λ q T. if acts doc q k T then tick doc k q T else T) o g) down
 
       by_up : (o : Option ℕ) → alive p g ≡ o → alive p (restart doc k p g) ≡ Some i
       by_up None down = ap (λ o. alive p (restart_if doc k p o g)) down ∙ by_due down (is_restart_due doc p k (ended doc p g)) refl

@@ -11,8 +11,10 @@ use Rattle.kube_objects.specs.Newest.{when, join, has}
 use Rattle.kube_objects.specs.Pauses.{is_paused}
 use Rattle.kube_objects.specs.Process.{alive, last_call, call_in, is_late}
 use Rattle.kube_objects.specs.Stored.{election}
-use Rattle.kube_objects.specs.Turns.{expire_call, expired, end_term, just_expired, is_fast_call, attempt_if, try}
+use Rattle.kube_objects.specs.Turns.{expire_as, expire_call, expired, end_term, just_expired, is_fast_call, attempt_if, try}
 use Rattle.kube_objects.specs.Wire.{send}
+use Rattle.kube_objects.specs.Own.{IsOwn}
+use Rattle.kube_objects.proofs.Own.{release_begun-own}
 use Rattle.history.specs.Steps.{if_up, restart, expire, finish, attempts, ticks, controller_turn, kubelet_turn, unpaused_turn, turn}
 use Rattle.history_laws.specs.Tails.{IsTail}
 use Rattle.history_laws.proofs.Plainly.{upper, same_self}
@@ -27,12 +29,12 @@ pub record IsWaiting (doc : Doc) (k : ℕ) (q : Identity) (h all : List Entry) :
   pub timely : is_late doc q k call ≡ false
 
 -- it sends a request at the end of a position above
-pub record IsAsking (k : ℕ) (q : Identity) (h all : List Entry) : Type 0 where
+pub record IsAsking (doc : Doc) (k : ℕ) (q : Identity) (h all : List Entry) : Type 0 where
   pub above : List Entry
   pub low : IsTail h above
   pub kind : CallKind
   pub request : Request
-  pub position : IsTail (send k 4 q kind request above) all
+  pub position : IsTail (send doc k 4 q kind request above) all
 
 -- its timer is ahead
 pub record IsSleeping (doc : Doc) (k : ℕ) (q : Identity) (h all : List Entry) : Type 0 where
@@ -43,9 +45,9 @@ pub record IsSleeping (doc : Doc) (k : ℕ) (q : Identity) (h all : List Entry) 
   pub ahead : nat_lt (local doc q.process k) (timer doc q above) ≡ true
 
 abbrev pub Turned : Doc → ℕ → Identity → List Entry → List Entry → Type 0
-Turned doc k q h all = IsWaiting doc k q h all ⊎ (IsAsking k q h all ⊎ IsSleeping doc k q h all)
+Turned doc k q h all = IsWaiting doc k q h all ⊎ (IsAsking doc k q h all ⊎ IsSleeping doc k q h all)
 
-module _ (doc : Doc) (k : ℕ) (q : Identity) (g : List Entry) (role : is_controller doc q.process ≡ true) (awake : is_paused doc q.process k ≡ false)
+module _ (doc : Doc) (rules : IsOwn doc) (k : ℕ) (q : Identity) (g : List Entry) (role : is_controller doc q.process ≡ true) (awake : is_paused doc q.process k ≡ false)
     (up : alive q.process (restart doc k q.process g) ≡ Some q.incarnation) (unset : deadline doc q (restart doc k q.process g) ≡ None) where
   abbrev pub h : List Entry
   h = restart doc k q.process g
@@ -63,7 +65,8 @@ module _ (doc : Doc) (k : ℕ) (q : Identity) (g : List Entry) (role : is_contro
 
   left : (o : Option Call) → Left (expire_call doc k q o h)
   left None = (tail_all h, up, unset)
-  left (Some c) = left_by c (is_late doc q k c)
+  left (Some c) =
+      subst (λ o. Left (if is_late doc q k c then expire_as doc k q c o h else h)) (sym (release_begun-own doc rules c.kind)) (left_by c (is_late doc q k c))
 
   abbrev pub e : List Entry
   e = expired doc k q h
@@ -92,7 +95,8 @@ module _ (doc : Doc) (k : ℕ) (q : Identity) (g : List Entry) (role : is_contro
     where
       no : true ≡ false → ⊥
       no h = cc
-  waiting (Some c) is some at = by_test (is_late doc q k c) refl some
+  waiting (Some c) is some at =
+      by_test (is_late doc q k c) refl (subst (λ o. has (call_in q (if is_late doc q k c then expire_as doc k q c o h else h)) ≡ true) (release_begun-own doc rules c.kind) some)
     where
       by_test : (b : Bool) → is_late doc q k c ≡ b → has (call_in q (grown c b)) ≡ true → IsWaiting doc k q h (turn doc k q.process g)
       by_test false late some = record { position = at; call = c; waits = is; timely = late }
@@ -105,7 +109,7 @@ module _ (doc : Doc) (k : ℕ) (q : Identity) (g : List Entry) (role : is_contro
   turned =
       by_tests (is_fast_call (just_expired q k e)) (has (call_in q e)) (nat_lt (local doc q.process k) (timer doc q e)) refl refl upto
     where
-      asking : (kind : CallKind) (request : Request) → IsTail (send k 4 q kind request e) (turn doc k q.process g) → Turned doc k q h (turn doc k q.process g)
+      asking : (kind : CallKind) (request : Request) → IsTail (send doc k 4 q kind request e) (turn doc k q.process g) → Turned doc k q h (turn doc k q.process g)
       asking kind request at = inr (inl (record { above = e; low = e_left.0; kind = kind; request = request; position = at }))
 
       by_tests : (fast call ahead : Bool) → has (call_in q e) ≡ call → nat_lt (local doc q.process k) (timer doc q e) ≡ ahead

@@ -67,6 +67,7 @@ fn write_lines(
     document: &Document,
     deeds: &[Deed],
 ) -> Result<bool, NoMemory>
+    requires lawful { IsLawfulDoc (doc_of document.now) }
     requires named { IsWellNamed document.now.names (doc_of document.now) }
     requires writable { All (IsWritable document.now.names (processes (doc_of document.now))) deeds.now }
 {

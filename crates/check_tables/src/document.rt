@@ -1,4 +1,8 @@
 // Documents as they are read.
+ghost use Rattle.script_reader.specs.Documents.{doc_of};
+ghost use Rattle.script_reader.specs.Lawful.{IsLawfulDoc};
+
+use document_laws::documents_are_lawful;
 use kube_base::NoMemory;
 use manifest_json::{ReadFault, Refusal};
 use script_reader::{Document, lease_premise, read_document};
@@ -6,6 +10,7 @@ use std::alloc::Global;
 
 /// What a document says, or its refusal.
 pub(crate) fn read_text(alloc: Global, text: &str) -> Result<String, NoMemory> {
+    documents_are_lawful();
     match read_document(alloc, text.as_bytes()) {
         Ok(document) => document_text(alloc, &document),
         Err(ReadFault::Refused(refusal)) => refusal_text(alloc, &refusal),
@@ -14,7 +19,9 @@ pub(crate) fn read_text(alloc: Global, text: &str) -> Result<String, NoMemory> {
 }
 
 /// The end, how many members each list has, how many names there are, and whether the lease premise holds.
-fn document_text(alloc: Global, document: &Document) -> Result<String, NoMemory> {
+fn document_text(alloc: Global, document: &Document) -> Result<String, NoMemory>
+    requires { IsLawfulDoc (doc_of document.now) }
+{
     let end = document.settings.end_beat.0;
     let controllers = document.controllers.as_slice().len();
     let kubelets = document.kubelets.as_slice().len();

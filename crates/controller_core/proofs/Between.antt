@@ -5,11 +5,12 @@ use Rattle.kube_base.specs.declared.numbers.Local.{Local}
 use Rattle.kube_objects.specs.declared.deed.Deed.{Deed}
 use Rattle.kube_objects.specs.Clocks.{local}
 use Rattle.kube_objects.specs.Document.{Doc}
-use Rattle.kube_objects.specs.Entry.{Entry, Identity, Tick, Ticks, Sync, Untaint, Swap, Head, Delete, entry}
+use Rattle.kube_objects.specs.Entry.{Entry, Identity, Tick, Ticks, Sync, Untaint, Swap, Head, Skip, Delete, entry}
 use Rattle.kube_objects.specs.Health.{last_pass}
 use Rattle.kube_objects.specs.InForce.{watches}
+use Rattle.kube_objects.specs.Own.{IsOwn}
 use Rattle.kube_objects.specs.Seen.{is_fresh, is_synced}
-use Rattle.kube_objects.specs.Tick.{add, cleaned, evicted, sync, tainted}
+use Rattle.kube_objects.specs.Tick.{add, cleaned, evicted, has_settled, sync, tainted}
 use Rattle.history_laws.proofs.Plainly.{false_is}
 use Rattle.node_health.specs.Stands.{is_of_health}
 use Rattle.node_health.proofs.Frames.{SaysSame, says-same, says-then, unheard-kind}
@@ -34,20 +35,21 @@ cleaning_unheard t is = absurd (false_is is)
 
 heading_unheard : (t : Tick) → is_heading t ≡ true → is_of_health (Ticks t) ≡ false
 heading_unheard (Head place name wanted given written a) is = refl
+heading_unheard (Skip place name) is = refl
 heading_unheard t is = absurd (false_is is)
 
-module _ (doc : Doc) (k : ℕ) (q : Identity) (h : List Entry) where
+module _ (doc : Doc) (own : IsOwn doc) (k : ℕ) (q : Identity) (h : List Entry) where
   pub sync_says : SaysSame q h (sync doc k q h)
   sync_says = sync_keeps doc k q (SaysSame q h) (λ g s. says_more q k h g Sync refl s) h (says-same q h)
 
   pub cleaned_says : SaysSame q h (cleaned doc k q h)
-  cleaned_says = cleaned_keeps doc k q (SaysSame q h) (λ t g is made s. says_more q k h g t (cleaning_unheard t is) s) h (says-same q h)
+  cleaned_says = cleaned_keeps doc k q (SaysSame q h) (λ t g is made s. says_more q k h g t (cleaning_unheard t is) s) own h (says-same q h)
 
   pub tainted_says : SaysSame q h (tainted doc k q h)
-  tainted_says = tainted_keeps doc k q (SaysSame q h) (λ t g is made s. says_more q k h g t (heading_unheard t is) s) h (says-same q h)
+  tainted_says = tainted_keeps doc k q (SaysSame q h) (λ t g is made s. says_more q k h g t (heading_unheard t is) s) own h (says-same q h)
 
   pub evicted_says : SaysSame q h (evicted doc k q h)
-  evicted_says = evicted_keeps doc k q (SaysSame q h) (λ pod given node_given at a g made s. says_more q k h g (Delete pod given node_given at a) refl s) h (says-same q h)
+  evicted_says = evicted_keeps doc k q (SaysSame q h) (λ pod given node_given at a g made s. says_more q k h g (Delete pod given node_given at a) refl s) own h (says-same q h)
 
 -- ---- limits, and the last pass
 
@@ -65,7 +67,7 @@ last_stands doc q h g last same s = s ∙ ap (option_map (local doc q.process)) 
 
 -- a term that hasn't synced after this hasn't synced now
 pub unsynced_none : (doc : Doc) (k : ℕ) (q : Identity) (h : List Entry) → is_synced q (sync doc k q h) ≡ false → sync doc k q h ≡ h
-unsynced_none doc k q h none = by_test (watches doc q.process h && not (is_fresh q h)) none
+unsynced_none doc k q h none = by_test (has_settled doc k q h && (watches doc q.process h && not (is_fresh q h))) none
   where
     by_test : (b : Bool) → is_synced q (if b then add k q Sync h else h) ≡ false → (if b then add k q Sync h else h) ≡ h
     by_test true none = absurd (false_is (sym none ∙ sync_synced q k h))
@@ -73,7 +75,7 @@ unsynced_none doc k q h none = by_test (watches doc q.process h && not (is_fresh
 
 -- a sync isn't printed
 pub told_synced : (doc : Doc) (k : ℕ) (q : Identity) (before : List Deed) (h : List Entry) (t : Told) → IsTold q k before h t → IsTold q k before (sync doc k q h) t
-told_synced doc k q before h t s = by_test (watches doc q.process h && not (is_fresh q h))
+told_synced doc k q before h t s = by_test (has_settled doc k q h && (watches doc q.process h && not (is_fresh q h)))
   where
     by_test : (b : Bool) → IsTold q k before (if b then add k q Sync h else h) t
     by_test true = told_beside q k before h Sync t refl s

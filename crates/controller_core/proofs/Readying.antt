@@ -10,8 +10,10 @@ use Rattle.kube_objects.specs.Entry as entry
 use Rattle.kube_objects.specs.Entry.{Entry, Identity}
 use Rattle.kube_objects.specs.Modes.{place_cmp}
 use Rattle.kube_objects.specs.Newest.{has}
+use Rattle.kube_objects.specs.Own.{IsOwn}
 use Rattle.kube_objects.specs.Tainting.{queued, waits}
 use Rattle.kube_objects.specs.Tokens.{Rated, base, is_grown, rated, token_size}
+use Rattle.kube_objects.proofs.Own.{has_token-own}
 use Rattle.history_laws.proofs.Plainly.{false_is}
 use Rattle.rate_bucket.specs.Filling.{HasToken}
 use Rattle.taint_zones.specs.declared.limit.Limit.{Limit}
@@ -112,17 +114,17 @@ first_within test (suc n) = by_rest (first_within test n)
         by_test false is = inr (λ m le. at_or_below m le is)
 
 -- where a queued taint is due, its reading has come
-pub head_reading : (doc : Doc) (k : ℕ) (q : Identity) (h : List Entry) (place : entry.Place) → IsHeadDue doc k q h place → (at : ℕ) × (at ≤ local doc q.process k) × IsTokenReading doc q h place at
-head_reading doc k q h place due = by_first (first_within (is_token_at doc q place h) (local doc q.process k))
+pub head_reading : (doc : Doc) → IsOwn doc → (k : ℕ) (q : Identity) (h : List Entry) (place : entry.Place) → IsHeadDue doc k q h place → (at : ℕ) × (at ≤ local doc q.process k) × IsTokenReading doc q h place at
+head_reading doc own k q h place due = by_first (first_within (is_token_at doc q place h) (local doc q.process k))
   where
     by_first : ((m : ℕ) × (m ≤ local doc q.process k) × IsFirst (is_token_at doc q place h) m) ⊎ ((m : ℕ) → m ≤ local doc q.process k → is_token_at doc q place h m ≡ false)
         → (at : ℕ) × (at ≤ local doc q.process k) × IsTokenReading doc q h place at
     by_first (inl found) = (found.0, found.1, record { there = found.2.0; least = found.2.1; name = due.name; waiting = due.waiting })
-    by_first (inr none) = absurd (false_is (sym (none (local doc q.process k) (omega arith)) ∙ due.token))
+    by_first (inr none) = absurd (false_is (sym (none (local doc q.process k) (omega arith)) ∙ sym (has_token-own doc own q k place h) ∙ due.token))
 
 -- and where its reading has come, it is due
-pub reading_head : (doc : Doc) (k : ℕ) (q : Identity) (h : List Entry) (place : entry.Place) (at : ℕ) → IsTokenReading doc q h place at → at ≤ local doc q.process k → IsHeadDue doc k q h place
-reading_head doc k q h place at r le = record { token = token_later doc q h place at (local doc q.process k) le r.there; name = r.name; waiting = r.waiting }
+pub reading_head : (doc : Doc) → IsOwn doc → (k : ℕ) (q : Identity) (h : List Entry) (place : entry.Place) (at : ℕ) → IsTokenReading doc q h place at → at ≤ local doc q.process k → IsHeadDue doc k q h place
+reading_head doc own k q h place at r le = record { token = has_token-own doc own q k place h ∙ token_later doc q h place at (local doc q.process k) le r.there; name = r.name; waiting = r.waiting }
 
 -- ---- who waits
 

@@ -6,6 +6,8 @@ use Rattle.kube_objects.specs.Clocks.{local}
 use Rattle.kube_objects.specs.Document.{Doc, of_millis}
 use Rattle.kube_objects.specs.Entry.{Entry, Identity}
 use Rattle.kube_objects.specs.Health.{is_after_pass, is_pass_due, last_pass}
+use Rattle.kube_objects.specs.Own.{IsOwn}
+use Rattle.kube_objects.proofs.Own.{pass_period-own}
 use Rattle.controller_core.specs.Passing.{LastStands}
 use Rattle.controller_core.specs.Wakes.{pass_reading}
 
@@ -16,15 +18,14 @@ some_none : (a : ℕ) → ◌≡◌ {A = Option ℕ} (Some a) None → ⊥
 some_none a is = cc
 
 -- a pass is due a period after the last
-pub due_from : (doc : Doc) (k : ℕ) (q : Identity) (h : List Entry) (last : Local) (period : ℕ) → LastStands doc q h (Some last) → period ≡ of_millis doc.settings.monitor_period_millis
+pub due_from : (doc : Doc) → IsOwn doc → (k : ℕ) (q : Identity) (h : List Entry) (last : Local) (period : ℕ) → LastStands doc q h (Some last) → period ≡ of_millis doc.settings.monitor_period_millis
     → is_pass_due doc k q h ≡ nat_le (last.0 + period) (local doc q.process k)
-due_from doc k q h last period s is = by_pass (last_pass q h) refl s
+due_from doc own k q h last period s is = ap (λ n. is_after_pass doc k q n (last_pass q h)) (pass_period-own doc own q h) ∙ by_pass (last_pass q h) s
   where
-    by_pass : (o : Option ℕ) → last_pass q h ≡ o → Some last.0 ≡ option_map (local doc q.process) o → is_pass_due doc k q h ≡ nat_le (last.0 + period) (local doc q.process k)
-    by_pass None same stands = absurd (some_none last.0 stands)
-    by_pass (Some at) same stands =
-        ap (is_after_pass doc k q) same
-        ∙ ap (λ n. nat_le (n + of_millis doc.settings.monitor_period_millis) (local doc q.process k)) (sym (some_number last.0 (local doc q.process at) stands))
+    by_pass : (o : Option ℕ) → Some last.0 ≡ option_map (local doc q.process) o → is_after_pass doc k q (of_millis doc.settings.monitor_period_millis) o ≡ nat_le (last.0 + period) (local doc q.process k)
+    by_pass None stands = absurd (some_none last.0 stands)
+    by_pass (Some at) stands =
+        ap (λ n. nat_le (n + of_millis doc.settings.monitor_period_millis) (local doc q.process k)) (sym (some_number last.0 (local doc q.process at) stands))
         ∙ ap (λ p. nat_le (last.0 + p) (local doc q.process k)) (sym is)
 
 -- the reading of the next pass

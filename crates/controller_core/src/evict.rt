@@ -2,6 +2,7 @@
 ghost use Rattle.std.specs.Prelude.{◌+◌, ℕ, List, OnOk};
 ghost use Rattle.kube_objects.specs.Document.{Doc};
 ghost use Rattle.kube_objects.specs.Entry.{Entry, Identity};
+ghost use Rattle.kube_objects.specs.Own.{IsOwn};
 ghost use Rattle.kube_objects.specs.Tick as tick;
 ghost use Rattle.kube_objects.specs.declared.deed.Deed.{Deed};
 ghost use Rattle.controller_core.specs.Costs.{HaveCost};
@@ -24,7 +25,7 @@ pub(crate) fn evict<L>(
     steps: &mut Steps<L>,
 ) -> Result<(), NoMemory>
     ensures { (doc : Doc) (k : ℕ) (q : Identity) (before : List Deed) (h : List Entry)
-        → MidTick q k before h cluster.old store.old told.old → IsView doc k q h view.entry.now
+        → IsOwn doc → MidTick q k before h cluster.old store.old told.old → IsView doc k q h view.entry.now
         → OnOk result (MidTick q k before (tick.evicted doc k q h) cluster.new store.new told.new
         × HaveCost q k h (tick.evicted doc k q h) (steps.old + 1) steps.new) }
 {

@@ -28,7 +28,7 @@ use crate::pass::looks::look_all;
 use crate::pass::mode::set_mode;
 use crate::pass::zones::set_zones;
 use kube_base::{Local, NoMemory, Steps};
-use kube_objects::Settings2;
+use kube_objects::TickSettings;
 use node_health::{Grace, Health};
 use object_store::Store;
 use std::alloc::Global;
@@ -45,7 +45,7 @@ pub(crate) fn pass<L>(
     zones: &mut Zones,
     last: &mut Option<Local>,
     store: &mut Store,
-    settings: &Settings2,
+    settings: &TickSettings,
     policies: &Policies,
     view: &View,
     told: &mut Told,

@@ -3,6 +3,7 @@ ghost use Rattle.std.specs.Prelude.{◌≡◌, ◌&&◌, not, ℕ, List, OnOk};
 ghost use Rattle.kube_objects.specs.Document.{Doc};
 ghost use Rattle.kube_objects.specs.Entry.{Entry, Identity};
 ghost use Rattle.kube_objects.specs.InForce.{watches};
+ghost use Rattle.kube_objects.specs.Own.{IsOwn};
 ghost use Rattle.kube_objects.specs.Seen as seen_words;
 ghost use Rattle.kube_objects.specs.Tainting.{before_tick};
 ghost use Rattle.kube_objects.specs.Tick as tick;
@@ -43,13 +44,14 @@ pub(crate) fn sync<L>(
     view: &View,
     steps: &mut Steps<L>,
 ) -> Result<(), NoMemory>
-    ensures stands { (doc : Doc) (k : ℕ) (q : Identity) (h : List Entry) → ClusterStands q h cluster.old → StoreStands h store.now
-        → AreReached q h → IsView doc k q h view.entry.now
+    ensures stands { (doc : Doc) (k : ℕ) (q : Identity) (h : List Entry) → IsOwn doc → ClusterStands q h cluster.old
+        → StoreStands h store.now → AreReached q h → IsView doc k q h view.entry.now
         → OnOk result (ClusterStands q (tick.sync doc k q h) cluster.new × HaveCost q k h (tick.sync doc k q h) steps.old steps.new) }
     ensures store { (doc : Doc) (k : ℕ) (q : Identity) (h : List Entry) → StoreStands h store.now
         → StoreStands (tick.sync doc k q h) store.now }
-    ensures moved { (doc : Doc) (k : ℕ) (q : Identity) (h : List Entry) → ClusterStands q h cluster.old → StoreStands h store.now
-        → AreReached q h → IsView doc k q h view.entry.now → IsMoved q k h cluster.old → before_tick q k (tick.sync doc k q h) ≡ before_tick q k h
+    ensures moved { (doc : Doc) (k : ℕ) (q : Identity) (h : List Entry) → IsOwn doc → ClusterStands q h cluster.old
+        → StoreStands h store.now → AreReached q h → IsView doc k q h view.entry.now → IsMoved q k h cluster.old
+        → before_tick q k (tick.sync doc k q h) ≡ before_tick q k h
         → OnOk result (IsMoved q k (tick.sync doc k q h) cluster.new) }
 {
     if !syncs(cluster, store, view.watch) {

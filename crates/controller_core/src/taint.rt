@@ -3,6 +3,7 @@ ghost use Rattle.std.specs.Prelude.{◌≤◌, ℕ, List, OnOk};
 ghost use Rattle.kube_base.specs.Bounds.{most_local};
 ghost use Rattle.kube_objects.specs.Document.{Doc};
 ghost use Rattle.kube_objects.specs.Entry.{Entry, Identity};
+ghost use Rattle.kube_objects.specs.Own.{IsOwn};
 ghost use Rattle.kube_objects.specs.Tick as tick;
 ghost use Rattle.kube_objects.specs.declared.deed.Deed.{Deed};
 ghost use Rattle.term_state.specs.MidTick.{IsView};
@@ -35,7 +36,7 @@ pub(crate) fn taint<L>(
 ) -> Result<(), NoMemory>
     requires { view.now.now.0 ≤ most_local }
     ensures { (doc : Doc) (q : Identity) (k : ℕ) (before : List Deed) (h : List Entry)
-        → Heading doc q k before h zones.old cluster.old store.old told.old → IsView doc k q h view.entry.now
+        → IsOwn doc → Heading doc q k before h zones.old cluster.old store.old told.old → IsView doc k q h view.entry.now
         → OnOk result (Heading doc q k before (tick.tainted doc k q h) zones.new cluster.new store.new told.new
         × HaveCost q k h (tick.tainted doc k q h) steps.old steps.new) }
 {

@@ -15,7 +15,7 @@ ghost use Rattle.watch_cache.specs.Stands.{ticks};
 ghost use Rattle.zone_counts.specs.Settings.{AreSettings};
 
 use kube_base::{Local, NoMemory, Steps};
-use kube_objects::{Actor, Deeds, Settings2};
+use kube_objects::{Actor, Deeds, TickSettings};
 use leader_elector::Acting;
 use node_health::Health;
 use object_store::Store;
@@ -31,7 +31,7 @@ use zone_state::Policies;
 #[derive(Drop)]
 pub struct Term {
     pub(crate) alloc: Global,
-    pub(crate) settings: Settings2,
+    pub(crate) settings: TickSettings,
     pub(crate) cluster: Cluster,
     pub(crate) health: Health,
     pub(crate) zones: Zones,
@@ -43,7 +43,7 @@ impl Term {
     ghost use Rattle.controller_core.specs.TermStands.{TermStands, Ticked};
 
     /// A term that begins. It has seen nothing.
-    pub fn new(alloc: Global, settings: &Settings2) -> Term
+    pub fn new(alloc: Global, settings: &TickSettings) -> Term
         requires { settings.now.secondary_rate ≤ settings.now.primary_rate }
         ensures { (doc : Doc) (q : Identity) (h : List Entry) → ticks q h ≡ 0 → AreSettings doc settings.now → TermStands doc q h result }
     {

@@ -39,7 +39,7 @@ use Rattle.script_reader.specs.Fields.{under, object_at, needed_whole, needed_te
 use Rattle.kube_objects.specs.Kinds.{IsOfKind}
 use Rattle.script_reader.specs.Lawful.{IsPosted, IsSpaceNumber, IsReadableWhat, IsLawfulWhat, AreLawfulFrom}
 use Rattle.script_reader.specs.Tables.{known_in}
-use Rattle.script_reader.specs.Walk.{Cast, controller_named, kubelet_named, process_named, proc_id, behind, or_else, process_at, rate_at, delay_at, loss_at, crash_at, start_at, stop_at, watch_at, ready_at, pause_at, put_at, kind_at, space_of, remove_at, beside, what_at, type_at, edits_election, is_too_soon, if_event, event_at, events_from, events_in}
+use Rattle.script_reader.specs.Walk.{Cast, controller_named, kubelet_named, process_named, proc_id, behind, or_else, process_at, rate_at, delay_at, loss_at, crash_at, start_at, stop_at, watch_at, ready_at, pause_at, stall_at, put_at, kind_at, space_of, remove_at, beside, what_at, type_at, edits_election, is_too_soon, if_event, event_at, events_from, events_in}
 use Rattle.document_laws.proofs.FieldRanges.{IsIn, of_required, needed_whole-in, needed_posted-in, array-few}
 use Rattle.document_laws.proofs.PausesApart.{AreBehind, behind-none, behind-last, behind-next, or_parts}
 use Rattle.document_laws.proofs.ProcessRanges.{name_at-in, named-number, named_at-reads}
@@ -103,6 +103,7 @@ readable-grows g known held (whats.Stop id) h = tt
 readable-grows g known held (whats.Watch id on) h = tt
 readable-grows g known held (whats.Ready id status) h = tt
 readable-grows g known held (whats.Pause id beats) h = tt
+readable-grows g known held (whats.Stall beats) h = tt
 readable-grows g known held (whats.Put key object) h = IsReadableItem-grows g known held (key, object) h
 readable-grows g known held (whats.Remove key) h = (IsNameNumber-grows g key.name h.0, space-grows g key.kind key.space h.1)
 
@@ -145,6 +146,7 @@ module _ (cast : Cast) where
   IsKnown (whats.Watch id on) = IsController id
   IsKnown (whats.Ready id status) = IsKubelet id × IsPosted status
   IsKnown (whats.Pause id beats) = IsProcess id × (1 ≤ beats) × (beats ≤ 604800000)
+  IsKnown (whats.Stall beats) = ⊥
   IsKnown (whats.Put key object) = IsOfKind key object
   IsKnown (whats.Remove key) = Unit {0}
 
@@ -200,6 +202,10 @@ module _ (cast : Cast) where
     unfolding pause_at
     pause-in = and_then of_process (λ who w. and_then (needed_whole-in 1 604800000 path (codes "beats") d) (λ beats r. done _ (λ ns. ((w, r.0, r.1), tt))))
 
+    stall-in : Gets IsPlain (stall_at path d)
+    unfolding stall_at
+    stall-in = skip (needed_whole 1 604800000 path (codes "beats") d) (λ beats. refused _)
+
     put-reads : AreHeld names cast.controllers → Reads names IsNamed (put_at cast names path d)
     unfolding put_at
     put-reads held =
@@ -235,6 +241,7 @@ module _ (cast : Cast) where
     what-reads types.Watch held = plain-reads _ watch-in
     what-reads types.Ready held = plain-reads _ ready-in
     what-reads types.Pause held = plain-reads _ pause-in
+    what-reads types.Stall held = plain-reads _ stall-in
     what-reads types.Put held = put-reads held
     what-reads types.Remove held = remove-reads
 
@@ -264,6 +271,7 @@ module _ (cast : Cast) where
     lawful (whats.Ready id status) known leaves =
         (le-ltb id.0 (length doc.controllers) (omega (arith, known.0.0, of.controllers)), is-process id known.0.1, known.1)
     lawful (whats.Pause id beats) known leaves = (is-process id known.0, known.1, known.2)
+    lawful (whats.Stall beats) known leaves = known
     lawful (whats.Put key object) known leaves = (leaves, known)
     lawful (whats.Remove key) known leaves = leaves
 

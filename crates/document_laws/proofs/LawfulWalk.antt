@@ -22,11 +22,12 @@ use Rattle.manifest_json.specs.Fields.{Texts}
 use Rattle.manifest_json.specs.Readable.{AreHeld, IsNameNumber, IsReadableItem, IsReadable}
 use Rattle.script_reader.specs.Documents.{doc_of}
 use Rattle.script_reader.specs.declared.document.Document.{Document}
+use Rattle.script_reader.specs.Built.{unless_there}
 use Rattle.script_reader.specs.Fields.{required}
 use Rattle.kube_objects.specs.Kinds.{IsOfKind}
 use Rattle.script_reader.specs.Lawful.{IsLawfulDoc, IsWellNamed}
 use Rattle.document_laws.specs.Laws.{DocumentsAreLawful, DocumentsAreWellNamed}
-use Rattle.script_reader.specs.Walk.{version_in, settings_at, controllers_in, kubelets_in, objects_in, no_objects, numbers_of, cast_of, scope_of, events_in, top_in, document_at, data_of, document_walk}
+use Rattle.script_reader.specs.Walk.{version_in, settings_at, controllers_in, kubelets_in, objects_in, no_objects, numbers_of, cast_of, scope_of, events_in, top_in, events_at, document_at, data_of, document_walk}
 use Rattle.document_laws.proofs.EventRanges.{of-kind, IsOf, AreAll, AreAll-none, events-reads}
 use Rattle.document_laws.proofs.FieldRanges.{of_default, of_required}
 use Rattle.document_laws.proofs.ProcessRanges.{AreProcs, AreProcs-none, named-grow, settings-in, controllers-in, kubelets-in}
@@ -57,32 +58,33 @@ record IsWhole (d : Document) : Type 0 where
   pub named : IsWellNamed d.names (doc_of d)
 
 document-whole : (value : Data) → Gets IsWhole (document_at value)
-unfolding document_at
+unfolding document_at events_at
 document-whole value =
     skip (top_in value) (λ d.
     skip (required (codes "/version") version_in (get (codes "version") d)) (λ version.
     and_then (of_required (settings_at version (codes "/settings")) (codes "/settings") (get (codes "settings") d) (settings-in version (codes "/settings"))) (λ settings s.
     and_then (of_required (controllers_in version settings fixed_names) (codes "/controllers") (get (codes "controllers") d) (controllers-in settings s.timings s.outlast version fixed_names)) (λ controllers c.
-    let known = numbers_of controllers.0 in
-    let c_held = numbers-held controllers.1 controllers.0 c.1.0.named in
+    let known = numbers_of controllers.0.0 in
+    let c_held = numbers-held controllers.1 controllers.0.0 c.1.0.0.named in
     and_then (of_default {P = λ r. Grows controllers.1 r.1 × (AreProcs r.1 r.0 × (length r.0 ≤ 1000))} (kubelets_in settings controllers.1) ([], controllers.1) (get (codes "kubelets") d) (Grows-none controllers.1, (AreProcs-none controllers.1, omega arith)) (kubelets-in settings s.timings s.outlast controllers.1)) (λ kubelets k.
     let k_held = AreHeld-grows k.0 known c_held in
     and_then (of_default {P = λ r. Grows kubelets.1 r.1 × IsReadable r.1 known r.0.items} (objects_in kubelets.1 known) (no_objects, kubelets.1) (get (codes "objects") d) (Grows-none kubelets.1, record { each = tt; fit = refl }) (λ o. objects-reads kubelets.1 known o k_held)) (λ objects o.
     let o_held = AreHeld-grows o.0 known k_held in
-    let cast = cast_of controllers.0 kubelets.0 in
+    let cast = cast_of controllers.0.0 kubelets.0 in
     let scope = scope_of version settings in
     let end = settings.end_beat.0 in
-    and_then (of_default {P = λ r. Grows objects.1 r.1 × AreAll cast end r.1 r.0} (events_in scope cast objects.1) ([], objects.1) (get (codes "events") d) (Grows-none objects.1, AreAll-none cast end objects.1) (λ e. events-reads cast scope objects.1 e o_held)) (λ events e.
-    let doc : Doc = record { settings = settings; controllers = controllers.0; kubelets = kubelets.0; objects = objects.0.items; events = events.0 } in
-    let of : IsOf cast end doc = record { controllers = omega (arith, length-map controllers.0 (λ p. p.name)); kubelets = omega (arith, length-map kubelets.0 (λ p. p.name)); end = refl } in
+    and_then (skip (unless_there [] (codes "podSets") d) (λ built. of_default {P = λ r. Grows objects.1 r.1 × AreAll cast end r.1 r.0} (events_in scope cast objects.1) ([], objects.1) (get (codes "events") d) (Grows-none objects.1, AreAll-none cast end objects.1) (λ e. events-reads cast scope objects.1 e o_held))) (λ events e.
+    let doc : Doc = record { settings = settings; controllers = controllers.0.0; kubelets = kubelets.0; waits = controllers.0.1; objects = objects.0.items; events = events.0 } in
+    let of : IsOf cast end doc = record { controllers = omega (arith, length-map controllers.0.0 (λ p. p.name)); kubelets = omega (arith, length-map kubelets.0 (λ p. p.name)); end = refl } in
     let from_kubelets = Grows-then o.0 e.0 in
     done _ (record {
       lawful = record {
         settings = s.lawful;
-        controllers = c.1.0.lawful;
-        some = c.1.1;
-        few = c.1.2;
-        controllers_apart = c.1.0.apart;
+        controllers = c.1.0.0.lawful;
+        some = c.1.0.1;
+        few = c.1.0.2;
+        controllers_apart = c.1.0.0.apart;
+        waits = c.1.1;
         kubelets = k.1.0.lawful;
         few_kubelets = k.1.1;
         kubelets_apart = k.1.0.apart;
@@ -94,7 +96,7 @@ document-whole value =
         apart = e.1.apart;
       };
       named = record {
-        controllers = named-grow (Grows-then k.0 from_kubelets) controllers.0 c.1.0.named;
+        controllers = named-grow (Grows-then k.0 from_kubelets) controllers.0.0 c.1.0.0.named;
         kubelets = named-grow from_kubelets kubelets.0 k.1.0.named;
         objects = IsReadable-grows e.0 known o_held objects.0.items o.1;
         events = e.1.readable;

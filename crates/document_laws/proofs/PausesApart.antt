@@ -52,6 +52,7 @@ apart-first x earlier k (whats.Start id) rests = (λ p. no_later x.beat.0 k (pau
 apart-first x earlier k (whats.Stop id) rests = (λ p. no_later x.beat.0 k (pause_of p x.what), refl)
 apart-first x earlier k (whats.Watch id on) rests = (λ p. no_later x.beat.0 k (pause_of p x.what), refl)
 apart-first x earlier k (whats.Ready id status) rests = (λ p. no_later x.beat.0 k (pause_of p x.what), refl)
+apart-first x earlier k (whats.Stall beats) rests = (λ p. no_later x.beat.0 k (pause_of p x.what), refl)
 apart-first x earlier k (whats.Put key object) rests = (λ p. no_later x.beat.0 k (pause_of p x.what), refl)
 apart-first x earlier k (whats.Remove key) rests = (λ p. no_later x.beat.0 k (pause_of p x.what), refl)
 

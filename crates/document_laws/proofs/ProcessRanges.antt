@@ -9,6 +9,8 @@ use Rattle.std.proofs.lemmas.List.Elements.{All-push, All-nil, All-weaker}
 use Rattle.serde_json.specs.Data.{Data, Items, no_items, item}
 use Rattle.kube_base.specs.Times.{time_of}
 use Rattle.kube_base.specs.declared.numbers.Wall.{Wall}
+use Rattle.kube_objects.specs.Document.{own_waits_each}
+use Rattle.kube_objects.specs.Rules.{own_waits}
 use Rattle.kube_objects.specs.declared.script.Proc.{Proc}
 use Rattle.kube_objects.specs.declared.settings.Settings.{Settings}
 use Rattle.manifest_laws.proofs.Getting.{Gets, done, refused, weaker, by_test, and_then, skip}
@@ -25,9 +27,13 @@ use Rattle.script_reader.specs.declared.parts.Rates.{Rates}
 use Rattle.script_reader.specs.declared.parts.Timings.{Timings}
 use Rattle.script_reader.specs.declared.table.Table.TheVariants as tables
 use Rattle.script_reader.specs.declared.table.Version.{Version}
-use Rattle.script_reader.specs.Fields.{under, text_at, needed_text, if_name, needed_name, name_at, needed_whole, whole_at, flag_at, policy_at, if_epoch, epoch_at}
+use Rattle.script_reader.specs.Fields.{under, text_at, needed_text, if_name, needed_name, name_at, needed_whole, whole_at, flag_at, policy_at, if_epoch, epoch_at, not_empty}
+use Rattle.script_reader.specs.Choices.{preset_at}
+use Rattle.script_reader.specs.Rules.{rules_at, agree}
+use Rattle.script_reader.specs.Waits.{waits_at}
 use Rattle.script_reader.specs.Lawful.{AreLawful, IsPosted, IsLawful, AreNamedApart}
-use Rattle.script_reader.specs.Walk.{object_in, if_end, beats_at, timings_at, standard, periods_at, rates_at, is_sound, settings_of, settings_at, named_at, clock_at, timings_of, has_name, numbers_of, controller_of, controller_at, controllers_from, not_empty, controllers_in, kubelet_of, kubelet_at, kubelets_from, kubelets_in}
+use Rattle.script_reader.specs.Walk.{Team, if_sound, if_controller, object_in, if_end, beats_at, timings_at, standard, periods_at, rates_at, is_sound, settings_of, settings_at, named_at, clock_at, timings_of, has_name, numbers_of, controller_of, controller_at, controllers_from, controllers_in, kubelet_of, kubelet_at, kubelets_from, kubelets_in}
+use Rattle.document_laws.proofs.OwnRules.{itself, unless-none, rules-none, rules-own, waits-own, each-push}
 use Rattle.document_laws.proofs.FieldRanges.{IsIn, whole_at-in, IsSignedIn, signed_at-in, posted_at-in, array-few}
 use Rattle.script_reader.proofs.Named.{any_map, numbers-push}
 
@@ -128,6 +134,17 @@ pub record AreRead (s : Settings) : Type 0 where
   pub timings : AreTimings (timings_of s)
   pub outlast : Outlast (timings_of s)
 
+-- the own rule of settings
+sound-in : (path : List ℕ) (t : Timings) (r : Rates) (settings : Settings)
+    → Gets (λ s. (is_sound t ≡ true) × (r.secondary ≤ r.primary) × (s ≡ settings)) (if_sound path t r settings)
+sound-in path t r settings =
+    by_test (is_sound t && nat_le r.secondary r.primary && agree settings.rules) _ _
+    (λ e.
+    let parts = and_parts (is_sound t && nat_le r.secondary r.primary) (agree settings.rules) e in
+    let both = and_parts (is_sound t) (nat_le r.secondary r.primary) parts.0 in
+    done settings (both.0, leb-true r.secondary r.primary both.1, refl))
+    (λ e. refused _)
+
 pub settings-in : (version : Version) (path : List ℕ) (value : Data) → Gets AreRead (settings_at version path value)
 unfolding settings_at
 settings-in version path value =
@@ -138,11 +155,13 @@ settings-in version path value =
     and_then (rates-in path d) (λ rates r.
     skip (flag_at false path (codes "fastRenew") d) (λ fast.
     skip (policy_at path (codes "ratePolicy") d) (λ policy.
-    by_test (is_sound timings && nat_le rates.secondary rates.primary) (Ok (settings_of beats timings periods rates fast policy)) _
-    (λ e.
-    let parts = and_parts (is_sound timings) (nat_le rates.secondary rates.primary) e in
+    skip (preset_at path d) (λ preset.
+    and_then (itself (rules_at preset path d)) (λ rules given.
+    let settings = settings_of beats timings periods rates fast policy rules in
+    and_then (sound-in path timings rates settings) (λ s parts.
+    and_then (rules-none preset path d) (λ built none.
     let own = outlast timings parts.0 in
-    done _ (record {
+    done s (subst AreRead (sym parts.2) (record {
       lawful = record {
         beat_least = b.least;
         beat_most = b.most;
@@ -168,16 +187,16 @@ settings-in version path value =
         node_lease_least = p.lease.0;
         node_lease = p.lease.1;
         primary = r.primary;
-        secondary = leb-true rates.secondary rates.primary parts.1;
+        secondary = parts.1;
         large_zone = r.large_zone;
         percent = r.percent;
+        rules = rules-own preset path d rules none given;
         renew_within_lease = own.lease;
         retry_within_renew = own.renew;
       };
       timings = record { lease = t.lease; renew = t.renew; retry = t.retry; timeout = t.timeout };
       outlast = record { lease = own.lease; renew = own.renew };
-    }))
-    (λ e. refused _))))))))
+    })))))))))))))
 
 -- ---- controllers
 
@@ -284,9 +303,27 @@ AreProcs-push {a} {b} g ps p all one =
 abbrev AreMany : ℕ → Texts → List Proc → Type 0
 AreMany many names ps = AreProcs names ps × (length ps ≡ many)
 
+-- a controller with its waits, behind earlier ones
+abbrev IsController : List Proc → Texts → Proc × List ℕ → Type 0
+IsController earlier names c = IsProc earlier names c.0 × (c.1 ≡ own_waits)
+
+-- controllers and the waits of each, of which there are so many
+abbrev IsTeam : ℕ → Texts → Team → Type 0
+IsTeam many names team = AreMany many names team.0 × (team.1 ≡ own_waits_each team.0)
+
+if_controller-in : (names : Texts) (path : List ℕ) (earlier : List Proc) (name : ℕ × Texts) (clock : Clock) (watch : Bool) (ts : Timings)
+    → Grows names name.1 × IsNameNumber name.1 name.0 → IsClock clock → AreTimings ts
+    → Reads names (IsProc earlier) (if_controller path earlier name.0 ts (controller_of name.0 clock watch ts) name.1)
+if_controller-in names path earlier name clock watch ts n c t =
+    by_test (has_name name.0 earlier) _ _
+    (λ e. refused _)
+    (λ e. by_test (is_sound ts) (Ok (controller_of name.0 clock watch ts, name.1)) _
+    (λ f. done _ (n.0, record { lawful = lawful-from clock ts _ c t (outlast ts f) tt refl refl refl refl refl refl; named = n.1; new = e }))
+    (λ f. refused _))
+
 -- the timings of settings that were read are those of a process without its own
 module _ (settings : Settings) (timings : AreTimings (timings_of settings)) (own : Outlast (timings_of settings)) where
-  controller-in : (version : Version) (names : Texts) (path : List ℕ) (earlier : List Proc) (value : Data) → Reads names (IsProc earlier) (controller_at version settings names path earlier value)
+  controller-in : (version : Version) (names : Texts) (path : List ℕ) (earlier : List Proc) (value : Data) → Reads names (IsController earlier) (controller_at version settings names path earlier value)
   unfolding controller_at
   controller-in version names path earlier value =
       skip (object_in (tables.Controller version) path value) (λ d.
@@ -294,28 +331,28 @@ module _ (settings : Settings) (timings : AreTimings (timings_of settings)) (own
       and_then (clock-in path d) (λ clock c.
       skip (flag_at true path (codes "watch") d) (λ watch.
       and_then (timings-in (timings_of settings) path d timings) (λ ts t.
-      by_test (has_name name.0 earlier) _ _
-      (λ e. refused _)
-      (λ e. by_test (is_sound ts) (Ok (controller_of name.0 clock watch ts, name.1)) _
-      (λ f. done _ (n.0, record { lawful = lawful-from clock ts _ c t (outlast ts f) tt refl refl refl refl refl refl; named = n.1; new = e }))
-      (λ f. refused _)))))))
+      and_then (itself (waits_at path d)) (λ waits given.
+      and_then (if_controller-in names path earlier name clock watch ts n c t) (λ controller r.
+      and_then (unless-none path (codes "waits") d) (λ built none.
+      done ((controller.0, waits), controller.1) (r.0, (r.1, waits-own path d waits none given))))))))))
 
-  controllers_from-in : (version : Version) (names : Texts) (place : ℕ) (earlier : List Proc) (rest : Items) → AreProcs names earlier
-      → Reads names (AreMany (length earlier + items_len rest)) (controllers_from version settings names place earlier rest)
+  controllers_from-in : (version : Version) (names : Texts) (place : ℕ) (earlier : List Proc) (waits : List (List ℕ)) (rest : Items) → AreProcs names earlier
+      → waits ≡ own_waits_each earlier → Reads names (IsTeam (length earlier + items_len rest)) (controllers_from version settings names place earlier waits rest)
   unfolding controllers_from
-  controllers_from-in version names place earlier no_items all = done _ (Grows-none names, (all, omega arith))
-  controllers_from-in version names place earlier (item d rest) all =
+  controllers_from-in version names place earlier waits no_items all own = done _ (Grows-none names, ((all, omega arith), own))
+  controllers_from-in version names place earlier waits (item d rest) all own =
       and_then (controller-in version names (member_path [] (codes "/controllers/") place) earlier d) (λ next n.
-      weaker (controllers_from-in version next.1 (place + 1) (earlier ++ next.0 ∷ []) rest (AreProcs-push n.0 earlier next.0 all n.1))
-      (λ r h. (Grows-then n.0 h.0, (h.1.0, omega (arith, h.1.1, length-append earlier (next.0 ∷ []))))))
+      weaker (controllers_from-in version next.1 (place + 1) (earlier ++ next.0.0 ∷ []) (waits ++ next.0.1 ∷ []) rest (AreProcs-push n.0 earlier next.0.0 all n.1.0) (each-push earlier next.0.0 waits next.0.1 own n.1.1))
+      (λ r h. (Grows-then n.0 h.0, ((h.1.0.0, omega (arith, h.1.0.1, length-append earlier (next.0.0 ∷ []))), h.1.1))))
 
   -- 1 to 16 controllers
-  pub controllers-in : (version : Version) (names : Texts) (d : Data) → Reads names (λ ns ps. AreProcs ns ps × (1 ≤ length ps) × (length ps ≤ 16)) (controllers_in version settings names d)
+  pub controllers-in : (version : Version) (names : Texts) (d : Data) → Reads names (λ ns team. (AreProcs ns team.0 × (1 ≤ length team.0) × (length team.0 ≤ 16)) × (team.1 ≡ own_waits_each team.0)) (controllers_in version settings names d)
   unfolding controllers_in
   controllers-in version names d =
       and_then (array-few 16 (codes "/controllers") d) (λ all few.
       and_then (not_empty-some (codes "/controllers") all few) (λ some h.
-      weaker (controllers_from-in version names 0 [] some (AreProcs-none names)) (λ r k. (k.0, (k.1.0, omega (arith, k.1.1, h.0), omega (arith, k.1.1, h.1))))))
+      weaker (controllers_from-in version names 0 [] [] some (AreProcs-none names) refl)
+      (λ r k. (k.0, ((k.1.0.0, omega (arith, k.1.0.1, h.0), omega (arith, k.1.0.1, h.1)), k.1.1)))))
 
   -- ---- kubelets
 

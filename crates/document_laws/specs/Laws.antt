@@ -15,7 +15,7 @@ DocumentsAreLawful = (bytes : List ℕ) (d : Document) → document_walk bytes �
 abbrev pub DocumentsAreWellNamed : Type 0
 DocumentsAreWellNamed = (bytes : List ℕ) (d : Document) → document_walk bytes ≡ Ok d → IsWellNamed d.names (doc_of d)
 
--- a lawful document leaves the election Lease alone, stops controllers only, has delays of at least one beat, and a beat between two
--- pauses of a process
+-- a lawful document leaves the election Lease alone, stops controllers only, has delays of at least one beat, a beat between two
+-- pauses of a process, and no rules but the project's own
 abbrev pub LawfulIsSound : Type 0
 LawfulIsSound = (doc : Doc) → IsLawfulDoc doc → IsSound doc

@@ -10,8 +10,8 @@ pub fn documents_are_lawful()
     ensures named { DocumentsAreWellNamed }
 {}
 
-/// A lawful document leaves the election Lease alone, stops controllers only, has delays of at least one beat, and a beat between two
-/// pauses of a process.
+/// A lawful document leaves the election Lease alone, stops controllers only, has delays of at least one beat, a beat between two
+/// pauses of a process, and no rules but the project's own.
 pub fn lawful_documents_are_sound()
     ensures { LawfulIsSound }
 {}

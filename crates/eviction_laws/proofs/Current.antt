@@ -1,4 +1,4 @@
--- After a tick that reaches the store no pod is due.
+-- After a tick that reaches the store no pod is due, under the project's own rules.
 use Rattle.std.proofs.Common.{◌≡◌, ◌∙◌, inl, inr, ℕ, ◌&&◌, not, nat_le, Bool, true, false, cond, List, [], ◌∷◌, Option, Some, None, refl, sym, ap, subst}
 use Rattle.std.specs.Prelude.{if◌then◌else◌}
 use Rattle.std.proofs.lemmas.Bool.{eq-eqb, le-leb}
@@ -15,6 +15,7 @@ use Rattle.kube_objects.specs.declared.object.Object.{Object}
 use Rattle.kube_objects.specs.declared.pod.Due.{Due}
 use Rattle.kube_objects.specs.declared.pod.Due.TheVariants.{Never, At}
 use Rattle.kube_objects.specs.declared.pod.Pod.{Pod}
+use Rattle.kube_objects.specs.declared.rules.EvictRule.TheVariants.{Added}
 use Rattle.kube_objects.specs.Answers.{versioned, as_kind, node_in, answer_update}
 use Rattle.kube_objects.specs.Clocks.{wall}
 use Rattle.kube_objects.specs.Deletes.{delete_at_node, delete_over}
@@ -23,16 +24,18 @@ use Rattle.kube_objects.specs.Entry.{Entry, Identity, Fact, Ticks, Tick, Sync, U
 use Rattle.kube_objects.specs.Identities.{is_by}
 use Rattle.kube_objects.specs.InForce.{watches}
 use Rattle.kube_objects.specs.Keys.{key_eq}
+use Rattle.kube_objects.specs.Own.{IsOwn}
 use Rattle.kube_objects.specs.Newest.{newest, when, only_if, join, has, or_else}
 use Rattle.kube_objects.specs.Seen.{pod_in, seen, seen_pod, fresh_says, is_fresh, synced_says, is_synced, is_refused, stale_tick, stale_says, is_stale, is_pod, pod_keys}
 use Rattle.kube_objects.specs.Stored.{Held, node_key, holds, tick_write, write_of, last_write, stored, next_version}
-use Rattle.kube_objects.specs.Tick.{add, for_each, sync, pass, cleaned, tainted, evict_due, evict_on, evict_seen, evict, evicted, tick, add_delete, phases}
+use Rattle.kube_objects.specs.Tick.{add, for_each, has_settled, sync, pass, cleaned, tainted, evict_due, evict_on, evict_seen, evict, evicted, tick, add_delete, phases}
 use Rattle.kube_objects.specs.Tolerations.{due}
 use Rattle.kube_objects.specs.Tries.{as_answer, try_delete}
 use Rattle.kube_objects.specs.Wire.{loses_requests}
+use Rattle.kube_objects.proofs.Own.{has_settled-own, evict-own, evicted-own}
 use Rattle.history.specs.Evictions.{stored_node, stored_pod, due_on, due_of, pod_due, IsDue}
 use Rattle.history_laws.proofs.Plainly.{upper, none_is, false_is, same_self, same_is}
-use Rattle.history_laws.proofs.Ticks.{IsTry, IsDelete, MadeTick, IsPodKey, pods_only, Each, evict_step, walk_pass, walk_cleaned, walk_tainted}
+use Rattle.history_laws.proofs.Ticks.{IsTry, IsDelete, IsDeleteBy, MadeTick, IsPodKey, pods_only, Each, evict_step, walk_pass, walk_cleaned, walk_tainted}
 use Rattle.history_laws.proofs.Walk.{Made}
 use Rattle.eviction_laws.proofs.KeyNames.{key_self, InKeys, named_pod}
 use Rattle.eviction_laws.proofs.Cache.{Mirrors, mirrors_sync, mirrors_more, unfresh, fresh, fresh_synced}
@@ -76,9 +79,9 @@ accepted_delete doc k q pod given node_given at a h same made =
     (done_passes passing next)))))
 
 -- so no entry of a tick over such a cache makes a key stale
-stale_step : (doc : Doc) (k : ℕ) (q : Identity) (key : Key) (t : Tick) (h : List Entry) → MadeTick doc k q t h → Mirrors q h
+stale_step : (doc : Doc) → doc.settings.rules.evict_from ≡ Added → (k : ℕ) (q : Identity) (key : Key) (t : Tick) (h : List Entry) → MadeTick doc k q t h → Mirrors q h
     → (old : Option Bool) → or_else false old ≡ false → or_else false (upper (stale_tick key t) old) ≡ false
-stale_step doc k q key t h made same old is = by_tick t made
+stale_step doc added k q key t h made same old is = by_tick t made
   where
     by_answer : (a : Option Answer) (hit : Bool) → is_refused a ≡ false → or_else false (upper (when (is_refused a && hit) true) old) ≡ false
     by_answer a hit kept = subst (λ b. or_else false (upper (when (b && hit) true) old) ≡ false) (sym kept) is
@@ -87,7 +90,7 @@ stale_step doc k q key t h made same old is = by_tick t made
     by_tick Sync made = refl
     by_tick (Untaint name given node a) made = by_answer a (key_eq (node_key name) key) (accepted_try q name given a h same made)
     by_tick (Swap name wanted given node a) made = by_answer a (key_eq (node_key name) key) (accepted_try q name given a h same made)
-    by_tick (Delete pod given node_given at a) made = by_answer a (key_eq pod key) (accepted_delete doc k q pod given node_given at a h same made)
+    by_tick (Delete pod given node_given at a) made = by_answer a (key_eq pod key) (accepted_delete doc k q pod given node_given at a h same (subst (λ r. IsDeleteBy r doc k q pod given node_given at a h) added made))
     by_tick t made = is
 
 -- ---- where a key is stale the cache isn't up to date
@@ -101,8 +104,8 @@ last_fresh q = newest (λ e T. fresh_says q e.actor e.fact)
 abbrev last_stale : Identity → Key → List Entry → Option Bool
 last_stale q key = newest (λ e T. stale_says q key e.actor e.fact)
 
-pub unstale_more : (doc : Doc) (q : Identity) (x : Entry) (h : List Entry) → Made doc x.beat x.actor x.fact h → Unstale q h → Unstale q (x ∷ h)
-unstale_more doc q x h made old = cases x.actor x.fact made
+pub unstale_more : (doc : Doc) → doc.settings.rules.evict_from ≡ Added → (q : Identity) (x : Entry) (h : List Entry) → Made doc x.beat x.actor x.fact h → Unstale q h → Unstale q (x ∷ h)
+unstale_more doc added q x h made old = cases x.actor x.fact made
   where
     by_sync : (b : Bool) → or_else false (upper (when b true) (last_fresh q h)) ≡ true → (key : Key) → or_else false (upper (only_if b (Some false)) (last_stale q key h)) ≡ false
     by_sync true is key = refl
@@ -113,7 +116,7 @@ unstale_more doc q x h made old = cases x.actor x.fact made
     by_own who t false own made is key = old (unfresh q h (tick_write t) is) key
     by_own who t true own (r, by, acting, made) is key =
         let mine : r ≡ q = same_is r q (ap (is_by q) (sym by) ∙ own) in
-        stale_step doc x.beat q key t h (subst (λ q. MadeTick doc x.beat q t h) mine made) (fresh q h (unfresh q h (tick_write t) is)) (last_stale q key h) (old (unfresh q h (tick_write t) is) key)
+        stale_step doc added x.beat q key t h (subst (λ q. MadeTick doc x.beat q t h) mine made) (fresh q h (unfresh q h (tick_write t) is)) (last_stale q key h) (old (unfresh q h (tick_write t) is) key)
 
     of_tick : (who : Actor) (t : Tick) → Made doc x.beat who (Ticks t) h → or_else false (upper (fresh_says q who (Ticks t)) (last_fresh q h)) ≡ true → (key : Key)
         → or_else false (upper (only_if (is_by q who) (stale_tick key t)) (last_stale q key h)) ≡ false
@@ -132,10 +135,10 @@ pub record Fine (q : Identity) (h : List Entry) : Type 0 where
   pub unstale : (key : Key) → is_stale q key h ≡ false
   pub passes : loses_requests q.process h ≡ false
 
-fine_more : (doc : Doc) (k : ℕ) (q : Identity) (t : Tick) (h : List Entry) → MadeTick doc k q t h → Fine q h → Fine q (add k q t h)
-fine_more doc k q t h made s = record {
+fine_more : (doc : Doc) → doc.settings.rules.evict_from ≡ Added → (k : ℕ) (q : Identity) (t : Tick) (h : List Entry) → MadeTick doc k q t h → Fine q h → Fine q (add k q t h)
+fine_more doc added k q t h made s = record {
   mirrors = mirrors_more q h k t s.mirrors;
-  unstale = λ key. subst (λ b. or_else false (upper (only_if b (stale_tick key t)) (last_stale q key h)) ≡ false) (sym (same_self q)) (stale_step doc k q key t h made s.mirrors (last_stale q key h) (s.unstale key));
+  unstale = λ key. subst (λ b. or_else false (upper (only_if b (stale_tick key t)) (last_stale q key h)) ≡ false) (sym (same_self q)) (stale_step doc added k q key t h made s.mirrors (last_stale q key h) (s.unstale key));
   passes = s.passes;
 }
 
@@ -143,8 +146,10 @@ record FineSynced (q : Identity) (h : List Entry) : Type 0 where
   fine : Fine q h
   synced : is_synced q h ≡ true
 
-fine_sync : (doc : Doc) (k : ℕ) (q : Identity) (h : List Entry) → Unstale q h → watches doc q.process h ≡ true → loses_requests q.process h ≡ false → FineSynced q (sync doc k q h)
-fine_sync doc k q h old watching passing = subst (λ b. FineSynced q (if (b && not (is_fresh q h)) then add k q Sync h else h)) (sym watching) (by_test (is_fresh q h) refl)
+fine_sync : (doc : Doc) (k : ℕ) (q : Identity) (h : List Entry) → has_settled doc k q h ≡ true → Unstale q h → watches doc q.process h ≡ true → loses_requests q.process h ≡ false → FineSynced q (sync doc k q h)
+fine_sync doc k q h settled old watching passing =
+    subst (λ b. FineSynced q (if (b && (watches doc q.process h && not (is_fresh q h))) then add k q Sync h else h)) (sym settled)
+    (subst (λ b. FineSynced q (if (b && not (is_fresh q h)) then add k q Sync h else h)) (sym watching) (by_test (is_fresh q h) refl))
   where
     by_test : (b : Bool) → is_fresh q h ≡ b → FineSynced q (if (not b) then add k q Sync h else h)
     by_test true is = record { fine = record { mirrors = fresh q h is; unstale = old is; passes = passing }; synced = fresh_synced q h is }
@@ -202,12 +207,15 @@ delete_clears : (now : ℕ) (pod : Key) (k : ℕ) (q : Identity) (given node_giv
 delete_clears now pod k q given node_given at v h =
     subst (λ b. IsDue now (due_of (as_kind pod_in (join (upper (holds h k (actor_of q) (when b None)) (last_write pod h)))) (add k q (Delete pod given node_given at (Some (answer.Done v))) h)) → ⊥) (sym (key_self pod)) (λ d. d)
 
-module _ (doc : Doc) (k : ℕ) (q : Identity) where
+module _ (doc : Doc) (own : IsOwn doc) (k : ℕ) (q : Identity) where
+  added : doc.settings.rules.evict_from ≡ Added
+  added = ap (λ r. r.evict_from) own.rules
+
   abbrev Timely : Key → List Entry → Type 0
   Timely pod h = Clear (wall doc q.process k) pod h
 
   evict_fine : (pod : Key) (h : List Entry) → IsPodKey pod → Fine q h → Fine q (evict doc k q pod h)
-  evict_fine pod h kind s = evict_step doc k q (Fine q) pod h kind s (λ given node_given at a made. fine_more doc k q (Delete pod given node_given at a) h made s)
+  evict_fine pod h kind s = evict_step doc k q (Fine q) pod h kind s (λ given node_given at a made. fine_more doc added k q (Delete pod given node_given at a) h made s)
 
   evict_keeps : (pod other : Key) (h : List Entry) → IsPodKey other → Timely pod h → Timely pod (evict doc k q other h)
   evict_keeps pod other h kind old = evict_step doc k q (Timely pod) other h kind old (λ given node_given at a made. delete_keeps (wall doc q.process k) pod k q other given node_given at a h kind old)
@@ -215,9 +223,10 @@ module _ (doc : Doc) (k : ℕ) (q : Identity) where
   -- its own pod isn't due afterwards
   evict_clears : (pod : Key) (h : List Entry) → Fine q h → Timely pod (evict doc k q pod h)
   evict_clears pod h s =
-      subst (λ b. Timely pod (evict_seen doc k q pod b (seen_pod q pod h) h)) (sym (s.unstale pod))
+      subst (Timely pod) (sym (evict-own doc own k q pod h))
+      (subst (λ b. Timely pod (evict_seen doc k q pod b (seen_pod q pod h) h)) (sym (s.unstale pod))
       (subst (λ o. Timely pod (evict_seen doc k q pod false (as_kind pod_in o) h)) (sym (s.mirrors pod))
-      (by_pod (stored pod h) refl))
+      (by_pod (stored pod h) refl)))
     where
       now : ℕ
       now = wall doc q.process k
@@ -274,9 +283,9 @@ module _ (doc : Doc) (k : ℕ) (q : Identity) where
   evict_all pod (x ∷ xs) h kinds s (inr at) = evict_all pod xs (evict doc k q x h) kinds.1 (evict_fine x h kinds.0 s) at
 
   evicted_clear : (pod : Key) (h : List Entry) → IsPodKey pod → Fine q h → Timely pod (evicted doc k q h)
-  evicted_clear pod h kind s = by_stored (stored pod h) refl
+  evicted_clear pod h kind s = subst (Timely pod) (sym (evicted-own doc own k q h)) (by_stored (stored pod h) refl)
     where
-      by_stored : (o : Option Held) → stored pod h ≡ o → Timely pod (evicted doc k q h)
+      by_stored : (o : Option Held) → stored pod h ≡ o → Timely pod (for_each (evict doc k q) (pod_keys h) h)
       by_stored None is = evict_all_keeps pod (pod_keys h) h (pods_only h) (λ d. subst (λ o. IsDue (wall doc q.process k) (due_of (as_kind pod_in o) h)) is d)
       by_stored (Some y) is = evict_all pod (pod_keys h) h (pods_only h) s (named_pod pod kind h y is)
 
@@ -286,6 +295,6 @@ module _ (doc : Doc) (k : ℕ) (q : Identity) where
       let a = sync doc k q h in
       let b = pass doc k q a in
       let c = cleaned doc k q b in
-      let s = fine_sync doc k q h old watching passing in
+      let s = fine_sync doc k q h (has_settled-own doc own k q h) old watching passing in
       subst (λ t. Timely pod (if t then phases doc k q a else a)) (sym s.synced)
-      (evicted_clear pod (tainted doc k q c) kind (walk_tainted doc k q (Fine q) (fine_more doc k q) c (walk_cleaned doc k q (Fine q) (fine_more doc k q) b (walk_pass doc k q (Fine q) (fine_more doc k q) a s.fine))))
+      (evicted_clear pod (tainted doc k q c) kind (walk_tainted doc k q (Fine q) (fine_more doc added k q) c (walk_cleaned doc k q (Fine q) (fine_more doc added k q) b (walk_pass doc k q (Fine q) (fine_more doc added k q) a s.fine))))

@@ -3,6 +3,7 @@ use Rattle.std.proofs.Common.{◌≡◌, ◌∙◌, ◌≤◌, ℕ, ◌==◌, no
 use Rattle.std.proofs.lemmas.Bool.{eqb-true, leb-true}
 use Rattle.kube_base.specs.declared.numbers.Version.{Version}
 use Rattle.kube_objects.specs.declared.call.Answer.{Answer}
+use Rattle.kube_objects.specs.declared.call.Answer.TheVariants as answers
 use Rattle.kube_objects.specs.declared.call.Reply.TheVariants.{Done, Conflict}
 use Rattle.kube_objects.specs.declared.deed.Actor.{Actor}
 use Rattle.kube_objects.specs.declared.key.Key.{Key}
@@ -10,6 +11,8 @@ use Rattle.kube_objects.specs.declared.node.Node.{Node}
 use Rattle.kube_objects.specs.declared.object.Object.{Object}
 use Rattle.kube_objects.specs.declared.pod.Due.TheVariants.{At}
 use Rattle.kube_objects.specs.declared.pod.Pod.{Pod}
+use Rattle.kube_objects.specs.declared.rules.EvictRule.{EvictRule}
+use Rattle.kube_objects.specs.declared.rules.EvictRule.TheVariants.{Added, Seen}
 use Rattle.kube_objects.specs.Answers.{versioned, as_kind, node_in}
 use Rattle.kube_objects.specs.Clocks.{store_wall, whole_second, wall}
 use Rattle.kube_objects.specs.Deletes.{delete_over}
@@ -17,16 +20,17 @@ use Rattle.kube_objects.specs.Document.{Doc}
 use Rattle.kube_objects.specs.Entry.{Entry, Identity, Fact, First, Ticks, Delete, script_entry}
 use Rattle.kube_objects.specs.Newest.{only_if}
 use Rattle.kube_objects.specs.Seen.{pod_in, seen}
+use Rattle.kube_objects.specs.Sightings.{sighted_due}
 use Rattle.kube_objects.specs.Stamps.{stamped}
 use Rattle.kube_objects.specs.Stored.{Held, node_key, next_version, stored}
 use Rattle.kube_objects.specs.Tolerations.{due}
 use Rattle.kube_objects.specs.Tries.{as_answer}
 use Rattle.kube_objects.specs.Wire.{loses_requests}
-use Rattle.history.specs.Evictions.{stored_node, stored_pod, due_on, due_of, pod_due, IsDue, IfDone, IfBy, NotEarlyAt, NotEarlyIn}
+use Rattle.history.specs.Evictions.{stored_node, stored_pod, due_on, due_of, pod_due, due_for, IsDue, IfDone, IfBy, NotEarlyAt, NotEarlyIn}
 use Rattle.history.specs.History.{put_all, history}
 use Rattle.history_laws.proofs.Plainly.{some_is, none_is}
-use Rattle.history_laws.proofs.Ticks.{IsDelete}
-use Rattle.history_laws.proofs.Walk.{Made, Keeps, all_made, walk_history}
+use Rattle.history_laws.proofs.Ticks.{IsDelete, IsSightedDelete, IsDeleteBy}
+use Rattle.history_laws.proofs.Walk.{Made, Keeps, KeepsRelease, all_made, made_release, walk_history}
 use Rattle.eviction_laws.proofs.Cache.{same_version}
 
 pub versioned_is : {A : Type 0} (n v : Version) (x : A) (o : Option A) → versioned n o ≡ Some (v, x) → n ≡ v
@@ -75,17 +79,41 @@ early doc k q pod given node_given at answer h made = subst (λ a. IfDone a Time
     by_loss false = tt
     by_loss true = by_stored (stored pod h) (stored (node_key made.x.node) h) refl refl
 
+-- what the term has seen of a pod is what its delete asks
+sighted : (doc : Doc) (k : ℕ) (q : Identity) (pod : Key) (given node_given : Version) (at : ℕ) (answer : Option Answer) (h : List Entry) → IsSightedDelete doc k q pod given node_given at answer h
+    → IfDone answer (IsDue (wall doc q.process k) (sighted_due doc q pod h))
+sighted doc k q pod given node_given at answer h made = by_answer answer
+  where
+    timely : IsDue (wall doc q.process k) (sighted_due doc q pod h)
+    timely = subst (IsDue (wall doc q.process k)) (sym made.time) (leb-true at (wall doc q.process k) made.test)
+
+    by_answer : (a : Option Answer) → IfDone a (IsDue (wall doc q.process k) (sighted_due doc q pod h))
+    by_answer (Some (answers.Done version)) = timely
+    by_answer (Some (answers.Conflict version)) = tt
+    by_answer (Some answers.Absent) = tt
+    by_answer (Some answers.Exists) = tt
+    by_answer None = tt
+
+early_by : (rule : EvictRule) (doc : Doc) (k : ℕ) (q : Identity) (pod : Key) (given node_given : Version) (at : ℕ) (answer : Option Answer) (h : List Entry)
+    → IsDeleteBy rule doc k q pod given node_given at answer h → IfDone answer (IsDue (wall doc q.process k) (due_for rule doc q pod h))
+early_by Added doc k q pod given node_given at answer h made = early doc k q pod given node_given at answer h made
+early_by Seen doc k q pod given node_given at answer h made = sighted doc k q pod given node_given at answer h made
+
 early_at : (doc : Doc) (k : ℕ) (who : Actor) (d : Fact) (h : List Entry) → Made doc k who d h → NotEarlyAt doc k who d h
 early_at doc k who (Ticks (Delete pod given node_given at answer)) h (q, is, acting, made) =
-    subst (λ who. IfDone answer (IfBy who (λ q. IsDue (wall doc q.process k) (pod_due pod h)))) (sym is) (early doc k q pod given node_given at answer h made)
+    subst (λ who. IfDone answer (IfBy who (λ q. IsDue (wall doc q.process k) (due_for doc.settings.rules.evict_from doc q pod h)))) (sym is)
+    (early_by doc.settings.rules.evict_from doc k q pod given node_given at answer h made)
 early_at doc k who d h made = tt
 
 early_keeps : (doc : Doc) → Keeps doc (λ k step. NotEarlyIn doc)
 early_keeps doc = all_made doc (λ k step. NotEarlyIn doc) (λ k step h s. s) (λ k h s. s) (λ x h made s. (early_at doc x.beat x.actor x.fact h made, s))
+
+early_release : (doc : Doc) → KeepsRelease doc (λ k step. NotEarlyIn doc)
+early_release doc = made_release doc (λ k step. NotEarlyIn doc) (λ x h made s. (early_at doc x.beat x.actor x.fact h made, s))
 
 put_early : (doc : Doc) (xs : List (Key × Object)) (h : List Entry) → NotEarlyIn doc h → NotEarlyIn doc (put_all doc xs h)
 put_early doc [] h s = s
 put_early doc (x ∷ xs) h s = put_early doc xs (script_entry 0 0 (First x.0 (stamped (whole_second (store_wall doc 0)) x.1)) ∷ h) (tt, s)
 
 pub never_early : (doc : Doc) (k : ℕ) → NotEarlyIn doc (history doc k)
-never_early doc k = walk_history doc (λ k step. NotEarlyIn doc) (early_keeps doc) (put_early doc doc.objects [] tt) k
+never_early doc k = walk_history doc (λ k step. NotEarlyIn doc) (early_keeps doc) (early_release doc) (put_early doc doc.objects [] tt) k

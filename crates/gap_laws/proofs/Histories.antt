@@ -23,9 +23,9 @@ use Rattle.history_laws.proofs.Counting.{counted_is, only_value}
 use Rattle.history_laws.proofs.Plainly.{upper, for_new, false_is}
 use Rattle.history_laws.proofs.Tailed.{tail_all, tail_trans, in_tail}
 use Rattle.history_laws.proofs.Ticks.{walk_tick}
-use Rattle.history_laws.proofs.Walk.{Arriving, Keeps, stopped_at, after_reply, walk_at_turn}
+use Rattle.history_laws.proofs.Walk.{Arriving, Keeps, stopped_at, after_reply, no_release, walk_at_turn}
 use Rattle.lease_laws.proofs.EachKind.{elsewhere, top_stays}
-use Rattle.lease_laws.proofs.Histories.{first_right}
+use Rattle.lease_laws.proofs.Histories.{first_right, stop_of}
 use Rattle.lease_laws.proofs.Invariant.{OnTop, Inv}
 use Rattle.lease_laws.proofs.Quiet.{stored_tick, keep_quiet, quiet_tick, deletes_elsewhere}
 use Rattle.lease_laws.proofs.Steps.{AtMost, InvWithin, all_keep, sound_of}
@@ -118,11 +118,11 @@ module _ (doc : Doc) (sound : IsSound doc) (high : ℕ) (greatest : AtMost doc h
   still k x h is inv s = more k x h inv (λ i at r. keep_still doc w high k x h is i r) s
 
   -- what is sent after the events of a beat
-  sent_slow : (k step : ℕ) (q : Identity) (kind : CallKind) (r : Request) (h : List Entry) → 2 ≤ step → IsTail (send k step q kind r h) (whole_history doc) → is_release kind ≡ false → q.process ≡ w.who → w.from ≤ k → w.least ≤ request_delay q.process h
+  sent_slow : (k step : ℕ) (q : Identity) (kind : CallKind) (r : Request) (h : List Entry) → 2 ≤ step → IsTail (send doc k step q kind r h) (whole_history doc) → is_release kind ≡ false → q.process ≡ w.who → w.from ≤ k → w.least ≤ request_delay q.process h
   sent_slow k step q kind r h late at plain is from = subst (λ p. w.least ≤ request_delay p h) (sym is) (slow _ h at from late).0
 
   sends : (k step : ℕ) (q : Identity) (kind : CallKind) (r : Request) (h : List Entry) → 2 ≤ step → (Inv doc high k h → Waits doc w k h → is_controller doc q.process ≡ true → BaseWaited doc w q k (stored election h) r)
-      → (InvWithin doc high k h → InvWithin doc high k (send k step q kind r h)) → Known k h → Known k (send k step q kind r h)
+      → (InvWithin doc high k h → InvWithin doc high k (send doc k step q kind r h)) → Known k h → Known k (send doc k step q kind r h)
   sends k step q kind r h late base inv s =
       more k _ h inv (λ i at t. keep_sends doc w high k step q kind r h i (base i t) (sent_slow k step q kind r h late at) t) s
 
@@ -132,26 +132,26 @@ module _ (doc : Doc) (sound : IsSound doc) (high : ℕ) (greatest : AtMost doc h
       (λ i at r. keep_answers doc w high k s h arriving i (λ is from. subst (λ p. w.least ≤ reply_delay p h) (sym is) (slow _ h at from (omega arith)).1) r) t
 
   releases_known : (k : ℕ) (id : ProcId) (i : ℕ) (before : List Entry) (request : Request) → release doc (identity id.0 i) k before ≡ Some request
-      → (InvWithin doc high k (stopped_at k id i before) → InvWithin doc high k (send k 1 (identity id.0 i) Release request (stopped_at k id i before)))
-      → Known k (stopped_at k id i before) → Known k (send k 1 (identity id.0 i) Release request (stopped_at k id i before))
+      → (InvWithin doc high k (stopped_at k id i before) → InvWithin doc high k (send doc k 1 (identity id.0 i) Release request (stopped_at k id i before)))
+      → Known k (stopped_at k id i before) → Known k (send doc k 1 (identity id.0 i) Release request (stopped_at k id i before))
   releases_known k id i before request is inv s =
       let q = identity id.0 i in
       let h = stopped_at k id i before in
       more k _ h inv
       (λ iv at t. keep_sends doc w high k 1 q Release request h iv
       (λ role. release_base doc w k (wall doc q.process k) h q (shown q before) (shown_late doc w high k h iv t q role) request (only_value (leads q before) (release_from q (wall doc q.process k) (shown q before)) request is))
-      (λ plain same from. absurd (no_release plain)) t) s
+      (λ plain same from. absurd (not_plain plain)) t) s
     where
-      no_release : is_release Release ≡ false → ⊥
-      no_release is = cc
+      not_plain : is_release Release ≡ false → ⊥
+      not_plain is = cc
 
   follows_known : (k : ℕ) (b : Back) (waiting : Call) (h : List Entry) (request : Request) → is_controller doc b.who.process ≡ true → follow_on doc b.who k waiting.kind waiting.request b.reply (after_reply k b waiting h) ≡ Asks request
-      → (InvWithin doc high k (after_reply k b waiting h) → InvWithin doc high k (send k 3 b.who Plain request (after_reply k b waiting h)))
-      → Known k (after_reply k b waiting h) → Known k (send k 3 b.who Plain request (after_reply k b waiting h))
+      → (InvWithin doc high k (after_reply k b waiting h) → InvWithin doc high k (send doc k 3 b.who Plain request (after_reply k b waiting h)))
+      → Known k (after_reply k b waiting h) → Known k (send doc k 3 b.who Plain request (after_reply k b waiting h))
   follows_known k b waiting h request role follows inv s =
       let g = after_reply k b waiting h in
       sends k 3 b.who Plain request g (omega arith)
-      (λ i t role. followed_base doc w k g b.who waiting.kind waiting.request b.reply request (t.seen b.who) (told_late doc w high k h b waiting i t role) follows) inv s
+      (λ i t role. followed_base doc sound.2 w k g b.who waiting.kind waiting.request b.reply request (t.seen b.who) (told_late doc w high k h b waiting i t role) follows) inv s
 
   later : (k : ℕ) (h : List Entry) → Waits doc w k h → Waits doc w (suc k) h
   later k h s = record {
@@ -210,7 +210,7 @@ module _ (doc : Doc) (sound : IsSound doc) (high : ℕ) (greatest : AtMost doc h
   -- ---- histories
 
   pub turn_known : (p k : ℕ) → k ≤ end_beat doc → IsTail (at_turn doc p k) (whole_history doc) → Waits doc w k (at_turn doc p k)
-  turn_known p k end at = ((walk_at_turn doc (λ k step h. Known k h) known (λ le. (first_right doc high, λ at. first_waits doc w)) p k) end).1 at
+  turn_known p k end at = ((walk_at_turn doc (λ k step h. Known k h) known (no_release doc (λ k step h. Known k h) (stop_of doc sound)) (λ le. (first_right doc high, λ at. first_waits doc w)) p k) end).1 at
 
   pub whole_known : Waits doc w (end_beat doc) (whole_history doc)
   whole_known = turn_known (processes doc) (end_beat doc) (omega arith) (tail_all (whole_history doc))

@@ -173,7 +173,7 @@ module _ (doc : Doc) (premise : Premise doc) (sound : IsSound doc) (p q : Identi
           inr (omega (arith, counted, waited.late.0, mine.since, took.after.0, t.beat))
 
   led_before : (T : List Entry) → IsTail start T → deadline doc p T ≡ None → ⊥
-  led_before T at none = by_deadline (deadline doc p start) (none_below _ start T at none) (and_right (is_present (alive p.process start) p.incarnation) (is_before (local doc p.process j) (deadline doc p start)) (term_of doc p j start first.1))
+  led_before T at none = by_deadline (deadline doc p start) (none_below _ start T at none) (and_right (is_present (alive p.process start) p.incarnation) (is_before (local doc p.process j) (deadline doc p start)) (term_of doc sound.2 p j start first.1))
     where
       by_deadline : (o : Option ℕ) → o ≡ None → is_before (local doc p.process j) o ≡ true → ⊥
       by_deadline None is acting = false_is acting
@@ -204,7 +204,7 @@ module _ (doc : Doc) (premise : Premise doc) (sound : IsSound doc) (p q : Identi
   stopped_never some at = let none = (is_holder doc premise sound q k end last).1 in absurd (omega (arith, some, none, count_tail (λ e. is_stop e.fact && is_by q e.actor) start here at))
 
   at_last : (from : ℕ) (y : Held) → stored election start ≡ Some y → y.by ≡ Some p → y.beat ≡ from → Kept doc p from needed (stored election start) → IsTail start here → from + needed + 3 ≤ k
-  at_last from y top by beat first_kept above = by_deadline (deadline doc q here) (waits.terms q last.0) (and_right (is_present (alive q.process here) q.incarnation) (is_before (local doc q.process k) (deadline doc q here)) (term_of doc q k here last.1))
+  at_last from y top by beat first_kept above = by_deadline (deadline doc q here) (waits.terms q last.0) (and_right (is_present (alive q.process here) q.incarnation) (is_before (local doc q.process k) (deadline doc q here)) (term_of doc sound.2 q k here last.1))
     where
       later : (n : ℕ) (s : Success w q n here) → n ≤ k → IsTail start (s.e ∷ s.before) → from + needed + 3 ≤ k
       later n s le at = ⊎_elim mine far kept.2
@@ -300,7 +300,7 @@ module _ (doc : Doc) (premise : Premise doc) (sound : IsSound doc) (p q : Identi
           omega (
             arith,
             at_last y.beat y top own refl (y, top, inl (mine_at y top own)) at_start,
-            by_deadline y top (deadline doc p start) (inv.led p first.0) (and_right (is_present (alive p.process start) p.incarnation) (is_before (local doc p.process j) (deadline doc p start)) (term_of doc p j start first.1)),
+            by_deadline y top (deadline doc p start) (inv.led p first.0) (and_right (is_present (alive p.process start) p.incarnation) (is_before (local doc p.process j) (deadline doc p start)) (term_of doc sound.2 p j start first.1)),
           )
 
 pub others_wait : OthersWait

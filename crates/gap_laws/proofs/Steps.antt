@@ -14,8 +14,8 @@ use Rattle.kube_objects.specs.declared.lease.Lease.{Lease}
 use Rattle.kube_objects.specs.declared.object.Object.TheVariants as object
 use Rattle.kube_objects.specs.Clocks.{local}
 use Rattle.kube_objects.specs.Document.{Doc, of_seconds, is_controller, call_timeout, retry_period, renew_deadline}
-use Rattle.kube_objects.specs.Elector.{moment, Shown, told, shows, shown, newly, is_known, observed, observed_at, succeeds, leads, lead_says, deadline_says, deadline, is_blocked, is_valid, renewed, updated, created, Fails, Asks, Succeeds, follow_get, is_done, not_done, follow_write, follow_on, attempt_from, attempt, release_from, given_up}
-use Rattle.kube_objects.specs.Entry.{Entry, Identity, Call, CallKind, Plain, Fast, Release, Fact, Sends, Delivers, Leads, Expires, entry}
+use Rattle.kube_objects.specs.Elector.{moment, Shown, told, shows, shown, newly, is_known, observed, observed_at, succeeds, leads, lead_says, deadline_says, deadline, is_blocked, is_valid, renewed, updated, created, Fails, Asks, Succeeds, follow_get, is_done, not_done, follow_write, follow_on, attempt_from, attempt, release_from, given_up, respected}
+use Rattle.kube_objects.specs.Entry.{Entry, Identity, Call, CallKind, Plain, Fast, Release, Fact, Sends, Delivers, Leads, Expires, entry, Look, Emptying, ReleaseBegins}
 use Rattle.kube_objects.specs.Identities.{identity, is_by, is_same, is_own, is_other}
 use Rattle.kube_objects.specs.InFlight.{is_due}
 use Rattle.kube_objects.specs.Newest.{when, only_if, join, or_zero}
@@ -23,6 +23,11 @@ use Rattle.kube_objects.specs.Pauses.{can_at}
 use Rattle.kube_objects.specs.Process.{open_as, call_says, last_call, call_in}
 use Rattle.kube_objects.specs.Stored.{Held, election, stored}
 use Rattle.kube_objects.specs.Wire.{arrival, request_delay, loses_requests, request_arrival, next_call, send, Sent, Back, sent_of, back_of}
+use Rattle.kube_objects.specs.Own.{IsOwn}
+use Rattle.kube_objects.specs.Stalls.{at_store}
+use Rattle.kube_objects.proofs.Own.{respected-own}
+use Rattle.kube_objects.proofs.OwnCalls.{timely}
+use Rattle.kube_objects.proofs.Stalls.{awake_later}
 use Rattle.history_laws.specs.Tails.{In, IsTail}
 use Rattle.history_laws.proofs.Counting.{CountedFor, when_test, when_value}
 use Rattle.history_laws.proofs.Plainly.{upper, for_new, if_some, same_is, same_self, some_is, none_is, false_is, true_is, and_left, not_true}
@@ -111,16 +116,16 @@ keep_still doc w high k x h still inv s =
 -- ---- a request is sent
 
 pub keep_sends : (doc : Doc) (w : Slow) (high k step : ℕ) (q : Identity) (kind : CallKind) (r : Request) (h : List Entry) → Inv doc high k h → (is_controller doc q.process ≡ true → BaseWaited doc w q k (stored election h) r)
-    → (is_release kind ≡ false → q.process ≡ w.who → w.from ≤ k → w.least ≤ request_delay q.process h) → Waits doc w k h → Waits doc w k (send k step q kind r h)
+    → (is_release kind ≡ false → q.process ≡ w.who → w.from ≤ k → w.least ≤ request_delay q.process h) → Waits doc w k h → Waits doc w k (send doc k step q kind r h)
 keep_sends doc w high k step q kind r h inv base slow s =
     let c = next_call q k kind r h in
-    let a = request_arrival q.process k h in
+    let a = request_arrival doc q.process k h in
     let x = entry k step q (Sends c a) in
     let moves : Moves x h = inl refl in
     record {
       shown = s.shown;
       seen = s.seen;
-      sends = for_new (λ e. IfSome (sent_of e.actor e.fact) (SentWell doc w (x ∷ h))) x h (record { arrives = arrives (loses_requests q.process h); base = base }) (sends_more doc w high k x h moves inv s);
+      sends = for_new (λ e. IfSome (sent_of e.actor e.fact) (SentWell doc w (x ∷ h))) x h (record { arrives = stalled (arrival (loses_requests q.process h) k (request_delay q.process h)) (arrives (loses_requests q.process h)); base = base }) (sends_more doc w high k x h moves inv s);
       backs = for_new (λ e. IfSome (back_of e.actor e.fact) (λ b. IfSome b.comes (Late w b.who.process e.beat))) x h tt s.backs;
       answers = each_position (Answered doc w) x h tt s.answers;
       tops = each_position (TopsOrPut doc) x h (inr (inl refl)) s.tops;
@@ -130,6 +135,14 @@ keep_sends doc w high k step q kind r h inv base slow s =
   where
     least : 1 ≤ request_delay q.process h
     least = (inv.delays q.process).0
+
+    -- what comes later where the store stands still is no sooner
+    stalled : (o : Option ℕ) → IfSome o (Arrives w q.process k kind) → IfSome (at_store doc o) (Arrives w q.process k kind)
+    stalled None come = tt
+    stalled (Some t) come =
+        let later = awake_later doc t in
+        let first = come.0 in
+        (omega (arith, first, later), λ plain. let late = come.1 plain in (omega (arith, first, later), λ is from. omega (arith, late.1 is from, later)))
 
     arrives : (b : Bool) → IfSome (arrival b k (request_delay q.process h)) (Arrives w q.process k kind)
     arrives true = tt
@@ -146,6 +159,8 @@ waits_plain q (e ∷ h) c is = cases (λ is. waits_plain q h c is) e.actor e.fac
     opened Plain call same is = subst (λ (c : Call). is_release c.kind ≡ false) (some_is call c is) (ap is_release same)
     opened Fast call same is = subst (λ (c : Call). is_release c.kind ≡ false) (some_is call c is) (ap is_release same)
     opened Release call same is = absurd (none_is c is)
+    opened (Look begun) call same is = subst (λ (c : Call). is_release c.kind ≡ false) (some_is call c is) (ap is_release same)
+    opened (Emptying begun) call same is = subst (λ (c : Call). is_release c.kind ≡ false) (some_is call c is) (ap is_release same)
 
     by_sends : (call_in q h ≡ Some c → is_release c.kind ≡ false) → (b : Bool) (call : Call) → join (upper (when b (open_as call.kind call)) (last_call q h)) ≡ Some c → is_release c.kind ≡ false
     by_sends below true call is = opened call.kind call refl is
@@ -159,6 +174,7 @@ waits_plain q (e ∷ h) c is = cases (λ is. waits_plain q h c is) e.actor e.fac
     cases below who (Sends call arrives) is = by_sends below (is_by q who) call is
     cases below who (Delivers call reply counted) is = by_close below (counted && is_by q who) is
     cases below who (Expires call) is = by_close below (is_by q who) is
+    cases below who (ReleaseBegins at_deadline) is = by_close below (is_by q who) is
     cases below who d is = below is
 
 -- what is known of a counted reply: the answer that it brings
@@ -191,7 +207,7 @@ brought doc w high k h inv s b waiting coming is =
       comes = late_now w b.who.process coming.e.beat k b.comes coming.now (subst (λ o. IfSome o (λ b. IfSome b.comes (Late w b.who.process coming.e.beat))) coming.is (s.backs coming.e coming.stands));
       plain = subst (λ (c : Call). is_release c.kind ≡ false) same (waits_plain b.who h waiting is.waits);
       call = same;
-      timely = ltb-false (local doc b.who.process waiting.sent + call_timeout doc b.who.process) (local doc b.who.process k) is.timely;
+      timely = ltb-false (local doc b.who.process waiting.sent + call_timeout doc b.who.process) (local doc b.who.process k) (timely doc b.who k waiting is.timely);
       answer = λ role. subst (λ c. AnswerRight doc high k (view h) b.who coming.e.beat c b.reply) (sym same) (right.answer role);
     }
 
@@ -296,6 +312,8 @@ success_is doc k h q way request reply version is = cases request is
     refused Plain is = fails is
     refused Fast is = asked (Get election) is
     refused Release is = fails is
+    refused (Look begun) is = fails is
+    refused (Emptying begun) is = fails is
 
     done : (v : Version) → Succeeds v ≡ Succeeds version → Done v ≡ Done version
     done v is = cc
@@ -314,7 +332,7 @@ success_is doc k h q way request reply version is = cases request is
 
     get : (reply : Reply) → follow_get q (moment doc q k) (observed_at doc q h) reply ≡ Succeeds version → ⊥
     get Absent is = asked (Create election (created q (moment doc q k))) is
-    get (Found v lease) is = found (is_blocked q (local doc q.process k) (observed_at doc q h) lease) (Update election v (updated q (moment doc q k) lease)) is
+    get (Found v lease) is = found (is_blocked q (local doc q.process k) (observed_at doc q h) (respected (moment doc q k).respect (moment doc q k).seconds lease)) (Update election v (updated q (moment doc q k) lease)) is
     get (Done v) is = fails is
     get Exists is = fails is
     get (Conflict v) is = fails is
@@ -409,9 +427,9 @@ own_base doc w k h q x next saw own = on_top (stored election h) saw.0.1
     on_top None a = tt
     on_top (Some y) a = λ is lease object other. absurd (not_both q lease.holder (subst (λ (l : Lease). is_own q l.holder ≡ true) (sym (one_lease y x.1 lease (a is).0 object)) own) other)
 
-pub followed_base : (doc : Doc) (w : Slow) (k : ℕ) (h : List Entry) (q : Identity) (way : CallKind) (request : Request) (reply : Reply) (next : Request) → or_zero (observed q h) ≤ k → IfSome (told request reply) (ShownLate doc w h q)
+pub followed_base : (doc : Doc) → IsOwn doc → (w : Slow) (k : ℕ) (h : List Entry) (q : Identity) (way : CallKind) (request : Request) (reply : Reply) (next : Request) → or_zero (observed q h) ≤ k → IfSome (told request reply) (ShownLate doc w h q)
     → follow_on doc q k way request reply h ≡ Asks next → BaseWaited doc w q k (stored election h) next
-followed_base doc w k h q way request reply next seen saw is = cases request saw is
+followed_base doc own w k h q way request reply next seen saw is = cases request saw is
   where
     Based : Request → Type 0
     Based = BaseWaited doc w q k (stored election h)
@@ -420,6 +438,8 @@ followed_base doc w k h q way request reply next seen saw is = cases request saw
     refused Plain is = absurd (no_ask next is)
     refused Fast is = subst Based (asks_is (Get election) next is) tt
     refused Release is = absurd (no_ask next is)
+    refused (Look begun) is = absurd (no_ask next is)
+    refused (Emptying begun) is = absurd (no_ask next is)
 
     write : (reply : Reply) → follow_write way reply ≡ Asks next → Based next
     write (Done v) is = absurd (no_success v next is)
@@ -429,14 +449,15 @@ followed_base doc w k h q way request reply next seen saw is = cases request saw
     write (Conflict v) is = refused way is
     write Unchanged is = refused way is
 
-    found : (v : Version) (lease : Lease) → ShownLate doc w h q (v, lease) → (b : Bool) → is_blocked q (local doc q.process k) (observed_at doc q h) lease ≡ b → cond b Fails (Asks (Update election v (updated q (moment doc q k) lease))) ≡ Asks next → Based next
+    found : (v : Version) (lease : Lease) → ShownLate doc w h q (v, lease) → (b : Bool) → is_blocked q (local doc q.process k) (observed_at doc q h) (respected (moment doc q k).respect (moment doc q k).seconds lease) ≡ b → cond b Fails (Asks (Update election v (updated q (moment doc q k) lease))) ≡ Asks next → Based next
     found v lease saw true blocked is = absurd (no_ask next is)
     found v lease saw false free is =
-        subst Based (asks_is (Update election v (updated q (moment doc q k) lease)) next is) (found_base doc w k h q v lease (updated q (moment doc q k) lease) seen saw free)
+        subst Based (asks_is (Update election v (updated q (moment doc q k) lease)) next is)
+        (found_base doc w k h q v lease (updated q (moment doc q k) lease) seen saw (subst (λ l. is_blocked q (local doc q.process k) (observed_at doc q h) l ≡ false) (respected-own doc own q k lease) free))
 
     get : (key : Key) (reply : Reply) → IfSome (told (Get key) reply) (ShownLate doc w h q) → follow_get q (moment doc q k) (observed_at doc q h) reply ≡ Asks next → Based next
     get key Absent saw is = subst Based (asks_is (Create election (created q (moment doc q k))) next is) tt
-    get key (Found v lease) saw is = found v lease saw (is_blocked q (local doc q.process k) (observed_at doc q h) lease) refl is
+    get key (Found v lease) saw is = found v lease saw (is_blocked q (local doc q.process k) (observed_at doc q h) (respected (moment doc q k).respect (moment doc q k).seconds lease)) refl is
     get key (Done v) saw is = absurd (no_ask next is)
     get key Exists saw is = absurd (no_ask next is)
     get key (Conflict v) saw is = absurd (no_ask next is)

@@ -9,7 +9,7 @@ use Rattle.kube_objects.specs.declared.object.Object.TheVariants as object
 use Rattle.kube_objects.specs.Clocks.{local}
 use Rattle.kube_objects.specs.Document.{Doc, of_seconds, is_controller}
 use Rattle.kube_objects.specs.Elector.{shown, observed, succeeds, lead_says, deadline}
-use Rattle.kube_objects.specs.Entry.{Entry, Identity, CallKind, Plain, Fast, Release}
+use Rattle.kube_objects.specs.Entry.{Entry, Identity, CallKind, Plain, Fast, Release, Look, Emptying}
 use Rattle.kube_objects.specs.Identities.{identity_of, is_other}
 use Rattle.kube_objects.specs.Newest.{or_zero}
 use Rattle.kube_objects.specs.Stored.{Held, election, stored, at_key, write_of, writes, next_version}
@@ -35,6 +35,8 @@ abbrev pub is_release : CallKind → Bool
 is_release Release = true
 is_release Plain = false
 is_release Fast = false
+is_release (Look begun) = false
+is_release (Emptying begun) = false
 
 -- a request comes at beat t; nothing is known of how slow a release is, which is sent among the events of a beat
 abbrev pub Arrives : Slow → ℕ → ℕ → CallKind → ℕ → Type 0

@@ -20,6 +20,7 @@ use Rattle.kube_objects.specs.Process.{alive, last_call, call_in, is_late}
 use Rattle.kube_objects.specs.Stored.{Held, node_key, node_lease, key_of, at_key, request_write, stored, next_version}
 use Rattle.kube_objects.specs.Turns.{with_reply, expired_in}
 use Rattle.kube_objects.specs.Wire.{Sent, Back, back_of, back_as, request_delay_of, request_loss_of, request_delay, arrival, request_arrival, reply_arrival, next_call}
+use Rattle.kube_objects.proofs.Own.{request_arrival-own}
 use Rattle.history.specs.History.{three_steps, history}
 use Rattle.history.specs.Sound.{IsSound}
 use Rattle.history.specs.Steps.{answered}
@@ -150,10 +151,11 @@ module _ (doc : Doc) (sound : IsSound doc) (near far s l : ℕ) (q : Identity) (
       passes : Passes doc near far q.process x.beat
       passes = steady.passes x.beat from to
 
-      request_passes : request_arrival q.process x.beat T ≡ Some (x.beat + request_delay q.process (with_events doc x.beat))
+      request_passes : request_arrival doc q.process x.beat T ≡ Some (x.beat + request_delay q.process (with_events doc x.beat))
       request_passes =
-          let force = forces_stand doc m x T at (omega (arith, sending.late)) in
-          ap (λ b. arrival b x.beat (request_delay q.process T)) (ap (or_else false) (force.1 (request_loss_of q.process)) ∙ passes.requests)
+          let force = forces_stand doc sound.2 m x T at (omega (arith, sending.late)) in
+          request_arrival-own doc sound.2 q.process x.beat T
+          ∙ ap (λ b. arrival b x.beat (request_delay q.process T)) (ap (or_else false) (force.1 (request_loss_of q.process)) ∙ passes.requests)
           ∙ ap (λ n. Some (x.beat + n)) (ap (or_else 1) (force.0 (request_delay_of q.process)))
 
 module _ (doc : Doc) (sound : IsSound doc) (near far s l e : ℕ) (q : Identity) (role : is_controller doc q.process ≡ false) (steady : IsSteady doc near far s l q.process)
@@ -182,10 +184,10 @@ module _ (doc : Doc) (sound : IsSound doc) (near far s l e : ℕ) (q : Identity)
     get = next_call q y1 Plain (Get key) D1
 
     abbrev x2 : Entry
-    x2 = entry y1 3 q (Sends get (request_arrival q.process y1 D1))
+    x2 = entry y1 3 q (Sends get (request_arrival doc q.process y1 D1))
 
     at_2 : IsTail (x2 ∷ D1) (history doc (suc y1))
-    at_2 = subst (λ o. IsTail (send_next y1 q o D1) (history doc (suc y1))) (post_next doc q y1 call.request (answer call.request r1.round.before) post) r1.position
+    at_2 = subst (λ o. IsTail (send_next doc y1 q o D1) (history doc (suc y1))) (post_next doc q y1 call.request (answer call.request r1.round.before) post) r1.position
 
     y1_most : y1 ≤ x.beat + 2 * far
     y1_most = omega (arith, r1.round.most, r1.round.comes_most)
@@ -198,8 +200,8 @@ module _ (doc : Doc) (sound : IsSound doc) (near far s l e : ℕ) (q : Identity)
 
     -- ---- its reply, and the write
 
-    r2 : Replied doc near far q get (request_arrival q.process y1 D1) y1
-    r2 = replied doc sound near far s l e q role steady up_first fast runs timeout one within x2 D1 get (request_arrival q.process y1 D1) in_2 refl refl (omega (arith, y1_least, from)) (omega (arith, y1_most, to))
+    r2 : Replied doc near far q get (request_arrival doc q.process y1 D1) y1
+    r2 = replied doc sound near far s l e q role steady up_first fast runs timeout one within x2 D1 get (request_arrival doc q.process y1 D1) in_2 refl refl (omega (arith, y1_least, from)) (omega (arith, y1_most, to))
 
     abbrev B2 : List Entry
     B2 = r2.round.before
@@ -232,10 +234,10 @@ module _ (doc : Doc) (sound : IsSound doc) (near far s l e : ℕ) (q : Identity)
     put = next_call q y2 Plain a.request D2
 
     abbrev x3 : Entry
-    x3 = entry y2 3 q (Sends put (request_arrival q.process y2 D2))
+    x3 = entry y2 3 q (Sends put (request_arrival doc q.process y2 D2))
 
     at_3 : IsTail (x3 ∷ D2) (history doc (suc y2))
-    at_3 = subst (λ o. IsTail (send_next y2 q o D2) (history doc (suc y2))) a.next r2.position
+    at_3 = subst (λ o. IsTail (send_next doc y2 q o D2) (history doc (suc y2))) a.next r2.position
 
     in_3 : IsTail (x3 ∷ D2) (history doc (suc l))
     in_3 = tail_trans (x3 ∷ D2) (history doc (suc y2)) (history doc (suc l)) at_3 (later_tail doc (suc y2) (suc l) (omega (arith, y2_most, to)))
@@ -243,8 +245,8 @@ module _ (doc : Doc) (sound : IsSound doc) (near far s l e : ℕ) (q : Identity)
     in_3e : IsTail (x3 ∷ D2) (history doc (suc e))
     in_3e = tail_trans (x3 ∷ D2) (history doc (suc l)) (history doc (suc e)) in_3 (later_tail doc (suc l) (suc e) (omega (arith, within)))
 
-    arriving : (w : ℕ) × (request_arrival q.process y2 D2 ≡ Some w) × (y2 + near ≤ w) × (w ≤ y2 + far)
-    arriving = arrives_in doc sound near far s l q role steady x3 D2 put (request_arrival q.process y2 D2) (suc y2) at_3 refl refl (omega (arith, y2_least, from)) (omega (arith, y2_most, to))
+    arriving : (w : ℕ) × (request_arrival doc q.process y2 D2 ≡ Some w) × (y2 + near ≤ w) × (w ≤ y2 + far)
+    arriving = arrives_in doc sound near far s l q role steady x3 D2 put (request_arrival doc q.process y2 D2) (suc y2) at_3 refl refl (omega (arith, y2_least, from)) (omega (arith, y2_most, to))
 
     abbrev w : ℕ
     w = arriving.0
@@ -339,7 +341,7 @@ module _ (doc : Doc) (sound : IsSound doc) (near far s l e : ℕ) (q : Identity)
         no_other : (g : List Entry) → IsTail g t → IsTail t (history doc (suc e)) → HasAnswer q c.number g → ⊥
         no_other g low at_t has_one =
             let p = place_of has_one.z g has_one.stands in
-            let same = answers_differ doc (suc e) has_one.z y p.before t has_one.b back (tail_trans (has_one.z ∷ p.before) g (history doc (suc e)) p.position (tail_trans g t (history doc (suc e)) low at_t)) y_in has_one.is y_back has_one.who has_one.number_is in
+            let same = answers_differ doc sound.2 (suc e) has_one.z y p.before t has_one.b back (tail_trans (has_one.z ∷ p.before) g (history doc (suc e)) p.position (tail_trans g t (history doc (suc e)) low at_t)) y_in has_one.is y_back has_one.who has_one.number_is in
             no_cycle y t (tail_trans (y ∷ t) g t (subst (λ h. IsTail h g) same p.position) low)
 
         t_in : IsTail t (history doc (suc e))
@@ -350,7 +352,7 @@ module _ (doc : Doc) (sound : IsSound doc) (near far s l e : ℕ) (q : Identity)
         is_get is = false_is (sym none ∙ tells)
           where
             same : c ≡ get
-            same = sends_call c get made.s.arrives (request_arrival q.process y1 D1) (sym f_fact ∙ ap (λ (e : Entry). e.fact) (same_head f x2 S D1 is))
+            same = sends_call c get made.s.arrives (request_arrival doc q.process y1 D1) (sym f_fact ∙ ap (λ (e : Entry). e.fact) (same_head f x2 S D1 is))
 
             nothing : wrote ≡ None
             nothing = made.written_is ∙ ap (λ (c : Call). written c.request t) (sym made.call_is ∙ same)
@@ -364,18 +366,18 @@ module _ (doc : Doc) (sound : IsSound doc) (near far s l e : ℕ) (q : Identity)
             let d1_in : IsTail D1 (history doc (suc l)) = tail_trans D1 (x2 ∷ D1) (history doc (suc l)) (inr (tail_all D1)) in_2 in
             no_other D1 (tail_trans D1 (x2 ∷ D1) t (inr (tail_all D1)) get_before) t_in
             (one_at_a_time doc sound near far s l e q role steady up_first fast runs timeout one within f S c made.s.arrives (tail_trans (f ∷ S) D1 (history doc (suc l)) low d1_in) f_actor f_fact f_late
-            x2 D1 get (request_arrival q.process y1 D1) in_2 refl refl low)
+            x2 D1 get (request_arrival doc q.process y1 D1) in_2 refl refl low)
 
         -- the call of the write is answered above
         is_put : f ∷ S ≡ x3 ∷ D2 → ⊥
         is_put is = no_cycle a3 B3 (subst (λ h. IsTail h B3) same y_at)
           where
             that : c ≡ put
-            that = sends_call c put made.s.arrives (request_arrival q.process y2 D2) (sym f_fact ∙ ap (λ (e : Entry). e.fact) (same_head f x3 S D2 is))
+            that = sends_call c put made.s.arrives (request_arrival doc q.process y2 D2) (sym f_fact ∙ ap (λ (e : Entry). e.fact) (same_head f x3 S D2 is))
 
             same : y ∷ t ≡ a3 ∷ B3
             same =
-                answers_differ doc (suc e) y a3 t B3 back (record { who = q; call = put; reply = answer a.request B3; comes = reply_arrival doc q.process w B3 }) y_in a3_in y_back refl refl (ap (λ (c : Call). c.number) that)
+                answers_differ doc sound.2 (suc e) y a3 t B3 back (record { who = q; call = put; reply = answer a.request B3; comes = reply_arrival doc q.process w B3 }) y_in a3_in y_back refl refl (ap (λ (c : Call). c.number) that)
 
         -- no call is sent between the two
         is_between : IsTail (x2 ∷ D1) S → IsTail (f ∷ S) D2 → ⊥
@@ -383,8 +385,8 @@ module _ (doc : Doc) (sound : IsSound doc) (near far s l e : ℕ) (q : Identity)
             omega (
               arith,
               (number_is doc sound (suc e) q role c made.s.arrives f S f_in f_actor f_fact).1,
-              (number_is doc sound (suc l) q role get (request_arrival q.process y1 D1) x2 D1 in_2 refl refl).0,
-              (number_is doc sound (suc l) q role get (request_arrival q.process y1 D1) x2 D1 in_2 refl refl).1,
+              (number_is doc sound (suc l) q role get (request_arrival doc q.process y1 D1) x2 D1 in_2 refl refl).0,
+              (number_is doc sound (suc l) q role get (request_arrival doc q.process y1 D1) x2 D1 in_2 refl refl).1,
               begun_tail q (x2 ∷ D1) S low,
               begun_tail q (f ∷ S) D2 high,
               newest_number doc sound (suc l) q role r2.before before_in get r2.waits,
@@ -395,7 +397,7 @@ module _ (doc : Doc) (sound : IsSound doc) (near far s l e : ℕ) (q : Identity)
 
         -- nor after the write's call while it waits
         is_later : IsTail (x3 ∷ D2) S → ⊥
-        is_later low = ⊎_elim (λ waits. none_is put (sym sending.free ∙ waits)) closed (waits_on doc sound (suc e) q role put (request_arrival q.process y2 D2) x3 D2 in_3e refl refl S s_in low)
+        is_later low = ⊎_elim (λ waits. none_is put (sym sending.free ∙ waits)) closed (waits_on doc sound (suc e) q role put (request_arrival doc q.process y2 D2) x3 D2 in_3e refl refl S s_in low)
           where
             s_low : IsTail S t
             s_low = tail_trans S (f ∷ S) t (inr (tail_all S)) f_at
@@ -428,7 +430,7 @@ module _ (doc : Doc) (sound : IsSound doc) (near far s l e : ℕ) (q : Identity)
                 by_answer has_one =
                     let p = place_of has_one.z S has_one.stands in
                     let same =
-                    answers_differ doc (suc e) has_one.z a3 p.before B3 has_one.b (record { who = q; call = put; reply = answer a.request B3; comes = reply_arrival doc q.process w B3 })
+                    answers_differ doc sound.2 (suc e) has_one.z a3 p.before B3 has_one.b (record { who = q; call = put; reply = answer a.request B3; comes = reply_arrival doc q.process w B3 })
                     (tail_trans (has_one.z ∷ p.before) S (history doc (suc e)) p.position s_in) a3_in has_one.is refl has_one.who has_one.number_is in
                     no_cycle a3 B3 (tail_trans (a3 ∷ B3) S B3 (subst (λ h. IsTail h S) same p.position) s_B3)
 
@@ -459,10 +461,10 @@ module _ (doc : Doc) (sound : IsSound doc) (near far s l e : ℕ) (q : Identity)
         where
           by_test : (b : Bool) → tells_of name y.fact ≡ b → b ≡ false
           by_test false tells = refl
-          by_test true tells = absurd (refute y.fact refl (alone y t y_in tells (omega (arith, y_late, y1_least, from, one))) (are_made doc (suc e) y t y_in) tells)
+          by_test true tells = absurd (refute y.fact refl (alone y t y_in tells (omega (arith, y_late, y1_least, from, one))) (are_made doc sound.2 (suc e) y t y_in) tells)
 
     same_lease : stored key B3 ≡ stored key B2
-    same_lease = (same_words name B2 B3 B2_low (words_tail name B3 (history doc (suc e)) B3_in (words doc name (suc e))) untold).lease
+    same_lease = (same_words name B2 B3 B2_low (words_tail name B3 (history doc (suc e)) B3_in (words doc sound.2 name (suc e))) untold).lease
 
     pub round_writes : (w : ℕ) × WritesAt doc name e w × (x.beat + 5 * near ≤ w)
     round_writes = (
@@ -481,8 +483,8 @@ module _ (doc : Doc) (sound : IsSound doc) (near far s l e : ℕ) (q : Identity)
 
     -- where there is time for the third reply too
     module _ (more : x.beat + 6 * far ≤ l) where
-      r3 : Replied doc near far q put (request_arrival q.process y2 D2) y2
-      r3 = replied doc sound near far s l e q role steady up_first fast runs timeout one within x3 D2 put (request_arrival q.process y2 D2) in_3 refl refl (omega (arith, y2_least, from)) (omega (arith, y2_most, more))
+      r3 : Replied doc near far q put (request_arrival doc q.process y2 D2) y2
+      r3 = replied doc sound near far s l e q role steady up_first fast runs timeout one within x3 D2 put (request_arrival doc q.process y2 D2) in_3 refl refl (omega (arith, y2_least, from)) (omega (arith, y2_most, more))
 
       abbrev y3 : ℕ
       y3 = r3.round.comes
@@ -499,7 +501,7 @@ module _ (doc : Doc) (sound : IsSound doc) (near far s l e : ℕ) (q : Identity)
       D3_in : IsTail D3 (history doc (suc l))
       D3_in =
           tail_trans D3 (history doc (suc y3)) (history doc (suc l))
-          (tail_trans D3 (send_next y3 q (next_request doc q y3 put.request (answer put.request r3.round.before)) D3) (history doc (suc y3)) (next_low y3 q (next_request doc q y3 put.request (answer put.request r3.round.before)) D3) r3.position)
+          (tail_trans D3 (send_next doc y3 q (next_request doc q y3 put.request (answer put.request r3.round.before)) D3) (history doc (suc y3)) (next_low doc y3 q (next_request doc q y3 put.request (answer put.request r3.round.before)) D3) r3.position)
           (later_tail doc (suc y3) (suc l) (omega (arith, y3_most, more)))
 
       -- a request stands below its reply
@@ -525,10 +527,10 @@ module _ (doc : Doc) (sound : IsSound doc) (near far s l e : ℕ) (q : Identity)
       low_1 = inr (below_reply x T call arrives x.beat r1 refl at)
 
       low_2 : IsTail (x2 ∷ D1) D2
-      low_2 = inr (below_reply x2 D1 get (request_arrival q.process y1 D1) y1 r2 refl in_2)
+      low_2 = inr (below_reply x2 D1 get (request_arrival doc q.process y1 D1) y1 r2 refl in_2)
 
       low_3 : IsTail (x3 ∷ D2) D3
-      low_3 = inr (below_reply x3 D2 put (request_arrival q.process y2 D2) y2 r3 refl in_3)
+      low_3 = inr (below_reply x3 D2 put (request_arrival doc q.process y2 D2) y2 r3 refl in_3)
 
       D1_in : IsTail D1 (history doc (suc l))
       D1_in = tail_trans D1 (x2 ∷ D1) (history doc (suc l)) (inr (tail_all D1)) in_2
@@ -558,12 +560,12 @@ module _ (doc : Doc) (sound : IsSound doc) (near far s l e : ℕ) (q : Identity)
       timer_2 : round_timer doc q D2 ≡ round_timer doc q (x2 ∷ D1)
       timer_2 =
           timer_stays doc sound (suc l) q role (x2 ∷ D1) (λ h since h_in. up_at h (since_2 h since) h_in) D2 low_2 D2_in
-          (omega (arith, newest_number doc sound (suc l) q role r2.before (below_top (entry y2 3 q (Delivers get (answer (Get key) B2) true)) r2.before D2_in) get r2.waits, (number_is doc sound (suc l) q role get (request_arrival q.process y1 D1) x2 D1 in_2 refl refl).0, (number_is doc sound (suc l) q role get (request_arrival q.process y1 D1) x2 D1 in_2 refl refl).1))
+          (omega (arith, newest_number doc sound (suc l) q role r2.before (below_top (entry y2 3 q (Delivers get (answer (Get key) B2) true)) r2.before D2_in) get r2.waits, (number_is doc sound (suc l) q role get (request_arrival doc q.process y1 D1) x2 D1 in_2 refl refl).0, (number_is doc sound (suc l) q role get (request_arrival doc q.process y1 D1) x2 D1 in_2 refl refl).1))
 
       timer_3 : round_timer doc q D3 ≡ round_timer doc q (x3 ∷ D2)
       timer_3 =
           timer_stays doc sound (suc l) q role (x3 ∷ D2) (λ h since h_in. up_at h (since_2 h (tail_trans (x2 ∷ D1) (x3 ∷ D2) h (inr low_2) since)) h_in) D3 low_3 D3_in
-          (omega (arith, newest_number doc sound (suc l) q role r3.before (below_top (entry y3 3 q (Delivers put (answer a.request r3.round.before) true)) r3.before D3_in) put r3.waits, (number_is doc sound (suc l) q role put (request_arrival q.process y2 D2) x3 D2 in_3 refl refl).0, (number_is doc sound (suc l) q role put (request_arrival q.process y2 D2) x3 D2 in_3 refl refl).1))
+          (omega (arith, newest_number doc sound (suc l) q role r3.before (below_top (entry y3 3 q (Delivers put (answer a.request r3.round.before) true)) r3.before D3_in) put r3.waits, (number_is doc sound (suc l) q role put (request_arrival doc q.process y2 D2) x3 D2 in_3 refl refl).0, (number_is doc sound (suc l) q role put (request_arrival doc q.process y2 D2) x3 D2 in_3 refl refl).1))
 
       timer_put : round_timer doc q (x3 ∷ D2) ≡ round_timer doc q D2
       timer_put = ap (λ b. or_zero (upper (when (b && is_same q q) (local doc q.process y2 + round_period doc)) (newest (λ e T. round_timer_says doc q e.beat e.actor e.fact) D2))) a.plain

@@ -4,7 +4,7 @@ use Rattle.std.proofs.lemmas.Bool.{cases_lt}
 use Rattle.kube_objects.specs.declared.deed.Actor.{Actor}
 use Rattle.kube_objects.specs.Answers.{answer}
 use Rattle.kube_objects.specs.Document.{Doc, is_controller, call_timeout}
-use Rattle.kube_objects.specs.Entry.{Entry, Identity, Call, Fact, First as FirstPut, Event as Happens, Starts, Crashes, Stops, Stalls, Ends, Sends, Answers, Delivers, Expires, Leads, Ticks, actor_of, entry}
+use Rattle.kube_objects.specs.Entry.{Entry, Identity, Call, Fact, First as FirstPut, Event as Happens, Starts, Crashes, Stops, Stalls, Ends, Sends, Answers, Delivers, Expires, Leads, Ticks, actor_of, entry, StepsDown, ReleaseBegins, ReleaseEnds, ReleaseStops}
 use Rattle.kube_objects.specs.Identities.{is_by}
 use Rattle.kube_objects.specs.Kubelet.{next_request, send_next}
 use Rattle.kube_objects.specs.Newest.{when, join}
@@ -41,7 +41,7 @@ module _ (doc : Doc) (sound : IsSound doc) (m : ℕ) (q : Identity) (role : is_c
   -- what closes a call but by its expiry is the reply to it
   pub closed_answered : (call : Call) (low h : List Entry) → IsTail h (history doc m) → (c : IsClosed q call low h)
       → ((z : Entry) (Z : List Entry) → IsTail (z ∷ Z) h → IsTail low Z → z.actor ≡ actor_of q → is_late doc q z.beat call ≡ true → call_in q Z ≡ Some call → ⊥) → HasAnswer q call.number h
-  closed_answered call low h within c on_time = cases c.e.actor c.e.fact refl refl (are_made doc m c.e c.before position) (kubelet_makes doc sound m c.e c.before position) c.closes
+  closed_answered call low h within c on_time = cases c.e.actor c.e.fact refl refl (are_made doc sound.2 m c.e c.before position) (kubelet_makes doc sound m c.e c.before position) c.closes
     where
       position : IsTail (c.e ∷ c.before) (history doc m)
       position = tail_trans (c.e ∷ c.before) h (history doc m) c.position within
@@ -71,6 +71,10 @@ module _ (doc : Doc) (sound : IsSound doc) (m : ℕ) (q : Identity) (role : is_c
       cases who Crashes actor fact made makes closes = elim closes [ ]
       cases who Ends actor fact made makes closes = elim closes [ ]
       cases who (Stalls beats) actor fact made makes closes = elim closes [ ]
+      cases who StepsDown actor fact made makes closes = absurd made
+      cases who (ReleaseBegins at_deadline) actor fact made makes closes = absurd made
+      cases who ReleaseEnds actor fact made makes closes = absurd made
+      cases who ReleaseStops actor fact made makes closes = absurd made
       cases who (Sends w arrives) actor fact made makes closes = elim closes [ ]
       cases who (Answers w reply at_beat wrote) actor fact made makes closes = elim closes [ ]
       cases who (Delivers w reply false) actor fact made makes closes = elim closes [ ]
@@ -102,7 +106,7 @@ module _ (doc : Doc) (sound : IsSound doc) (near far s l e : ℕ) (q : Identity)
         at_d : IsTail D (history doc (suc l))
         at_d =
             tail_trans D (history doc (suc y)) (history doc (suc l))
-            (tail_trans D (send_next y q (next_request doc q y call.request (answer call.request r.round.before)) D) (history doc (suc y)) (next_low y q (next_request doc q y call.request (answer call.request r.round.before)) D) r.position)
+            (tail_trans D (send_next doc y q (next_request doc q y call.request (answer call.request r.round.before)) D) (history doc (suc y)) (next_low doc y q (next_request doc q y call.request (answer call.request r.round.before)) D) r.position)
             (later_tail doc (suc y) (suc l) (omega (arith, soon, to)))
 
         before_at : IsTail r.before (history doc (suc l))

@@ -10,6 +10,7 @@ use Rattle.kube_objects.specs.Entry.{Entry, Identity, Call, Fact, Starts, Sends,
 use Rattle.kube_objects.specs.Identities.{identity, is_by, of_process}
 use Rattle.kube_objects.specs.Kubelet.{node_of, is_post, round_says, has_round, round_period, round_timer_says}
 use Rattle.kube_objects.specs.Newest.{newest, added, when, join, has, or_else, or_zero}
+use Rattle.kube_objects.specs.Own.{IsOwn}
 use Rattle.kube_objects.specs.Process.{alive, starts, is_start, begun, is_send, call_says, last_call}
 use Rattle.kube_objects.specs.Turns.{expired_in}
 use Rattle.history.specs.History.{three_steps, history, at_turn}
@@ -39,9 +40,9 @@ use Rattle.heard_laws.proofs.Chain.{RoundEnds, WritesAt, arrives_in, round_write
 
 -- ---- incarnations are counted
 
-counted : (doc : Doc) (m : ℕ) (h : List Entry) → IsTail h (history doc m) → Counted h
-counted doc m [] within = λ p i up. absurd (none_is i up)
-counted doc m (x ∷ h) within = counted_more x h (next_start doc x.beat x.step x.actor x.fact h (are_made doc m x h within)) (counted doc m h (tail_trans h (x ∷ h) (history doc m) (inr (tail_all h)) within))
+counted : (doc : Doc) → IsOwn doc → (m : ℕ) (h : List Entry) → IsTail h (history doc m) → Counted h
+counted doc own m [] within = λ p i up. absurd (none_is i up)
+counted doc own m (x ∷ h) within = counted_more x h (next_start doc x.beat x.step x.actor x.fact h (are_made doc own m x h within)) (counted doc own m h (tail_trans h (x ∷ h) (history doc m) (inr (tail_all h)) within))
 
 -- with no request sent no round was begun
 unbegun : (q : Identity) (h : List Entry) → begun q h ≤ 0 → has_round q h ≡ false
@@ -80,7 +81,7 @@ module _ (doc : Doc) (sound : IsSound doc) (near far s l : ℕ) (q : Identity) (
   before_in = tail_trans lives.before born_at (history doc (suc l)) (inr (tail_all lives.before)) born_in
 
   number : q.incarnation ≡ starts q.process lives.before + 1
-  number = by_made (subst (λ d. MadeAs doc lives.start.beat lives.start.step lives.start.actor d lives.before) lives.starts (are_made doc (suc l) lives.start lives.before born_in))
+  number = by_made (subst (λ d. MadeAs doc lives.start.beat lives.start.step lives.start.actor d lives.before) lives.starts (are_made doc sound.2 (suc l) lives.start lives.before born_in))
     where
       by_made : (p : ℕ) × (lives.start.actor ≡ actor_of (identity p (starts p lives.before + 1))) → q.incarnation ≡ starts q.process lives.before + 1
       by_made made =
@@ -100,7 +101,7 @@ module _ (doc : Doc) (sound : IsSound doc) (near far s l : ℕ) (q : Identity) (
   up_at h since within = by_place (tails_meet h (with_events doc s) (history doc (suc l)) within events_in)
     where
       by_place : IsTail h (with_events doc s) ⊎ IsTail (with_events doc s) h → alive q.process h ≡ Some q.incarnation
-      by_place (inl low) = still_up q h (omega (arith, born_counted, starts_tail q.process born_at h since)) (λ over. (over_stays doc (suc l) q h (with_events doc s) events_in low over).1 lives.up)
+      by_place (inl low) = still_up q h (omega (arith, born_counted, starts_tail q.process born_at h since)) (λ over. (over_stays doc sound.2 (suc l) q h (with_events doc s) events_in low over).1 lives.up)
       by_place (inr high) = stays_up doc sound near far s l q lives.role lives.steady (with_events doc s) h (tail_all (with_events doc s)) high within some lives.up
 
   -- it sent nothing before
@@ -117,7 +118,7 @@ module _ (doc : Doc) (sound : IsSound doc) (near far s l : ℕ) (q : Identity) (
       never : (d : Fact) → x.fact ≡ d → is_send d ≡ true → is_by q x.actor ≡ true → ⊥
       never (Sends call arrives) fact sends mine =
           let up = (sends_as doc sound (suc l) q lives.role x h call arrives x_in (by_is q x.actor mine) fact).up in
-          omega (arith, counted doc (suc l) h (tail_trans h (x ∷ h) (history doc (suc l)) (inr (tail_all h)) x_in) q.process q.incarnation up, starts_tail q.process h lives.before below, number)
+          omega (arith, counted doc sound.2 (suc l) h (tail_trans h (x ∷ h) (history doc (suc l)) (inr (tail_all h)) x_in) q.process q.incarnation up, starts_tail q.process h lives.before below, number)
       never d fact sends mine = false_is sends
 
       by_kind : begun q h ≡ 0 → (send own : Bool) → is_send x.fact ≡ send → is_by q x.actor ≡ own → added (send && own) (begun q h) ≡ 0
@@ -289,7 +290,7 @@ last_words_are_late doc near far s last e v q name sound one lives to timely alo
 -- ---- and no later
 
 pub last_words_are_soon : LastWordsAreSoon
-last_words_are_soon doc near far s last e v q name sound one lives some alone end told = ⊎_elim (λ late. by_fact told.x.fact refl (tells_alone doc sound s e q name alone told.x told.before told.stands told.tells (omega (arith, late, told.beat))) (are_made doc (suc e) told.x told.before told.stands)) (λ early. omega (arith, early, some)) (cases_lt s v)
+last_words_are_soon doc near far s last e v q name sound one lives some alone end told = ⊎_elim (λ late. by_fact told.x.fact refl (tells_alone doc sound s e q name alone told.x told.before told.stands told.tells (omega (arith, late, told.beat))) (are_made doc sound.2 (suc e) told.x told.before told.stands)) (λ early. omega (arith, early, some)) (cases_lt s v)
   where
     -- it isn't up any more
     over : Over q (with_events doc (suc last))
@@ -335,7 +336,7 @@ last_words_are_soon doc near far s last e v q name sound one lives some alone en
 
         too_late : suc last ≤ f.beat → ⊥
         too_late late =
-            (over_stays doc (suc e) q (with_events doc (suc last)) S (tail_trans S (f ∷ S) (history doc (suc e)) (inr (tail_all S)) f_in) (since_low doc (suc last) e f S f_in late sending.late) over).1 sending.up
+            (over_stays doc sound.2 (suc e) q (with_events doc (suc last)) S (tail_trans S (f ∷ S) (history doc (suc e)) (inr (tail_all S)) f_in) (since_low doc (suc last) e f S f_in late sending.late) over).1 sending.up
 
     by_fact : (d : Fact) → told.x.fact ≡ d → (told.x.actor ≡ actor_of q) × AnswersSince s d → MadeAs doc told.x.beat told.x.step told.x.actor d told.before → v ≤ last + far
     by_fact (Answers c replied_as comes wrote) fact mine made = by_answer c replied_as comes wrote mine.0 mine.1 made

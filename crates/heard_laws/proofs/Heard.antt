@@ -1,4 +1,4 @@
--- Which passes hear of a node: none long after the last word of it, and one soon after a renewal.
+-- Which passes hear of a node: none long after the last word of it, and one soon after a renewal: under the project's own rules.
 use Rattle.std.proofs.Common.{◌≡◌, ◌∙◌, ◌⊎◌, ◌≤◌, ◌<◌, ℕ, suc, ◌+◌, ◌-◌, ◌||◌, not, nat_lt, Bool, true, false, List, [], ◌∷◌, Option, Some, None, refl, sym, ap, subst, inl, inr, ⊎_elim, arith}
 use Rattle.std.proofs.lemmas.Bool.{lt-ltb, ltb-true, eq-eqb, cases_lt, cases_eq}
 use Rattle.kube_base.specs.declared.numbers.Wall.{Wall}
@@ -10,9 +10,10 @@ use Rattle.kube_objects.specs.declared.object.Object.TheVariants as object
 use Rattle.kube_objects.specs.Answers.{versioned, as_kind, node_in, lease_in}
 use Rattle.kube_objects.specs.Document.{Doc}
 use Rattle.kube_objects.specs.Entry.{Entry, Identity, Fact, Ticks, Tick, Sync, Pass, entry}
-use Rattle.kube_objects.specs.Health.{at_pass, node_heartbeat, lease_renewal, heartbeat, renewal, keeps, is_found, is_known, kept_heartbeat, kept_renewal, is_news, is_later, hears, last_pass, is_after_pass}
+use Rattle.kube_objects.specs.Health.{at_pass, node_heartbeat, lease_renewal, heartbeat, renewal, keeps, is_found, is_known, kept_heartbeat, kept_renewal, is_news, is_later, hears, last_pass, pass_period, is_after_pass}
 use Rattle.kube_objects.specs.Identities.{is_by}
 use Rattle.kube_objects.specs.Newest.{newest, only_if, has, join, or_else}
+use Rattle.kube_objects.specs.Own.{IsOwn}
 use Rattle.kube_objects.specs.Seen.{tick_shows, seen_says, seen}
 use Rattle.kube_objects.specs.Stored.{Held, node_key, node_lease, at_key, write_of, tick_write, holds, last_write, stored}
 use Rattle.kube_objects.specs.Tick.{add}
@@ -48,9 +49,9 @@ word_at : (name : ℕ) (x : Entry) (g h : List Entry) → IsTail (x ∷ g) h →
 word_at name x g h at s = (words_tail name (x ∷ g) h at s).0
 
 -- what tells of a node up to a beat stands below the pass of that beat
-module _ (doc : Doc) (q : Identity) (name k e : ℕ) (attended : IsAttended doc q k) (due : has_pass doc q k ≡ true) (le : k ≤ e) where
+module _ (doc : Doc) (own : IsOwn doc) (q : Identity) (name k e : ℕ) (attended : IsAttended doc q k) (due : has_pass doc q k ≡ true) (le : k ≤ e) where
   pass_stands : IsTail (add k q Pass (synced_at doc q k)) (history doc (suc e))
-  pass_stands = tail_trans (add k q Pass (synced_at doc q k)) (history doc (suc k)) (history doc (suc e)) (pass_in doc q k attended due) (later_tail doc (suc k) (suc e) (omega (arith, le)))
+  pass_stands = tail_trans (add k q Pass (synced_at doc q k)) (history doc (suc k)) (history doc (suc e)) (pass_in doc own q k attended due) (later_tail doc (suc k) (suc e) (omega (arith, le)))
 
   pub told_by : (y : Entry) (g : List Entry) → IsTail (y ∷ g) (history doc (suc e)) → tells_of name y.fact ≡ true → y.beat ≤ k → IsTail (y ∷ g) (synced_at doc q k)
   told_by y g at tells early = ⊎_elim below above (tails_meet (y ∷ g) (add k q Pass (synced_at doc q k)) (history doc (suc e)) at pass_stands)
@@ -66,7 +67,7 @@ module _ (doc : Doc) (q : Identity) (name k e : ℕ) (attended : IsAttended doc 
       below (inr at) = at
 
       step : (y.step ≡ 0) ⊎ ((y.step ≡ 1) ⊎ (y.step ≡ 2))
-      step = telling_step name y.beat y.step y.actor y.fact g (word_at name y g (history doc (suc e)) at (words doc name (suc e))) tells
+      step = telling_step name y.beat y.step y.actor y.fact g (word_at name y g (history doc (suc e)) at (words doc own name (suc e))) tells
 
       within : IsTail (add k q Pass (synced_at doc q k)) g → IsWithin y.beat y.step (entry k 4 q (Ticks Pass))
       within at_g = below_ordered y g (history doc (suc e)) at (entries_are_ordered doc (suc e)) (entry k 4 q (Ticks Pass)) (in_tail (entry k 4 q (Ticks Pass)) (add k q Pass (synced_at doc q k)) g at_g (inl refl))
@@ -131,7 +132,7 @@ later_heard true false c hc = hc
 later_heard false b c hc = refl
 
 -- a pass and an earlier one, with no pass between
-module _ (doc : Doc) (q : Identity) (name r p : ℕ) (attends : Attends doc q r p) (due : has_pass doc q r ≡ true) (lt : r < p) (none : (j : ℕ) → r < j → j < p → has_pass doc q j ≡ false) where
+module _ (doc : Doc) (own : IsOwn doc) (q : Identity) (name r p : ℕ) (attends : Attends doc q r p) (due : has_pass doc q r ≡ true) (lt : r < p) (none : (j : ℕ) → r < j → j < p → has_pass doc q j ≡ false) where
   abbrev low : List Entry
   low = synced_at doc q r
 
@@ -139,20 +140,20 @@ module _ (doc : Doc) (q : Identity) (name r p : ℕ) (attends : Attends doc q r 
   high = synced_at doc q p
 
   low_mirrors : Mirrors q low
-  low_mirrors = synced_mirrors doc q r (attends r (omega arith) (omega (arith, lt)))
+  low_mirrors = synced_mirrors doc own q r (attends r (omega arith) (omega (arith, lt)))
 
   high_mirrors : Mirrors q high
-  high_mirrors = synced_mirrors doc q p (attends p (omega (arith, lt)) (omega arith))
+  high_mirrors = synced_mirrors doc own q p (attends p (omega (arith, lt)) (omega arith))
 
   -- what is known then is whether the earlier one found it, and so is what it kept
   known_is : is_known q name high ≡ is_found q name low
-  known_is = ap (or_else false) (still_said doc q Bool (λ T. Some (is_found q name T)) r p attends due none lt)
+  known_is = ap (or_else false) (still_said doc own q Bool (λ T. Some (is_found q name T)) r p attends due none lt)
 
   heartbeat_is : kept_heartbeat q name high ≡ join (upper (keeps (is_found q name low) (heartbeat q name low)) (newest (λ e T. at_pass q (λ T. keeps (is_found q name T) (heartbeat q name T)) e.actor e.fact T) low))
-  heartbeat_is = ap join (still_said doc q (Option Wall) (λ T. keeps (is_found q name T) (heartbeat q name T)) r p attends due none lt)
+  heartbeat_is = ap join (still_said doc own q (Option Wall) (λ T. keeps (is_found q name T) (heartbeat q name T)) r p attends due none lt)
 
   renewal_is : kept_renewal q name high ≡ join (upper (keeps (is_found q name low) (renewal q name low)) (newest (λ e T. at_pass q (λ T. keeps (is_found q name T) (renewal q name T)) e.actor e.fact T) low))
-  renewal_is = ap join (still_said doc q (Option Wall) (λ T. keeps (is_found q name T) (renewal q name T)) r p attends due none lt)
+  renewal_is = ap join (still_said doc own q (Option Wall) (λ T. keeps (is_found q name T) (renewal q name T)) r p attends due none lt)
 
   -- the same word is no news
   silent : SameWord name low high → has (stored_node name high) ≡ true → hears q name high ≡ false
@@ -175,17 +176,17 @@ module _ (doc : Doc) (q : Identity) (name r p : ℕ) (attends : Attends doc q r 
   low_high : IsTail low high
   low_high =
       tail_trans low (history doc p) high
-      (tail_trans low (history doc (suc r)) (history doc p) (synced_in doc q r (attends r (omega arith) (omega (arith, lt)))) (later_tail doc (suc r) p (omega (arith, lt))))
-      (old_synced doc q p (attends p (omega (arith, lt)) (omega arith)))
+      (tail_trans low (history doc (suc r)) (history doc p) (synced_in doc own q r (attends r (omega arith) (omega (arith, lt)))) (later_tail doc (suc r) p (omega (arith, lt))))
+      (old_synced doc own q p (attends p (omega (arith, lt)) (omega arith)))
 
   -- nothing tells of the node between, where the last that does so comes no later than the earlier pass
   untold : (v e : ℕ) → p ≤ e → IsLastTold doc name v e → v ≤ r → SameWord name low high
   untold v e end told early =
-      same_words name low high low_high (words_tail name high (history doc (suc p)) in_p (words doc name (suc p)))
+      same_words name low high low_high (words_tail name high (history doc (suc p)) in_p (words doc own name (suc p)))
       (λ y t stands since. by_test y t stands since (tells_of name y.fact) refl)
     where
       in_p : IsTail high (history doc (suc p))
-      in_p = synced_in doc q p (attends p (omega (arith, lt)) (omega arith))
+      in_p = synced_in doc own q p (attends p (omega (arith, lt)) (omega arith))
 
       by_test : (y : Entry) (t : List Entry) → IsTail (y ∷ t) high → IsTail low t → (b : Bool) → tells_of name y.fact ≡ b → b ≡ false
       by_test y t stands since false tells = refl
@@ -193,12 +194,12 @@ module _ (doc : Doc) (q : Identity) (name r p : ℕ) (attends : Attends doc q r 
           let at = tail_trans (y ∷ t) high (history doc (suc e)) stands (tail_trans high (history doc (suc p)) (history doc (suc e)) in_p (later_tail doc (suc p) (suc e) (omega (arith, end)))) in
           let soon = told_early doc name v e told y t at tells in
           absurd (no_cycle y t (tail_trans (y ∷ t) low t
-          (told_by doc q name r e (attends r (omega arith) (omega (arith, lt))) due (omega (arith, lt, end)) y t at tells (omega (arith, soon, early))) since))
+          (told_by doc own q name r e (attends r (omega arith) (omega (arith, lt))) due (omega (arith, lt, end)) y t at tells (omega (arith, soon, early))) since))
 
 -- ---- the upper bound
 
 pub passes_hear_in_time : PassesHearInTime
-passes_hear_in_time doc q name a p e v attends first told slow far runs enough some from to heard = ⊎_elim (λ same. inl same) (λ other. inr (later (omega (arith, from, other)))) (cases_eq p a)
+passes_hear_in_time doc own q name a p e v attends first told slow far runs enough some from to heard = ⊎_elim (λ same. inl same) (λ other. inr (later (omega (arith, from, other)))) (cases_eq p a)
   where
     later : a < p → p < v + far
     later lt = ⊎_elim (λ early. omega (arith, early, soon)) (λ late. absurd (true_is (sym heard.heard ∙ quiet late))) (cases_lt last.at v)
@@ -217,14 +218,14 @@ passes_hear_in_time doc q name a p e v attends first told slow far runs enough s
           where
             by_next : last.at + far ≤ e → p ≤ last.at + far
             by_next within =
-                let next = next_pass doc q a e attends slow far runs enough last.at last.least some within last.is in
+                let next = next_pass doc own q a e attends slow far runs enough last.at last.least some within last.is in
                 ⊎_elim (λ less. absurd (true_is (sym next.pass ∙ none next.at next.after less))) (λ le. omega (arith, le, next.most)) (cases_lt next.at p)
 
         within_span : Attends doc q last.at p
         within_span k low high = attends k (omega (arith, low, last.least)) (omega (arith, high, to))
 
         quiet : v ≤ last.at → hears q name (synced_at doc q p) ≡ false
-        quiet late = silent doc q name last.at p within_span last.is before none (untold doc q name last.at p within_span last.is before none v e to told late) heard.found
+        quiet late = silent doc own q name last.at p within_span last.is before none (untold doc own q name last.at p within_span last.is before none v e to told late) heard.found
 
 -- ---- where what is seen and kept was written
 
@@ -317,7 +318,7 @@ first_hears q name h none =
     ap (λ a. not a || is_news (heartbeat q name h) (kept_heartbeat q name h) || is_later (renewal q name h) (kept_renewal q name h))
     (ap (or_else false) (none_said q Bool (λ T. Some (is_found q name T)) h none))
 
-module _ (doc : Doc) (q : Identity) (name e v : ℕ) (told : IsLastTold doc name v e) (renews : IsLatestRenewal name told.x told.before)
+module _ (doc : Doc) (own : IsOwn doc) (q : Identity) (name e v : ℕ) (told : IsLastTold doc name v e) (renews : IsLatestRenewal name told.x told.before)
     (r m : ℕ) (attends : Attends doc q r m) (due : has_pass doc q r ≡ true) (passes : has_pass doc q m ≡ true) (early : r < v) (late : v ≤ m) (end : m ≤ e) (none : (j : ℕ) → r < j → j < m → has_pass doc q j ≡ false) where
   abbrev lt : r < m
   lt = omega (arith, early, late)
@@ -327,19 +328,19 @@ module _ (doc : Doc) (q : Identity) (name e v : ℕ) (told : IsLastTold doc name
 
   -- the renewal stands below the later pass, and is what is stored there
   stands : IsTail (told.x ∷ told.before) (synced_at doc q m)
-  stands = told_by doc q name m e here passes end told.x told.before told.stands told.tells (omega (arith, told.beat, late))
+  stands = told_by doc own q name m e here passes end told.x told.before told.stands told.tells (omega (arith, told.beat, late))
 
   high_in : IsTail (synced_at doc q m) (history doc (suc e))
-  high_in = tail_trans (synced_at doc q m) (history doc (suc m)) (history doc (suc e)) (synced_in doc q m here) (later_tail doc (suc m) (suc e) (omega (arith, end)))
+  high_in = tail_trans (synced_at doc q m) (history doc (suc m)) (history doc (suc e)) (synced_in doc own q m here) (later_tail doc (suc m) (suc e) (omega (arith, end)))
 
   since : SameWord name (told.x ∷ told.before) (synced_at doc q m)
   since =
-      same_words name (told.x ∷ told.before) (synced_at doc q m) stands (words_tail name (synced_at doc q m) (history doc (suc e)) high_in (words doc name (suc e)))
+      same_words name (told.x ∷ told.before) (synced_at doc q m) stands (words_tail name (synced_at doc q m) (history doc (suc e)) high_in (words doc own name (suc e)))
       (λ y t at after. told.last y t (tail_trans (y ∷ t) (synced_at doc q m) (history doc (suc e)) at high_in) after)
 
   renewal_at : renewal q name (synced_at doc q m) ≡ Some renews.at
   renewal_at =
-      ap (λ o. lease_renewal (as_kind lease_in o)) (synced_mirrors doc q m here (node_lease name) ∙ since.lease)
+      ap (λ o. lease_renewal (as_kind lease_in o)) (synced_mirrors doc own q m here (node_lease name) ∙ since.lease)
       ∙ ap (λ o. lease_renewal (as_kind lease_in (join (upper (holds told.before told.x.beat told.x.actor o) (last_write (node_lease name) told.before))))) renews.writes
       ∙ renews.renewed
 
@@ -357,7 +358,7 @@ module _ (doc : Doc) (q : Identity) (name e v : ℕ) (told : IsLastTold doc name
       passed : kept_renewal q name (add r q Pass (synced_at doc q r)) ≡ Some time
       passed =
           ap (λ b. join (upper (only_if b (keeps (is_found q name (synced_at doc q r)) (renewal q name (synced_at doc q r)))) (newest (λ e T. at_pass q (λ T. keeps (is_found q name T) (renewal q name T)) e.actor e.fact T) (synced_at doc q r)))) (same_self q)
-          ∙ sym (renewal_is doc q name r m attends due lt none) ∙ is
+          ∙ sym (renewal_is doc own q name r m attends due lt none) ∙ is
 
       w : Renewed name time (add r q Pass (synced_at doc q r))
       w = kept_written q name time (add r q Pass (synced_at doc q r)) passed
@@ -365,7 +366,7 @@ module _ (doc : Doc) (q : Identity) (name e v : ℕ) (told : IsLastTold doc name
       in_v : IsTail (w.y ∷ w.before) (history doc v)
       in_v =
           tail_trans (w.y ∷ w.before) (add r q Pass (synced_at doc q r)) (history doc v) w.position
-          (tail_trans (add r q Pass (synced_at doc q r)) (history doc (suc r)) (history doc v) (pass_in doc q r (attends r (omega arith) (omega (arith, lt))) due) (later_tail doc (suc r) v (omega (arith, early))))
+          (tail_trans (add r q Pass (synced_at doc q r)) (history doc (suc r)) (history doc v) (pass_in doc own q r (attends r (omega arith) (omega (arith, lt))) due) (later_tail doc (suc r) v (omega (arith, early))))
 
       in_e : IsTail (w.y ∷ w.before) (history doc (suc e))
       in_e = tail_trans (w.y ∷ w.before) (history doc v) (history doc (suc e)) in_v (later_tail doc v (suc e) (omega (arith, late, end)))
@@ -388,7 +389,7 @@ module _ (doc : Doc) (q : Identity) (name e v : ℕ) (told : IsLastTold doc name
       later_heard (is_known q name h) (is_news (heartbeat q name h) (kept_heartbeat q name h)) (is_later (renewal q name h) (kept_renewal q name h)) later_is
 
 pub renewals_are_heard : RenewalsAreHeard
-renewals_are_heard doc q name a e v attends none from told renews k least most due =
+renewals_are_heard doc own q name a e v attends none from told renews k least most due =
     (m, first.least, omega (arith, first.most, least), first.is, ⊎_elim same (λ other. later (omega (arith, first.least, from, other))) (cases_eq m a))
   where
     first : IsFirst (has_pass doc q) v (k - v)
@@ -404,13 +405,13 @@ renewals_are_heard doc q name a e v attends none from told renews k least most d
     same is = subst (λ k. hears q name (synced_at doc q k) ≡ true) (sym is) (first_hears q name (synced_at doc q a) none)
 
     passes : has_pass doc q a ≡ true
-    passes = ap (is_after_pass doc a q) none
+    passes = ap (is_after_pass doc a q (pass_period doc q (synced_at doc q a))) none
 
     later : a < m → hears q name (synced_at doc q m) ≡ true
     later lt = ⊎_elim before (λ le. absurd (true_is (sym passes ∙ first.none a le lt))) (cases_lt a v)
       where
         before : a < v → hears q name (synced_at doc q m) ≡ true
-        before early = renewal_heard doc q name e v told renews last.at m within_span last.is first.is (omega (arith, last.most, early)) first.least end none_between
+        before early = renewal_heard doc own q name e v told renews last.at m within_span last.is first.is (omega (arith, last.most, early)) first.least end none_between
           where
             last : IsLast (has_pass doc q) a (v - 1 - a)
             last = last_of (has_pass doc q) a (v - 1 - a) passes

@@ -7,7 +7,7 @@ use Rattle.kube_objects.specs.declared.call.Request.{Request}
 use Rattle.kube_objects.specs.declared.deed.Actor.{Actor}
 use Rattle.kube_objects.specs.Clocks.{local}
 use Rattle.kube_objects.specs.Document.{Doc, processes, is_controller}
-use Rattle.kube_objects.specs.Entry.{Entry, Identity, Call, Plain, Fact, First as FirstPut, Event as Happens, Starts, Crashes, Stops, Stalls, Ends, Sends, Answers, Delivers, Expires, Leads, Ticks, actor_of, entry}
+use Rattle.kube_objects.specs.Entry.{Entry, Identity, Call, Plain, Fact, First as FirstPut, Event as Happens, Starts, Crashes, Stops, Stalls, Ends, Sends, Answers, Delivers, Expires, Leads, Ticks, actor_of, entry, StepsDown, ReleaseBegins, ReleaseEnds, ReleaseStops}
 use Rattle.kube_objects.specs.Identities.{is_by}
 use Rattle.kube_objects.specs.Kubelet.{is_post, ends_round, round_says, has_round, round_period, round_timer_says, round_timer, post, next_request, is_post_call, round_if, is_round_due, round}
 use Rattle.kube_objects.specs.Newest.{newest, added, when, join, or_else, or_zero}
@@ -53,6 +53,7 @@ module _ (doc : Doc) (sound : IsSound doc) (m : ℕ) (q : Identity) (role : is_c
       call_none who (Sends c arrives) other = ap (λ b. when b (open_as c.kind c)) other
       call_none who (Delivers c reply counted) other = ap (λ b. when {A = Option Call} (counted && b) None) other ∙ ap (λ b. when {A = Option Call} b None) (and_false counted)
       call_none who (Expires c) other = ap (λ b. when {A = Option Call} b None) other
+      call_none who (ReleaseBegins at_deadline) other = ap (λ b. when {A = Option Call} b None) other
       call_none who d other = refl
 
       round_none : (who : Actor) (d : Fact) → is_by q who ≡ false → round_says q who d ≡ None
@@ -69,7 +70,7 @@ module _ (doc : Doc) (sound : IsSound doc) (m : ℕ) (q : Identity) (role : is_c
 
   -- so does an own one but a start or a request: it isn't a counted reply nor an expiry, since no call waits
   mine_idle : (x : Entry) (h : List Entry) → IsTail (x ∷ h) (history doc m) → Idle doc q at h → alive q.process h ≡ Some q.incarnation → is_by q x.actor ≡ true → is_send x.fact ≡ false → Idle doc q at (x ∷ h)
-  mine_idle x h within i up mine unsent = cases x.actor x.fact refl refl mine unsent (are_made doc m x h within)
+  mine_idle x h within i up mine unsent = cases x.actor x.fact refl refl mine unsent (are_made doc sound.2 m x h within)
     where
       After : Actor → Fact → Type 0
       After who d = Idle doc q at (record { beat = x.beat; step = x.step; actor = who; fact = d } ∷ h)
@@ -88,7 +89,7 @@ module _ (doc : Doc) (sound : IsSound doc) (m : ℕ) (q : Identity) (role : is_c
 
       cases : (who : Actor) (d : Fact) → x.actor ≡ who → x.fact ≡ d → is_by q who ≡ true → is_send d ≡ false → MadeAs doc x.beat x.step who d h → After who d
       cases who (Sends c arrives) actor fact mine unsent made = absurd (true_is unsent)
-      cases who Starts actor fact mine unsent made = absurd (none_is q.incarnation (sym (starts_are_down doc m x h within fact q (actor ∙ by_is q who mine)) ∙ up))
+      cases who Starts actor fact mine unsent made = absurd (none_is q.incarnation (sym (starts_are_down doc sound.2 m x h within fact q (actor ∙ by_is q who mine)) ∙ up))
       cases who (Delivers c reply true) actor fact mine unsent made =
           let same : made.b.who ≡ q = actor_is made.b.who q (sym made.by ∙ by_is q who mine) in
           absurd (none_is c (sym i.free ∙ sym (ap (λ p. call_in p h) same) ∙ (counted_is doc made.b.who x.beat made.b.call.number h c made.counted_is).waits))
@@ -102,6 +103,10 @@ module _ (doc : Doc) (sound : IsSound doc) (m : ℕ) (q : Identity) (role : is_c
       cases who Stops actor fact mine unsent made = plain who Stops mine refl refl refl (λ k. refl)
       cases who Ends actor fact mine unsent made = plain who Ends mine refl refl refl (λ k. refl)
       cases who (Stalls beats) actor fact mine unsent made = plain who (Stalls beats) mine refl refl refl (λ k. refl)
+      cases who StepsDown actor fact mine unsent made = absurd made
+      cases who (ReleaseBegins at_deadline) actor fact mine unsent made = absurd made
+      cases who ReleaseEnds actor fact mine unsent made = absurd made
+      cases who ReleaseStops actor fact mine unsent made = absurd made
       cases who (Answers c reply comes wrote) actor fact mine unsent made = plain who (Answers c reply comes wrote) mine refl refl refl (λ k. refl)
       cases who (Leads version) actor fact mine unsent made = plain who (Leads version) mine refl refl refl (λ k. refl)
       cases who (Ticks t) actor fact mine unsent made = plain who (Ticks t) mine refl refl refl (λ k. refl)
@@ -184,7 +189,7 @@ module _ (doc : Doc) (sound : IsSound doc) (m : ℕ) (q : Identity) (role : is_c
         by_test false is = refl
         by_test true is = let lt : local doc q.process k < at = ltb-true (local doc q.process k) at is in absurd (omega (arith, lt, time))
 
-    turn_is : after_turn doc q.process k ≡ send k 4 q Plain (post doc q k (at_turn doc q.process k)) (at_turn doc q.process k)
+    turn_is : after_turn doc q.process k ≡ send doc k 4 q Plain (post doc q k (at_turn doc q.process k)) (at_turn doc q.process k)
     turn_is =
         let h = at_turn doc q.process k in
         ap (λ b. if b then h else unpaused_turn doc k q.process h) awake
@@ -198,10 +203,10 @@ module _ (doc : Doc) (sound : IsSound doc) (m : ℕ) (q : Identity) (role : is_c
     pub posts_now : IsTail g (at_turn doc q.process k) → (b : Begins q g (history doc (suc k))) × (b.z.beat ≡ k)
     posts_now since = (
       record {
-        z = entry k 4 q (Sends (next_call q k Plain (post doc q k (at_turn doc q.process k)) (at_turn doc q.process k)) (request_arrival q.process k (at_turn doc q.process k)));
+        z = entry k 4 q (Sends (next_call q k Plain (post doc q k (at_turn doc q.process k)) (at_turn doc q.process k)) (request_arrival doc q.process k (at_turn doc q.process k)));
         before = at_turn doc q.process k;
         call = next_call q k Plain (post doc q k (at_turn doc q.process k)) (at_turn doc q.process k);
-        arrives = request_arrival q.process k (at_turn doc q.process k);
+        arrives = request_arrival doc q.process k (at_turn doc q.process k);
         position = subst (λ h. IsTail h (history doc (suc k))) turn_is (turn_tail doc (suc q.process) k known);
         since = since;
         actor = refl;
@@ -232,7 +237,7 @@ module _ (doc : Doc) (sound : IsSound doc) (m : ℕ) (q : Identity) (role : is_c
 
       by_start : (who : Actor) → x.actor ≡ who → x.fact ≡ Starts → (b : Bool) → is_by q who ≡ b → when b (local doc q.process x.beat) ≡ None
       by_start who actor fact false other = refl
-      by_start who actor fact true mine = absurd (none_is q.incarnation (sym (starts_are_down doc m x h within fact q (actor ∙ by_is q who mine)) ∙ up h since below))
+      by_start who actor fact true mine = absurd (none_is q.incarnation (sym (starts_are_down doc sound.2 m x h within fact q (actor ∙ by_is q who mine)) ∙ up h since below))
 
       by_send : (post own : Bool) → added own (begun q h) ≤ begun q h → when (post && own) (local doc q.process x.beat + round_period doc) ≡ None
       by_send post true few = absurd (omega (arith, few))

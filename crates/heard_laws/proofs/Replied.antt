@@ -1,5 +1,5 @@
 -- A reply to a kubelet whose messages pass counts, and what follows it is sent.
-use Rattle.std.proofs.Common.{◌≡◌, ◌∙◌, ◌≤◌, ℕ, suc, ◌+◌, ◌*◌, ◌-◌, ◌==◌, ◌&&◌, Bool, true, false, List, ◌∷◌, Option, Some, None, refl, sym, ap, subst, inl, inr, ⊎_elim, arith}
+use Rattle.std.proofs.Common.{◌≡◌, ◌∙◌, ◌≤◌, ℕ, suc, ◌+◌, ◌*◌, ◌-◌, ◌==◌, Bool, true, false, List, ◌∷◌, Option, Some, None, refl, sym, ap, subst, inl, inr, ⊎_elim, arith}
 use Rattle.kube_objects.specs.declared.call.Reply.{Reply}
 use Rattle.std.proofs.Math.Nat.{mul-le-mul_right}
 use Rattle.std.proofs.lemmas.Bool.{ltb-true, ltb-false, eq-eqb, eqb-true}
@@ -15,6 +15,7 @@ use Rattle.kube_objects.specs.Process.{alive, call_in, is_late, counted}
 use Rattle.kube_objects.specs.Turns.{with_reply}
 use Rattle.kube_objects.specs.Wire.{Back, back_of, reply_arrival}
 use Rattle.kube_objects.proofs.Clocks.{local_up}
+use Rattle.kube_objects.proofs.Own.{is_late-own}
 use Rattle.history.specs.History.{three_steps, history}
 use Rattle.history.specs.Sound.{IsSound}
 use Rattle.history.specs.Steps.{delivered, deliver_all, deliver_as, react_as, step_three}
@@ -44,15 +45,15 @@ use Rattle.heard_laws.proofs.Sending.{KubeletSends, sends_as, waits_on, stays_up
 
 -- what a kubelet sends after a counted reply
 delivers : (doc : Doc) (q : Identity) (k : ℕ) (call : Call) (b : Back) (h : List Entry) → is_controller doc q.process ≡ false → b.who ≡ q → (call.number == b.call.number) ≡ true → is_late doc q k call ≡ false → Waits doc k q call h
-    → delivered doc k b h ≡ send_next k q (next_request doc q k call.request b.reply) (with_reply k q call b.reply h)
+    → delivered doc k b h ≡ send_next doc k q (next_request doc q k call.request b.reply) (with_reply k q call b.reply h)
 delivers doc q k call b h role mine number timely w =
     ap (λ p. deliver_as doc k p b.call b.reply (counted doc p k b.call.number h) h) mine
     ∙ ap (λ o. deliver_as doc k q b.call b.reply o h) (waits_count doc q k call b.call.number h number timely w)
     ∙ ap (λ t. react_as doc k q call b.reply t (with_reply k q call b.reply h)) role
 
-pub next_low : (k : ℕ) (q : Identity) (o : Option Request) (h : List Entry) → IsTail h (send_next k q o h)
-next_low k q None h = tail_all h
-next_low k q (Some request) h = inr (tail_all h)
+pub next_low : (doc : Doc) (k : ℕ) (q : Identity) (o : Option Request) (h : List Entry) → IsTail h (send_next doc k q o h)
+next_low doc k q None h = tail_all h
+next_low doc k q (Some request) h = inr (tail_all h)
 
 -- the reply to a call counts as its round has it, and what follows it comes next
 pub record Replied (doc : Doc) (near far : ℕ) (q : Identity) (call : Call) (arrives : Option ℕ) (j : ℕ) : Type 0 where
@@ -63,7 +64,7 @@ pub record Replied (doc : Doc) (near far : ℕ) (q : Identity) (call : Call) (ar
   pub up : alive q.process before ≡ Some q.incarnation
   pub stands : IsTail (with_reply round.comes q call (answer call.request round.before) before) (three_steps doc round.comes (history doc round.comes))
   pub position :
-      IsTail (send_next round.comes q (next_request doc q round.comes call.request (answer call.request round.before)) (with_reply round.comes q call (answer call.request round.before) before)) (history doc (suc round.comes))
+      IsTail (send_next doc round.comes q (next_request doc q round.comes call.request (answer call.request round.before)) (with_reply round.comes q call (answer call.request round.before) before)) (history doc (suc round.comes))
 
 module _ (doc : Doc) (sound : IsSound doc) (near far s l e : ℕ) (q : Identity) (role : is_controller doc q.process ≡ false) (steady : IsSteady doc near far s l q.process)
     (up_first : alive q.process (with_events doc s) ≡ Some q.incarnation) (fast : ℕ) (runs : RunsAtMost doc q.process s e fast) (timeout : (2 * far) * fast ≤ call_timeout doc q.process) (one : 1 ≤ near) (within : l ≤ e) where
@@ -79,7 +80,7 @@ module _ (doc : Doc) (sound : IsSound doc) (near far s l e : ℕ) (q : Identity)
 
       by_test : (b : Bool) → is_late doc q y call ≡ b → is_late doc q y call ≡ false
       by_test false is = is
-      by_test true is = absurd (omega (arith, ltb-true (local doc q.process call.sent + call_timeout doc q.process) (local doc q.process y) is, least))
+      by_test true is = absurd (omega (arith, ltb-true (local doc q.process call.sent + call_timeout doc q.process) (local doc q.process y) (sym (is_late-own doc sound.2 q y call) ∙ is), least))
 
   module _ (x : Entry) (T : List Entry) (call : Call) (arrives : Option ℕ) (at : IsTail (x ∷ T) (history doc (suc l))) (actor : x.actor ≡ actor_of q) (fact : x.fact ≡ Sends call arrives) (from : s ≤ x.beat) (to : x.beat + 2 * far ≤ l) where
     sending : KubeletSends doc x.beat x.step q call arrives T
@@ -89,7 +90,7 @@ module _ (doc : Doc) (sound : IsSound doc) (near far s l e : ℕ) (q : Identity)
     sent_beat = ap (λ (c : Call). c.sent) sending.call_is
 
     r : IsRound doc near far q call arrives x.beat
-    r = rounds_in doc near far s l q steady one (suc l) x T call arrives at actor fact (omega (arith, sending.late)) from (omega (arith, to)) (λ k is most. omega (arith, most, to))
+    r = rounds_in doc sound.2 near far s l q steady one (suc l) x T call arrives at actor fact (omega (arith, sending.late)) from (omega (arith, to)) (λ k is most. omega (arith, most, to))
 
     abbrev y : ℕ
     y = r.comes
@@ -132,13 +133,13 @@ module _ (doc : Doc) (sound : IsSound doc) (near far s l e : ℕ) (q : Identity)
     same_back : (g : List Entry) (z : Entry) (b : Back) → IsTail g (history doc (suc l)) → In z g → back_of z.actor z.fact ≡ Some b → b.who ≡ q → b.call.number ≡ call.number → b ≡ back
     same_back g z b within_l stands is who number =
         let p = place_of z g stands in
-        let same = answers_differ doc (suc l) z answer_entry p.before r.before b back (tail_trans (z ∷ p.before) g (history doc (suc l)) p.position within_l) answer_at is refl who number in
+        let same = answers_differ doc sound.2 (suc l) z answer_entry p.before r.before b back (tail_trans (z ∷ p.before) g (history doc (suc l)) p.position within_l) answer_at is refl who number in
         some_is b back (sym is ∙ ap (λ (z : Entry). back_of z.actor z.fact) (same_head z answer_entry p.before r.before same))
 
     -- it still waits as the replies of the beat come
     unclosed : IsClosed q call (x ∷ T) two → ⊥
     unclosed c =
-        closed_by q call c.e c.before doc ⊥ (are_made doc (suc l) c.e c.before position) c.closes delivers_it expires_it
+        closed_by q call c.e c.before doc ⊥ (are_made doc sound.2 (suc l) c.e c.before position) c.closes delivers_it expires_it
         (λ fact own. omega (arith, since, steady.stops c.e (in_head c.e c.before (history doc (suc l)) position) fact own))
       where
         position : IsTail (c.e ∷ c.before) (history doc (suc l))
@@ -171,8 +172,8 @@ module _ (doc : Doc) (sound : IsSound doc) (near far s l e : ℕ) (q : Identity)
             let on_time = timely call x.beat y sent_beat from (omega (arith, r.least, r.comes_least)) (omega (arith, r.most, r.comes_most)) (omega (arith, comes, within)) in
             omega (
               arith,
-              ltb-true (local doc q.process call.sent + call_timeout doc q.process) (local doc q.process c.e.beat) late,
-              ltb-false (local doc q.process call.sent + call_timeout doc q.process) (local doc q.process y) on_time,
+              ltb-true (local doc q.process call.sent + call_timeout doc q.process) (local doc q.process c.e.beat) (sym (is_late-own doc sound.2 q c.e.beat call) ∙ late),
+              ltb-false (local doc q.process call.sent + call_timeout doc q.process) (local doc q.process y) (sym (is_late-own doc sound.2 q y call) ∙ on_time),
               local_up doc q.process c.e.beat y upto,
             )
 
@@ -184,7 +185,7 @@ module _ (doc : Doc) (sound : IsSound doc) (near far s l e : ℕ) (q : Identity)
 
     first : First doc y q call (Coming y two) two (deliver_all doc y (replies_due y two) two)
     first =
-        first_for doc y q call (delivered_adds doc y) (deliveries_add doc y) (Coming y two) (replies_due y two) two waiting (all_coming doc y q call two two (λ e at. at))
+        first_for doc sound.2 y q call (delivered_adds doc y) (deliveries_add doc y) (Coming y two) (replies_due y two) two waiting (all_coming doc y q call two two (λ e at. at))
         (any_coming doc y q call two two answer_entry back (in_answers doc r.at y answer_entry r.before (omega (arith, one, r.comes_least)) r.position) refl
         (subst (λ o. is_due y o ≡ true) (sym r.comes_is) (eq-eqb y y refl)) (and_both (is_same q q) (call.number == call.number) (same_self q) (eq-eqb call.number call.number refl)))
 
@@ -198,14 +199,14 @@ module _ (doc : Doc) (sound : IsSound doc) (near far s l e : ℕ) (q : Identity)
     that = same_back two first.right.e first.b at_two first.right.stands first.right.is mine (sym (eqb-true call.number first.b.call.number number))
 
     abbrev next_of : Back → List Entry
-    next_of b = send_next y q (next_request doc q y call.request b.reply) (with_reply y q call b.reply first.before)
+    next_of b = send_next doc y q (next_request doc q y call.request b.reply) (with_reply y q call b.reply first.before)
 
     reply_at : IsTail (with_reply y q call first.b.reply first.before) (step_three doc y two)
     reply_at =
         tail_trans (with_reply y q call first.b.reply first.before) (delivered doc y first.b first.before) (step_three doc y two)
         (subst (IsTail (with_reply y q call first.b.reply first.before))
         (sym (delivers doc q y call first.b first.before role mine number (timely call x.beat y sent_beat from (omega (arith, r.least, r.comes_least)) (omega (arith, r.most, r.comes_most)) (omega (arith, comes, within))) first.waits))
-        (next_low y q (next_request doc q y call.request first.b.reply) (with_reply y q call first.b.reply first.before)))
+        (next_low doc y q (next_request doc q y call.request first.b.reply) (with_reply y q call first.b.reply first.before)))
         first.position
 
     next_at : IsTail (next_of first.b) (history doc (suc y))

@@ -20,8 +20,8 @@ use Rattle.kube_objects.specs.declared.script.What.TheVariants as what
 use Rattle.kube_objects.specs.Answers.{answer, written, if_done}
 use Rattle.kube_objects.specs.Clocks.{store_wall, whole_second, wall}
 use Rattle.kube_objects.specs.Document.{Doc, is_controller}
-use Rattle.kube_objects.specs.Elector.{Fails, Asks, Succeeds, Moment, moment, Shown, shown, is_blocked, updated, renewed, is_valid, created, follow, not_done, follow_write, observed_at, attempt_from, attempt, release_from, release, given_up, leads}
-use Rattle.kube_objects.specs.Entry.{Entry, Identity, Call, CallKind, Tick, Sync, Pass, Mark, Mode, Zone, Untaint, Swap, Head, Delete, Plain, Fast, Release, Fact, First as FirstPut, Event as Happens, Starts, Crashes, Stops, Stalls, Ends, Sends, Answers, Delivers, Expires, Leads, Ticks, actor_of, entry, script_entry}
+use Rattle.kube_objects.specs.Elector.{Fails, Asks, Succeeds, Moment, moment, Shown, shown, is_blocked, updated, renewed, is_valid, created, respected, follow, not_done, follow_write, observed_at, attempt_from, attempt, release_from, release, given_up, leads}
+use Rattle.kube_objects.specs.Entry.{Entry, Identity, Call, CallKind, Tick, Sync, Pass, Mark, Mode, Zone, Untaint, Swap, Head, Delete, Skip, Plain, Fast, Release, Look, Emptying, Fact, First as FirstPut, Event as Happens, Starts, Crashes, Stops, Stalls, Ends, Sends, Answers, Delivers, Expires, Leads, Ticks, actor_of, entry, script_entry, StepsDown, ReleaseBegins, ReleaseEnds, ReleaseStops}
 use Rattle.kube_objects.specs.Identities.{identity, is_by, is_own}
 use Rattle.kube_objects.specs.Keys.{key_eq}
 use Rattle.kube_objects.specs.Kinds.{kind_of, IsOfKind}
@@ -38,7 +38,7 @@ use Rattle.history_laws.proofs.Counting.{counted_is, only_value}
 use Rattle.history_laws.proofs.Plainly.{upper, some_is, none_is, true_is, false_is}
 use Rattle.history_laws.proofs.Tailed.{tail_all, tail_trans, tail_of_empty, same_head}
 use Rattle.history_laws.proofs.Ticks.{walk_tick}
-use Rattle.history_laws.proofs.Walk.{after_reply, Keeps, walk_history}
+use Rattle.history_laws.proofs.Walk.{after_reply, Keeps, no_release, walk_history}
 use Rattle.eviction_laws.proofs.KeyNames.{key_is}
 use Rattle.lease_laws.proofs.Steps.{sound_of}
 use Rattle.call_laws.proofs.Above.{place_of}
@@ -82,6 +82,8 @@ undone_key : (next : Request) (kind : CallKind) → not_done kind ≡ Asks next 
 undone_key next Plain is = absurd (fails_not next is)
 undone_key next Fast is = sym (ap key_of (asks_same (Get election) next is))
 undone_key next Release is = absurd (fails_not next is)
+undone_key next (Look begun) is = absurd (fails_not next is)
+undone_key next (Emptying begun) is = absurd (fails_not next is)
 
 write_key : (next : Request) (kind : CallKind) (reply : Reply) → follow_write kind reply ≡ Asks next → key_of next ≡ election
 write_key next kind (Done version) is = absurd (succeeds_not next is)
@@ -95,7 +97,7 @@ write_key next kind Unchanged is = undone_key next kind is
 follow_key : (q : Identity) (m : Moment) (seen : ℕ) (kind : CallKind) (request : Request) (reply : Reply) (next : Request) → follow q m seen kind request reply ≡ Asks next → key_of next ≡ election
 follow_key q m seen kind (PostStatus name status at) reply next is = absurd (fails_not next is)
 follow_key q m seen kind (Get key) Absent next is = sym (ap key_of (asks_same (Create election (created q m)) next is))
-follow_key q m seen kind (Get key) (Found version lease) next is = by_test (is_blocked q m.now seen lease) is
+follow_key q m seen kind (Get key) (Found version lease) next is = by_test (is_blocked q m.now seen (respected m.respect m.seconds lease)) is
   where
     by_test : (b : Bool) → cond b Fails (Asks (Update election version (updated q m lease))) ≡ Asks next → key_of next ≡ election
     by_test true is = absurd (fails_not next is)
@@ -173,6 +175,8 @@ right_more doc x h own s = record { waits = λ q role c is. cases q role c x.act
     opened Plain call c is = some_is call c is
     opened Fast call c is = some_is call c is
     opened Release call c is = absurd (none_is c is)
+    opened (Look begun) call c is = some_is call c is
+    opened (Emptying begun) call c is = some_is call c is
 
     sending : (q : Identity) → is_controller doc q.process ≡ false → (c : Call) (who : Actor) (call : Call) (arrives : Option ℕ) → KeyMakes doc who (Sends call arrives) → (b : Bool) → is_by q who ≡ b
         → join (upper (when b (open_as call.kind call)) (last_call q h)) ≡ Some c → IsNodeKey doc q c.request
@@ -183,12 +187,13 @@ right_more doc x h own s = record { waits = λ q role c is. cases q role c x.act
     cases q role c who (Sends call arrives) own is = sending q role c who call arrives own (is_by q who) refl is
     cases q role c who (Delivers call reply counted) own is = closing q role c (counted && is_by q who) is
     cases q role c who (Expires call) own is = closing q role c (is_by q who) is
+    cases q role c who (ReleaseBegins at_deadline) own is = closing q role c (is_by q who) is
     cases q role c who d own is = s.waits q role c is
 
 right_sends : (doc : Doc) (k step : ℕ) (q : Identity) (kind : CallKind) (request : Request) (h : List Entry) → (is_controller doc q.process ≡ true → key_of request ≡ election) → (is_controller doc q.process ≡ false → IsNodeKey doc q request)
-    → KeyRight doc h → KeyRight doc (send k step q kind request h)
+    → KeyRight doc h → KeyRight doc (send doc k step q kind request h)
 right_sends doc k step q kind request h elects tells s =
-    right_more doc (entry k step q (Sends (next_call q k kind request h) (request_arrival q.process k h))) h
+    right_more doc (entry k step q (Sends (next_call q k kind request h) (request_arrival doc q.process k h))) h
     (λ p is. let same : q ≡ p = actor_is q p is in
     (λ role. elects (ap (λ (p : Identity). is_controller doc p.process) same ∙ role), λ role. subst (λ p. IsNodeKey doc p request) same (tells (ap (λ (p : Identity). is_controller doc p.process) same ∙ role)))) s
 
@@ -237,7 +242,7 @@ put_right doc (x ∷ xs) h s = put_right doc xs (script_entry 0 0 (FirstPut x.0 
 
 keys_made : (doc : Doc) → IsSound doc → (m : ℕ) (x : Entry) (before : List Entry) → IsTail (x ∷ before) (history doc m) → KeyMakes doc x.actor x.fact
 keys_made doc sound m =
-    (walk_history doc (λ k step h. KeyRight doc h) (right_keeps doc sound)
+    (walk_history doc (λ k step h. KeyRight doc h) (right_keeps doc sound) (no_release doc (λ k step h. KeyRight doc h) (ap (λ r. r.release) sound.2.rules))
     (put_right doc doc.objects [] (record { waits = λ q role c is. absurd (none_is c is); made = λ x before at. absurd (tail_of_empty x before at) })) m).made
 
 -- ---- who tells of a node
@@ -258,7 +263,7 @@ not_about name request (Some x) key is node lease =
     ∙ ap (λ b. false || has (when b (Some x))) lease
 
 pub tells_alone : (doc : Doc) → IsSound doc → (s e : ℕ) (q : Identity) (name : ℕ) → IsLeftAlone doc s e q name → TellsAlone doc s e q name
-tells_alone doc sound s e q name alone y g at tells later = cases y.fact refl tells (are_made doc (suc e) y g at)
+tells_alone doc sound s e q name alone y g at tells later = cases y.fact refl tells (are_made doc sound.2 (suc e) y g at)
   where
     answers : (c : Call) (reply : Reply) (comes : Option ℕ) (wrote : Option Object) → y.fact ≡ Answers c reply comes wrote → tells_of name (Answers c reply comes wrote) ≡ true → MadeAnswer doc y.beat y.step y.actor c reply comes wrote g → (y.actor ≡ actor_of q) × (s ≤ c.sent)
     answers c reply comes wrote fact tells made = by_role (is_controller doc made.s.who.process) refl
@@ -308,6 +313,10 @@ tells_alone doc sound s e q name alone y g at tells later = cases y.fact refl te
     cases Stops fact tells made = absurd (false_is tells)
     cases Ends fact tells made = absurd (false_is tells)
     cases (Stalls beats) fact tells made = absurd (false_is tells)
+    cases StepsDown fact tells made = absurd made
+    cases (ReleaseBegins at_deadline) fact tells made = absurd made
+    cases ReleaseEnds fact tells made = absurd made
+    cases ReleaseStops fact tells made = absurd made
 
 -- ---- what stands under the key of a node's Lease
 
@@ -389,9 +398,10 @@ module _ (doc : Doc) (sound : IsSound doc) (e name : ℕ) (kinds : PutsAreOfKind
   by_tick (Swap x wanted given node a) wrote is = by_node x node a wrote is
   by_tick (Head place x wanted given node a) wrote is = by_node x node a wrote is
   by_tick (Delete pod given node_given due a) wrote is = by_try pod None a wrote (removed pod wrote) is
+  by_tick (Skip place x) wrote is = absurd (none_is (Some wrote) is)
 
   pub lease_key : IsLeaseKey doc e name
-  lease_key y g wrote at is = cases y.fact refl is (are_made doc (suc e) y g at)
+  lease_key y g wrote at is = cases y.fact refl is (are_made doc sound.2 (suc e) y g at)
     where
       by_event : (w : What) (version : Option Version) → y.fact ≡ Happens w version → at_key (node_lease name) (event_write w version) ≡ Some (Some wrote) → IsLease wrote
       by_event (what.Put key put) version fact is = by_kind key put wrote (kinds y g key put at (inr (version, fact))) is
@@ -406,6 +416,7 @@ module _ (doc : Doc) (sound : IsSound doc) (e name : ℕ) (kinds : PutsAreOfKind
       by_event (what.Watch id on) version fact is = absurd (none_is (Some wrote) is)
       by_event (what.Ready id status) version fact is = absurd (none_is (Some wrote) is)
       by_event (what.Pause id beats) version fact is = absurd (none_is (Some wrote) is)
+      by_event (what.Stall beats) version fact is = absurd (none_is (Some wrote) is)
 
       cases : (d : Fact) → y.fact ≡ d → at_key (node_lease name) (write_of d) ≡ Some (Some wrote) → MadeAs doc y.beat y.step y.actor d g → IsLease wrote
       cases (FirstPut key put) fact is made = by_kind key put wrote (kinds y g key put at (inl fact)) is
@@ -421,3 +432,7 @@ module _ (doc : Doc) (sound : IsSound doc) (e name : ℕ) (kinds : PutsAreOfKind
       cases Stops fact is made = absurd (none_is (Some wrote) is)
       cases Ends fact is made = absurd (none_is (Some wrote) is)
       cases (Stalls beats) fact is made = absurd (none_is (Some wrote) is)
+      cases StepsDown fact is made = absurd made
+      cases (ReleaseBegins at_deadline) fact is made = absurd made
+      cases ReleaseEnds fact is made = absurd made
+      cases ReleaseStops fact is made = absurd made

@@ -1,4 +1,4 @@
--- What a leader's passes kept stays as it was at the last one.
+-- What a leader's passes kept stays as it was at the last one, under the project's own rules.
 use Rattle.std.proofs.Common.{◌≡◌, ◌∙◌, ◌≤◌, ◌<◌, ℕ, zero, suc, ◌+◌, ◌-◌, ◌&&◌, not, Bool, true, false, List, [], ◌∷◌, Option, None, refl, sym, ap, subst, inr, ⊎_elim, arith, if◌then◌else◌}
 use Rattle.std.specs.Prelude.{if◌then◌else◌}
 use Rattle.std.proofs.lemmas.Bool.{cases_eq}
@@ -8,8 +8,11 @@ use Rattle.kube_objects.specs.Entry.{Entry, Identity, Fact, Ticks, Tick, Sync, P
 use Rattle.kube_objects.specs.Health.{at_pass, pass_says, last_pass}
 use Rattle.kube_objects.specs.Identities.{is_by}
 use Rattle.kube_objects.specs.Newest.{newest, when, only_if}
+use Rattle.kube_objects.specs.InForce.{watches}
+use Rattle.kube_objects.specs.Own.{IsOwn}
 use Rattle.kube_objects.specs.Seen.{is_fresh}
 use Rattle.kube_objects.specs.Tick.{add, whole_pass, evicted, tainted, cleaned}
+use Rattle.kube_objects.proofs.Own.{has_settled-own}
 use Rattle.history.specs.Evictions.{after_turn}
 use Rattle.history.specs.History.{history, at_turn}
 use Rattle.history.specs.Steps.{elector_turn}
@@ -70,9 +73,11 @@ first_of f a (suc n) is = let e : a + suc n ≡ suc a + n = omega arith in by_te
 
 -- ---- a synced tick
 
-module _ (doc : Doc) (q : Identity) (k : ℕ) (attended : IsAttended doc q k) where
+module _ (doc : Doc) (own : IsOwn doc) (q : Identity) (k : ℕ) (attended : IsAttended doc q k) where
   pub synced_mirrors : Mirrors q (synced_at doc q k)
-  synced_mirrors = subst (λ b. Mirrors q (if (b && not (is_fresh q h)) then add k q Sync h else h)) (sym (ready doc q k attended).watching) (by_test (is_fresh q h) refl)
+  synced_mirrors =
+      subst (λ b. Mirrors q (if (b && (watches doc q.process h && not (is_fresh q h))) then add k q Sync h else h)) (sym (has_settled-own doc own k q h))
+      (subst (λ b. Mirrors q (if (b && not (is_fresh q h)) then add k q Sync h else h)) (sym (ready doc own q k attended).watching) (by_test (is_fresh q h) refl))
     where
       h : List Entry
       h = elector_turn doc k q.process (at_turn doc q.process k)
@@ -93,17 +98,17 @@ module _ (doc : Doc) (q : Identity) (k : ℕ) (attended : IsAttended doc q k) wh
 
       by_pass : (b : Bool) → has_pass doc q k ≡ b → IsTail (synced_at doc q k) (after_turn doc q.process k)
       by_pass true due =
-          subst (IsTail h) (sym (turn_phases doc q k attended ∙ ap (λ b. evicted doc k q (tainted doc k q (cleaned doc k q (if b then whole_pass doc k q h else h)))) due))
-          (keep_passed doc k q (IsTail h) (λ t other g at. inr at) (add k q Pass h) (inr (tail_all h)))
+          subst (IsTail h) (sym (turn_phases doc own q k attended ∙ ap (λ b. evicted doc k q (tainted doc k q (cleaned doc k q (if b then whole_pass doc k q h else h)))) due))
+          (keep_passed doc own k q (IsTail h) (λ t other g at. inr at) (add k q Pass h) (inr (tail_all h)))
       by_pass false none =
-          subst (IsTail h) (sym (turn_phases doc q k attended ∙ ap (λ b. evicted doc k q (tainted doc k q (cleaned doc k q (if b then whole_pass doc k q h else h)))) none))
-          (keep_later doc k q (IsTail h) (λ t other g at. inr at) h (tail_all h))
+          subst (IsTail h) (sym (turn_phases doc own q k attended ∙ ap (λ b. evicted doc k q (tainted doc k q (cleaned doc k q (if b then whole_pass doc k q h else h)))) none))
+          (keep_later doc own k q (IsTail h) (λ t other g at. inr at) h (tail_all h))
 
   -- and the history before the beat lies below it
   pub old_synced : IsTail (history doc k) (synced_at doc q k)
   old_synced =
-      keep_sync doc k q (IsTail (history doc k)) (λ t other h at. inr at) (elector_turn doc k q.process (at_turn doc q.process k))
-      (to_tick doc q (IsTail (history doc k)) (λ x h other at. inr at) k attended (before_turn doc q.process k))
+      keep_sync doc own k q (IsTail (history doc k)) (λ t other h at. inr at) (elector_turn doc k q.process (at_turn doc q.process k))
+      (to_tick doc own q (IsTail (history doc k)) (λ x h other at. inr at) k attended (before_turn doc q.process k))
 
   pub synced_in : IsTail (synced_at doc q k) (history doc (suc k))
   synced_in = tail_trans (synced_at doc q k) (after_turn doc q.process k) (history doc (suc k)) synced_tail in_history
@@ -113,13 +118,13 @@ module _ (doc : Doc) (q : Identity) (k : ℕ) (attended : IsAttended doc q k) wh
   pass_in due =
       let h = synced_at doc q k in
       tail_trans (add k q Pass h) (after_turn doc q.process k) (history doc (suc k))
-      (subst (IsTail (add k q Pass h)) (sym (turn_phases doc q k attended ∙ ap (λ b. evicted doc k q (tainted doc k q (cleaned doc k q (if b then whole_pass doc k q h else h)))) due))
-      (keep_passed doc k q (IsTail (add k q Pass h)) (λ t other g at. inr at) (add k q Pass h) (tail_all (add k q Pass h))))
+      (subst (IsTail (add k q Pass h)) (sym (turn_phases doc own q k attended ∙ ap (λ b. evicted doc k q (tainted doc k q (cleaned doc k q (if b then whole_pass doc k q h else h)))) due))
+      (keep_passed doc own k q (IsTail (add k q Pass h)) (λ t other g at. inr at) (add k q Pass h) (tail_all (add k q Pass h))))
       in_history
 
 -- ---- what passes say
 
-module _ (doc : Doc) (q : Identity) (A : Type 0) (f : List Entry → Option A) where
+module _ (doc : Doc) (own : IsOwn doc) (q : Identity) (A : Type 0) (f : List Entry → Option A) where
   abbrev Says : Option A → List Entry → Type 0
   Says o h = newest (λ e T. at_pass q f e.actor e.fact T) h ≡ o
 
@@ -134,9 +139,9 @@ module _ (doc : Doc) (q : Identity) (A : Type 0) (f : List Entry → Option A) w
       says who (Ticks t) other = of_tick who t other
       says who d other = refl
 
-  own : (o : Option A) (k : ℕ) (t : Tick) → is_pass t ≡ false → (h : List Entry) → Says o h → Says o (add k q t h)
-  own o k Pass other h s = absurd (true_is other)
-  own o k t other h s = s
+  own_tick : (o : Option A) (k : ℕ) (t : Tick) → is_pass t ≡ false → (h : List Entry) → Says o h → Says o (add k q t h)
+  own_tick o k Pass other h s = absurd (true_is other)
+  own_tick o k t other h s = s
 
   passed : (k : ℕ) (h : List Entry) → Says (upper (f h) (newest (λ e T. at_pass q f e.actor e.fact T) h)) (add k q Pass h)
   passed k h = ap (λ b. upper (only_if b (f h)) (newest (λ e T. at_pass q f e.actor e.fact T) h)) (same_self q)
@@ -144,23 +149,23 @@ module _ (doc : Doc) (q : Identity) (A : Type 0) (f : List Entry → Option A) w
   module _ (k : ℕ) (attended : IsAttended doc q k) where
     to_synced : (o : Option A) → Says o (at_turn doc q.process k) → Says o (synced_at doc q k)
     to_synced o s =
-        keep_sync doc k q (Says o) (own o k) (elector_turn doc k q.process (at_turn doc q.process k)) (to_tick doc q (Says o) (foreign o) k attended s)
+        keep_sync doc own k q (Says o) (own_tick o k) (elector_turn doc k q.process (at_turn doc q.process k)) (to_tick doc own q (Says o) (foreign o) k attended s)
 
     to_next : (o : Option A) → Says o (after_turn doc q.process k) → Says o (at_turn doc q.process (suc k))
-    to_next o s = next_turn doc q (Says o) (foreign o) k (below_processes doc q k attended) s
+    to_next o s = next_turn doc own q (Says o) (foreign o) k (below_processes doc q k attended) s
 
     after_pass : has_pass doc q k ≡ true → Says (upper (f (synced_at doc q k)) (newest (λ e T. at_pass q f e.actor e.fact T) (synced_at doc q k))) (after_turn doc q.process k)
     after_pass due =
         let h = synced_at doc q k in
         let o = upper (f h) (newest (λ e T. at_pass q f e.actor e.fact T) h) in
-        subst (Says o) (sym (turn_phases doc q k attended ∙ ap (λ b. evicted doc k q (tainted doc k q (cleaned doc k q (if b then whole_pass doc k q h else h)))) due))
-        (keep_passed doc k q (Says o) (own o k) (add k q Pass h) (passed k h))
+        subst (Says o) (sym (turn_phases doc own q k attended ∙ ap (λ b. evicted doc k q (tainted doc k q (cleaned doc k q (if b then whole_pass doc k q h else h)))) due))
+        (keep_passed doc own k q (Says o) (own_tick o k) (add k q Pass h) (passed k h))
 
     after_none : (o : Option A) → has_pass doc q k ≡ false → Says o (synced_at doc q k) → Says o (after_turn doc q.process k)
     after_none o none s =
         let h = synced_at doc q k in
-        subst (Says o) (sym (turn_phases doc q k attended ∙ ap (λ b. evicted doc k q (tainted doc k q (cleaned doc k q (if b then whole_pass doc k q h else h)))) none))
-        (keep_later doc k q (Says o) (own o k) h s)
+        subst (Says o) (sym (turn_phases doc own q k attended ∙ ap (λ b. evicted doc k q (tainted doc k q (cleaned doc k q (if b then whole_pass doc k q h else h)))) none))
+        (keep_later doc own k q (Says o) (own_tick o k) h s)
 
   -- up to the next pass they say what the last one said
   module _ (r m : ℕ) (attends : Attends doc q r m) (due : has_pass doc q r ≡ true) (none : (j : ℕ) → r < j → j < m → has_pass doc q j ≡ false) where

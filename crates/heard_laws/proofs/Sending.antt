@@ -11,7 +11,7 @@ use Rattle.kube_objects.specs.declared.object.Object.{Object}
 use Rattle.kube_objects.specs.declared.script.What.TheVariants as what
 use Rattle.kube_objects.specs.Clocks.{store_wall, whole_second}
 use Rattle.kube_objects.specs.Document.{Doc, is_controller}
-use Rattle.kube_objects.specs.Entry.{Entry, Identity, Call, CallKind, Plain, Fact, First, Starts, Crashes, Stops, Ends, Sends, Delivers, Expires, actor_of, entry, script_entry}
+use Rattle.kube_objects.specs.Entry.{Entry, Identity, Call, CallKind, Plain, Fact, First, Starts, Crashes, Stops, Ends, Sends, Delivers, Expires, ReleaseBegins, ReleaseEnds, actor_of, entry, script_entry}
 use Rattle.kube_objects.specs.Identities.{identity, is_same, is_by, of_process}
 use Rattle.kube_objects.specs.Kubelet.{round_says, has_round, next_request, post, node_of}
 use Rattle.kube_objects.specs.Newest.{newest, added, when, join, or_else, has}
@@ -29,7 +29,7 @@ use Rattle.history_laws.proofs.Plainly.{upper, some_is, none_is, true_is, false_
 use Rattle.history_laws.proofs.Rounds.{Runs, RunsOwn, runs_more, runs_empty, goes_on}
 use Rattle.history_laws.proofs.Tailed.{tail_all, tail_trans, tail_of_empty, same_head, same_rest, begun_tail}
 use Rattle.history_laws.proofs.Ticks.{walk_tick}
-use Rattle.history_laws.proofs.Walk.{after_reply, Keeps, walk_history}
+use Rattle.history_laws.proofs.Walk.{after_reply, Keeps, no_release, walk_history}
 use Rattle.lease_laws.proofs.Steps.{sound_of}
 use Rattle.call_laws.specs.Waiting.{Closes, IsClosed}
 use Rattle.call_laws.specs.Answering.{with_events}
@@ -64,7 +64,7 @@ pub record Posts (doc : Doc) (k : ℕ) (q : Identity) (request : Request) (h : L
 pub record KubeletSends (doc : Doc) (k step : ℕ) (q : Identity) (call : Call) (arrives : Option ℕ) (h : List Entry) : Type 0 where
   pub request : Request
   pub call_is : call ≡ next_call q k Plain request h
-  pub arrives_is : arrives ≡ request_arrival q.process k h
+  pub arrives_is : arrives ≡ request_arrival doc q.process k h
   pub up : alive q.process h ≡ Some q.incarnation
   pub free : call_in q h ≡ None
   pub late : 3 ≤ step
@@ -74,6 +74,7 @@ pub record KubeletSends (doc : Doc) (k step : ℕ) (q : Identity) (call : Call) 
 abbrev pub KubeletMakes : Doc → ℕ → ℕ → Actor → Fact → List Entry → Type 0
 KubeletMakes doc k step who (Sends call arrives) h = (q : Identity) → who ≡ actor_of q → is_controller doc q.process ≡ false → KubeletSends doc k step q call arrives h
 KubeletMakes doc k step who Ends h = (q : Identity) → who ≡ actor_of q → is_controller doc q.process ≡ true
+KubeletMakes doc k step who (ReleaseBegins at_deadline) h = ⊥
 KubeletMakes doc k step who Stops h = (q : Identity) → who ≡ actor_of q → is_controller doc q.process ≡ true
 KubeletMakes doc k step who _ h = Unit {0}
 
@@ -94,16 +95,16 @@ right_more doc x h own new s = record { runs = λ q role. runs_more q x h (own q
 
 -- a request of one identity
 right_sends : (doc : Doc) (k step : ℕ) (q : Identity) (kind : CallKind) (request : Request) (h : List Entry)
-    → (is_controller doc q.process ≡ false → RunsOwn q h (Sends (next_call q k kind request h) (request_arrival q.process k h)) × KubeletSends doc k step q (next_call q k kind request h) (request_arrival q.process k h) h)
-    → KubeletRight doc h → KubeletRight doc (send k step q kind request h)
+    → (is_controller doc q.process ≡ false → RunsOwn q h (Sends (next_call q k kind request h) (request_arrival doc q.process k h)) × KubeletSends doc k step q (next_call q k kind request h) (request_arrival doc q.process k h) h)
+    → KubeletRight doc h → KubeletRight doc (send doc k step q kind request h)
 right_sends doc k step q kind request h made s =
-    right_more doc (entry k step q (Sends (next_call q k kind request h) (request_arrival q.process k h))) h
-    (λ p role by. let same : q ≡ p = same_is q p by in subst (λ p. RunsOwn p h (Sends (next_call q k kind request h) (request_arrival q.process k h))) same (made (subst (λ (p : Identity). is_controller doc p.process ≡ false) (sym same) role)).0)
-    (λ p is role. let same : q ≡ p = actor_is q p is in subst (λ p. KubeletSends doc k step p (next_call q k kind request h) (request_arrival q.process k h) h) same (made (subst (λ (p : Identity). is_controller doc p.process ≡ false) (sym same) role)).1)
+    right_more doc (entry k step q (Sends (next_call q k kind request h) (request_arrival doc q.process k h))) h
+    (λ p role by. let same : q ≡ p = same_is q p by in subst (λ p. RunsOwn p h (Sends (next_call q k kind request h) (request_arrival doc q.process k h))) same (made (subst (λ (p : Identity). is_controller doc p.process ≡ false) (sym same) role)).0)
+    (λ p is role. let same : q ≡ p = actor_is q p is in subst (λ p. KubeletSends doc k step p (next_call q k kind request h) (request_arrival doc q.process k h) h) same (made (subst (λ (p : Identity). is_controller doc p.process ≡ false) (sym same) role)).1)
     s
 
 -- a controller's request
-right_other : (doc : Doc) (k step : ℕ) (q : Identity) (kind : CallKind) (request : Request) (h : List Entry) → is_controller doc q.process ≡ true → KubeletRight doc h → KubeletRight doc (send k step q kind request h)
+right_other : (doc : Doc) (k step : ℕ) (q : Identity) (kind : CallKind) (request : Request) (h : List Entry) → is_controller doc q.process ≡ true → KubeletRight doc h → KubeletRight doc (send doc k step q kind request h)
 right_other doc k step q kind request h role s = right_sends doc k step q kind request h (λ other. absurd (true_is (sym role ∙ other))) s
 
 no_round : (q : Identity) (h : List Entry) → has_round q h ≡ false → Runs q h → call_in q h ≡ None
@@ -171,7 +172,7 @@ put_right doc (x ∷ xs) h s = put_right doc xs (script_entry 0 0 (First x.0 (st
 
 all_right : (doc : Doc) → IsSound doc → (k : ℕ) → KubeletRight doc (history doc k)
 all_right doc sound k =
-    walk_history doc (λ k step h. KubeletRight doc h) (right_keeps doc sound)
+    walk_history doc (λ k step h. KubeletRight doc h) (right_keeps doc sound) (no_release doc (λ k step h. KubeletRight doc h) (ap (λ r. r.release) sound.2.rules))
     (put_right doc doc.objects [] (record { runs = λ q role. runs_empty q; made = λ x before at. absurd (tail_of_empty x before at) })) k
 
 pub kubelet_makes : (doc : Doc) → IsSound doc → (m : ℕ) (x : Entry) (before : List Entry) → IsTail (x ∷ before) (history doc m) → KubeletMakes doc x.beat x.step x.actor x.fact before
@@ -212,6 +213,7 @@ module _ (doc : Doc) (sound : IsSound doc) (m : ℕ) (q : Identity) (role : is_c
       cases who (Sends call arrives) old makes is = sending who call arrives old makes (is_by q who) refl is
       cases who (Delivers call reply counted) old makes is = closing (counted && is_by q who) old is
       cases who (Expires call) old makes is = closing (is_by q who) old is
+      cases who (ReleaseBegins at_deadline) old makes is = absurd makes
       cases who d old makes is = old is
 
   -- with no call, and nothing sent, it has no call
@@ -233,6 +235,7 @@ module _ (doc : Doc) (sound : IsSound doc) (m : ℕ) (q : Identity) (role : is_c
       cases who (Sends call arrives) old few = sending call (is_by q who) old few
       cases who (Delivers call reply counted) old few = closing (counted && is_by q who) old
       cases who (Expires call) old few = closing (is_by q who) old
+      cases who (ReleaseBegins at_deadline) old few = closing (is_by q who) old
       cases who d old few = old
 
   -- a call waits until it is closed
@@ -255,12 +258,13 @@ module _ (doc : Doc) (sound : IsSound doc) (m : ℕ) (q : Identity) (role : is_c
       by_test : (b : Bool) → is_by q who ≡ b → (join (upper (when b None) (last_call q h)) ≡ Some call) ⊎ Closes q call who (Expires c)
       by_test false other = inl waits
       by_test true mine = inr (mine, expires c refl mine)
+  still who (ReleaseBegins at_deadline) h call k step makes waits counts expires = absurd makes
   still who d h call k step makes waits counts expires = inl waits
 
   -- what an entry closes is the call that waited
   closes_waiting : (x : Entry) (h : List Entry) (call : Call) → IsTail (x ∷ h) (history doc m) → call_in q h ≡ Some call → (join (upper (call_says q x.actor x.fact) (last_call q h)) ≡ Some call) ⊎ Closes q call x.actor x.fact
   closes_waiting x h call at waits =
-      still x.actor x.fact h call x.beat x.step (kubelet_makes doc sound m x h at) waits (λ c reply is mine. counted x.actor x.fact (are_made doc m x h at) c reply is mine) (λ c is mine. expired x.actor x.fact (are_made doc m x h at) c is mine)
+      still x.actor x.fact h call x.beat x.step (kubelet_makes doc sound m x h at) waits (λ c reply is mine. counted x.actor x.fact (are_made doc sound.2 m x h at) c reply is mine) (λ c is mine. expired x.actor x.fact (are_made doc sound.2 m x h at) c is mine)
     where
       counted : (who : Actor) (d : Fact) → MadeAs doc x.beat x.step who d h → (c : Call) (reply : Reply) → d ≡ Delivers c reply true → is_by q who ≡ true → c ≡ call
       counted who d made c reply is mine = by_made (subst (λ d. MadeAs doc x.beat x.step who d h) is made)
@@ -309,7 +313,7 @@ module _ (doc : Doc) (sound : IsSound doc) (m : ℕ) (q : Identity) (role : is_c
 
 module _ (doc : Doc) (sound : IsSound doc) (near far s l : ℕ) (q : Identity) (role : is_controller doc q.process ≡ false) (steady : IsSteady doc near far s l q.process) where
   stays_up_at : (x : Entry) (h : List Entry) → IsTail (x ∷ h) (history doc (suc l)) → IsSince s x → alive q.process h ≡ Some q.incarnation → alive q.process (x ∷ h) ≡ Some q.incarnation
-  stays_up_at x h at since up = cases x.actor x.fact refl refl (are_made doc (suc l) x h at) (kubelet_makes doc sound (suc l) x h at)
+  stays_up_at x h at since up = cases x.actor x.fact refl refl (are_made doc sound.2 (suc l) x h at) (kubelet_makes doc sound (suc l) x h at)
     where
       own : (who : Actor) → x.actor ≡ who → (i : ℕ) → of_process q.process who ≡ Some i → x.actor ≡ actor_of (identity q.process i)
       own actors.Script is i of = absurd (none_is i of)
@@ -338,9 +342,10 @@ module _ (doc : Doc) (sound : IsSound doc) (near far s l : ℕ) (q : Identity) (
       late one = ⊎_elim (λ lt. lt) (λ here. absurd (omega (arith, here.1, one))) since
 
       cases : (who : Actor) (d : Fact) → x.actor ≡ who → x.fact ≡ d → MadeAs doc x.beat x.step who d h → KubeletMakes doc x.beat x.step who d h → join (upper (life_says q.process who d) (life q.process h)) ≡ Some q.incarnation
-      cases who Starts actor fact made makes = by_process born refl who actor (λ i by. none_is q.incarnation (sym (starts_are_down doc (suc l) x h at fact (identity q.process i) by) ∙ up))
+      cases who Starts actor fact made makes = by_process born refl who actor (λ i by. none_is q.incarnation (sym (starts_are_down doc sound.2 (suc l) x h at fact (identity q.process i) by) ∙ up))
       cases who Crashes actor fact made makes = by_process gone refl who actor (λ i by. omega (arith, late made, steady.crashes x there fact (is_own i by)))
       cases who Stops actor fact made makes = by_process gone refl who actor (λ i by. omega (arith, late made, steady.stops x there fact (is_own i by)))
+      cases who ReleaseEnds actor fact made makes = absurd made
       cases who Ends actor fact made makes = by_process gone refl who actor (λ i by. true_is (sym (makes (identity q.process i) (sym actor ∙ by)) ∙ role))
       cases who d actor fact made makes = up
 

@@ -1,4 +1,4 @@
--- What is told of a node stays as it is but by what tells of it.
+-- What is told of a node stays as it is but by what tells of it: under the project's own rules.
 use Rattle.std.proofs.Common.{◌≡◌, ◌∙◌, ◌⊎◌, ℕ, ◌==◌, ◌||◌, not, Bool, true, false, cond, List, [], ◌∷◌, Option, Some, None, refl, sym, ap, subst, inl, inr, ⊎_elim}
 use Rattle.std.proofs.lemmas.Bool.{eqb-true, cases_eq}
 use Rattle.kube_base.specs.declared.numbers.Version.{Version}
@@ -13,10 +13,11 @@ use Rattle.kube_objects.specs.declared.object.Object.TheVariants as object
 use Rattle.kube_objects.specs.Answers.{as_kind, node_in, answer_update}
 use Rattle.kube_objects.specs.Clocks.{store_wall, whole_second}
 use Rattle.kube_objects.specs.Document.{Doc}
-use Rattle.kube_objects.specs.Entry.{Entry, Identity, Fact, First, Event, Starts, Crashes, Stops, Stalls, Ends, Sends, Answers, Delivers, Expires, Leads, Ticks, Tick, Sync, Pass, Mark, Mode, Zone, Untaint, Swap, Head, Delete, script_entry}
+use Rattle.kube_objects.specs.Entry.{Entry, Identity, Fact, First, Event, Starts, Crashes, Stops, Stalls, Ends, Sends, Answers, Delivers, Expires, Leads, Ticks, Tick, Sync, Pass, Mark, Mode, Zone, Untaint, Swap, Head, Delete, Skip, script_entry, StepsDown, ReleaseBegins, ReleaseEnds, ReleaseStops}
 use Rattle.kube_objects.specs.Health.{node_heartbeat, ready_heartbeat}
 use Rattle.kube_objects.specs.Keys.{key_eq}
 use Rattle.kube_objects.specs.Newest.{when, only_if, has, join}
+use Rattle.kube_objects.specs.Own.{IsOwn}
 use Rattle.kube_objects.specs.Seen.{is_pod}
 use Rattle.kube_objects.specs.Stamps.{stamped}
 use Rattle.kube_objects.specs.Stored.{Held, Write, node_key, node_lease, at_key, write_of, tick_write, try_write, node_write, holds, last_write, stored, next_version}
@@ -26,7 +27,7 @@ use Rattle.history.specs.Evictions.{stored_node}
 use Rattle.history.specs.History.{put_all, history}
 use Rattle.history_laws.specs.Tails.{IsTail}
 use Rattle.history_laws.proofs.Plainly.{upper, false_is, true_is}
-use Rattle.history_laws.proofs.Walk.{Keeps, walk_history}
+use Rattle.history_laws.proofs.Walk.{Keeps, no_release, walk_history}
 use Rattle.eviction_laws.proofs.Early.{stored_as_seen}
 use Rattle.eviction_laws.proofs.KeyNames.{key_is, key_self}
 use Rattle.heard_laws.specs.Heard.{is_about, tells_of}
@@ -175,6 +176,7 @@ module _ (name : ℕ) (k : ℕ) (who : Actor) (h : List Entry) where
   tick_word q (Swap other wanted given written a) over = by_try q other given written a (Swap other wanted given written a) refl over
   tick_word q (Head place other wanted given written a) over = by_try q other given written a (Head place other wanted given written a) refl over
   tick_word q (Delete pod given node_given due a) over = by_delete pod given node_given due a over
+  tick_word q (Skip place other) over = silent (Skip place other) refl
 
 -- ---- every history
 
@@ -190,8 +192,8 @@ abbrev pub Words : ℕ → List Entry → Type 0
 Words name [] = Unit {0}
 Words name (x ∷ h) = Word name x.beat x.step x.actor x.fact h × Words name h
 
-words_keep : (doc : Doc) (name : ℕ) → Keeps doc (λ k step h. Words name h)
-words_keep doc name = record {
+words_keep : (doc : Doc) → IsOwn doc → (name : ℕ) → Keeps doc (λ k step h. Words name h)
+words_keep doc own name = record {
   on = λ k step h s. s;
   next = λ k s. s;
   event = λ k w h scripted s. (refl, s);
@@ -214,7 +216,7 @@ words_keep doc name = record {
     attempts = λ k p i h role up awake waits s. (tt, s);
     seeks = λ k p i call h role up awake expired late s. (tt, s);
     posts = λ k p i h role up awake none s. (tt, s);
-    ticks = λ k q h acting s. over_tick doc k q (Words name) (λ t g over s. ((refl, tick_word name k _ g q t over), s)) h s;
+    ticks = λ k q h acting s. over_tick doc own k q (Words name) (λ t g over s. ((refl, tick_word name k _ g q t over), s)) h s;
   };
 }
 
@@ -222,8 +224,9 @@ put_words : (doc : Doc) (name : ℕ) (xs : List (Key × Object)) (h : List Entry
 put_words doc name [] h s = s
 put_words doc name (x ∷ xs) h s = put_words doc name xs (script_entry 0 0 (First x.0 (stamped (whole_second (store_wall doc 0)) x.1)) ∷ h) (refl, s)
 
-pub words : (doc : Doc) (name k : ℕ) → Words name (history doc k)
-words doc name k = walk_history doc (λ k step h. Words name h) (words_keep doc name) (put_words doc name doc.objects [] tt) k
+pub words : (doc : Doc) → IsOwn doc → (name k : ℕ) → Words name (history doc k)
+words doc own name k =
+    walk_history doc (λ k step h. Words name h) (words_keep doc own name) (no_release doc (λ k step h. Words name h) (ap (λ r. r.release) own.rules)) (put_words doc name doc.objects [] tt) k
 
 pub words_tail : (name : ℕ) (g h : List Entry) → IsTail g h → Words name h → Words name g
 words_tail name g [] at s = subst (Words name) (sym at) s
@@ -241,6 +244,10 @@ telling_step name k step who Crashes h word is = absurd (false_is is)
 telling_step name k step who Stops h word is = absurd (false_is is)
 telling_step name k step who Ends h word is = absurd (false_is is)
 telling_step name k step who (Stalls beats) h word is = absurd (false_is is)
+telling_step name k step who StepsDown h word is = absurd (false_is is)
+telling_step name k step who (ReleaseBegins at_deadline) h word is = absurd (false_is is)
+telling_step name k step who ReleaseEnds h word is = absurd (false_is is)
+telling_step name k step who ReleaseStops h word is = absurd (false_is is)
 telling_step name k step who (Sends call arrives) h word is = absurd (false_is is)
 telling_step name k step who (Delivers call reply counted) h word is = absurd (false_is is)
 telling_step name k step who (Expires call) h word is = absurd (false_is is)

@@ -1,5 +1,5 @@
--- A tick writes nodes over what its cache has of them, with the heartbeat that is there.
-use Rattle.std.proofs.Common.{◌≡◌, ◌&&◌, not, ℕ, Bool, true, false, List, [], ◌∷◌, Option, Some, None, refl, if◌then◌else◌}
+-- A tick writes nodes over what its cache has of them, with the heartbeat that is there: under the project's own rules.
+use Rattle.std.proofs.Common.{◌≡◌, ◌&&◌, ◌||◌, not, ℕ, Bool, true, false, List, [], ◌∷◌, Option, Some, None, refl, sym, subst, if◌then◌else◌}
 use Rattle.std.specs.Prelude.{if◌then◌else◌}
 use Rattle.std.specs.List.{list_any}
 use Rattle.kube_base.specs.declared.numbers.Version.{Version}
@@ -15,12 +15,14 @@ use Rattle.kube_objects.specs.Health.{ready_heartbeat, marked, is_unknown, is_si
 use Rattle.kube_objects.specs.InForce.{watches}
 use Rattle.kube_objects.specs.Modes.{nodes, places, state_in, rate_in, all_full, mode}
 use Rattle.kube_objects.specs.Newest.{when}
+use Rattle.kube_objects.specs.Own.{IsOwn}
 use Rattle.kube_objects.specs.Seen.{seen_node, is_fresh, is_synced, is_stale, node_names, pod_keys, is_pod}
 use Rattle.kube_objects.specs.Stored.{node_key}
 use Rattle.kube_objects.specs.Tainting.{Wants, Nothing, Wanted, Whatever, wants, has_condition, is_opposite, waits, Queued, head_of}
-use Rattle.kube_objects.specs.Tick.{add, for_each, sync, mark_as, mark_seen, mark, is_same_mode, mode_as, set_mode, zone_as, zone, set_zones, marks, whole_pass, pass, clean_as, clean_seen, clean, cleaned, taint_as, taint_head, taint, tainted, evict, add_untaint, add_swap, taint_first, phases, tick}
+use Rattle.kube_objects.specs.Tick.{add, for_each, has_settled, is_stripped, sync, mark_as, mark_seen, mark, is_same_mode, mode_as, set_mode, zone_as, zone, set_zones, marks, whole_pass, pass, clean_as, clean_seen, clean, cleaned, taint_as, taint_head, taint, tainted, evict, add_untaint, add_swap, taint_first, phases, tick}
 use Rattle.kube_objects.specs.Tokens.{rated, is_rated, has_token}
 use Rattle.kube_objects.specs.Tries.{try_node}
+use Rattle.kube_objects.proofs.Own.{cleaned-own, tainted-own, evicted-own}
 use Rattle.history_laws.proofs.Ticks.{IsPodKey, Each, pods_only, evict_step}
 
 -- a try to write a node over what the cache has, with its heartbeat
@@ -44,7 +46,7 @@ marked_heartbeat : (at : ℕ) (o : Option Ready) → (marked at o).heartbeat ≡
 marked_heartbeat at None = refl
 marked_heartbeat at (Some r) = refl
 
-module _ (doc : Doc) (k : ℕ) (q : Identity) (P : List Entry → Type 0) (more : (t : Tick) (h : List Entry) → WritesOver q t h → P h → P (add k q t h)) where
+module _ (doc : Doc) (own : IsOwn doc) (k : ℕ) (q : Identity) (P : List Entry → Type 0) (more : (t : Tick) (h : List Entry) → WritesOver q t h → P h → P (add k q t h)) where
   each : {A : Type 0} (f : A → List Entry → List Entry) (Q : A → Type 0) → ((a : A) (h : List Entry) → Q a → P h → P (f a h)) → (xs : List A) (h : List Entry) → Each Q xs → P h → P (for_each f xs h)
   each f Q keeps [] h all p = p
   each f Q keeps (x ∷ xs) h all p = each f Q keeps xs (f x h) all.1 (keeps x h all.0 p)
@@ -54,7 +56,7 @@ module _ (doc : Doc) (k : ℕ) (q : Identity) (P : List Entry → Type 0) (more 
   every f keeps (x ∷ xs) h p = every f keeps xs (f x h) (keeps x h p)
 
   over_sync : (h : List Entry) → P h → P (sync doc k q h)
-  over_sync h p = by_test (watches doc q.process h && not (is_fresh q h))
+  over_sync h p = by_test (has_settled doc k q h && (watches doc q.process h && not (is_fresh q h)))
     where
       by_test : (b : Bool) → P (if b then add k q Sync h else h)
       by_test true = more Sync h tt p
@@ -125,7 +127,7 @@ module _ (doc : Doc) (k : ℕ) (q : Identity) (P : List Entry → Type 0) (more 
       by_stale : (b : Bool) (o : Option (Version × Node)) → seen_node q name h ≡ o → P (clean_seen doc k q name b o h)
       by_stale true o is = p
       by_stale false None is = p
-      by_stale false (Some x) is = by_wants x is (wants (mode q h) x.1)
+      by_stale false (Some x) is = by_wants x is (wants (is_stripped doc.settings.rules.first_sight k q name h || mode q h) x.1)
 
   over_taint : (place : Place) (h : List Entry) → P h → P (taint doc k q place h)
   over_taint place h p = by_token (has_token doc q k place h)
@@ -157,5 +159,6 @@ module _ (doc : Doc) (k : ℕ) (q : Identity) (P : List Entry → Type 0) (more 
           let b = pass doc k q a in
           let c = cleaned doc k q b in
           let d = tainted doc k q c in
-          each (evict doc k q) IsPodKey over_evict (pod_keys d) d (pods_only d)
-          (every (taint doc k q) over_taint (places (nodes q c)) c (every (clean doc k q) over_clean (node_names b) b (over_pass a (over_sync h p))))
+          let cleans : P c = subst P (sym (cleaned-own doc own k q b)) (every (clean doc k q) over_clean (node_names b) b (over_pass a (over_sync h p))) in
+          let taints : P d = subst P (sym (tainted-own doc own k q c)) (every (taint doc k q) over_taint (places (nodes q c)) c cleans) in
+          subst P (sym (evicted-own doc own k q d)) (each (evict doc k q) IsPodKey over_evict (pod_keys d) d (pods_only d) taints)

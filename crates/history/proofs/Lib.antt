@@ -1,3 +1,4 @@
 -- For callers: other crates cite Due, Pauses.
 pub mod Due
 pub mod Pauses
+pub mod Own

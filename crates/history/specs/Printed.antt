@@ -14,7 +14,7 @@ use Rattle.kube_objects.specs.declared.key.Key.{Key}
 use Rattle.kube_objects.specs.declared.node.Ready.{Ready}
 use Rattle.kube_objects.specs.declared.script.What.{What}
 use Rattle.kube_objects.specs.declared.script.What.TheVariants as what
-use Rattle.kube_objects.specs.Entry.{Entry, Fact, Event, Starts, Crashes, Stops, Ends, Stalls, Answers, Leads, Ticks, Tick, Mark, Mode, Zone, Untaint, Swap, Head, Delete}
+use Rattle.kube_objects.specs.Entry.{Entry, Fact, Event, Starts, Crashes, Stops, Ends, StepsDown, ReleaseStops, Stalls, Answers, Leads, Ticks, Tick, Mark, Mode, Zone, Untaint, Swap, Head, Delete}
 use Rattle.kube_objects.specs.Keys.{key_eq}
 use Rattle.kube_objects.specs.Newest.{or_zero}
 use Rattle.kube_objects.specs.Stored.{election}
@@ -41,10 +41,10 @@ answer_act (request.Update key given lease) r =
 answer_act (request.PostStatus name status at) r = map_answer (λ a. act.Posted name status a) (as_answer r)
 
 abbrev pub event_act : What → Option Version → Option Act
-event_act what None = None
+event_act (what.Stall beats) version = Some (act.Stall beats)
 event_act (what.Put key object) (Some version) = Some (act.Put key version)
 event_act (what.Remove key) (Some version) = Some (act.Removed key version)
-event_act _ (Some version) = None
+event_act _ version = None
 
 abbrev pub reason_in : Option Ready → ℕ
 reason_in None = 0
@@ -67,6 +67,8 @@ act_of Starts = Some act.Start
 act_of Crashes = Some act.Crash
 act_of Stops = Some act.Stop
 act_of Ends = Some act.End
+act_of StepsDown = Some act.End
+act_of ReleaseStops = Some act.Stop
 act_of (Stalls beats) = Some (act.Pause beats)
 act_of (Answers call reply comes written) = answer_act call.request reply
 act_of (Leads version) = Some (act.Lead version)

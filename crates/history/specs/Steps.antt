@@ -3,6 +3,8 @@ use Rattle.std.specs.Prelude.{ℕ, zero, suc, ◌+◌, ◌==◌, if◌then◌els
 use Rattle.kube_base.specs.declared.numbers.Version.{Version}
 use Rattle.kube_objects.specs.declared.call.Reply.{Reply}
 use Rattle.kube_objects.specs.declared.call.Request.{Request}
+use Rattle.kube_objects.specs.declared.rules.ReleaseRule.{ReleaseRule}
+use Rattle.kube_objects.specs.declared.rules.ReleaseRule.TheVariants as releases
 use Rattle.kube_objects.specs.declared.script.Event.{Event}
 use Rattle.kube_objects.specs.declared.script.What.{What}
 use Rattle.kube_objects.specs.declared.script.What.TheVariants as what
@@ -10,13 +12,16 @@ use Rattle.kube_objects.specs.Answers.{answer, written}
 use Rattle.kube_objects.specs.Clocks.{store_wall, whole_second}
 use Rattle.kube_objects.specs.Document.{Doc, processes, is_controller, is_up_first}
 use Rattle.kube_objects.specs.Elector.{follow_on, leads, deadline, release, acts}
-use Rattle.kube_objects.specs.Entry.{Entry, Identity, Call, Release, Event as Happens, Starts, Crashes, Stops, Stalls, Answers, Delivers, entry, script_entry}
+use Rattle.kube_objects.specs.Entry.{Entry, Identity, Call, Release, Event as Happens, Starts, Crashes, Stops, ReleaseStops, Stalls}
+use Rattle.kube_objects.specs.Entry.{Answers, Delivers, entry, script_entry}
 use Rattle.kube_objects.specs.Identities.{identity}
 use Rattle.kube_objects.specs.InFlight.{requests_due, replies_due}
 use Rattle.kube_objects.specs.Kubelet.{next_request, send_next, round}
 use Rattle.kube_objects.specs.Newest.{when, only_if, has}
 use Rattle.kube_objects.specs.Pauses.{is_paused}
-use Rattle.kube_objects.specs.Process.{alive, starts, counted, ended, is_restart_due}
+use Rattle.kube_objects.specs.Process.{alive, starts, is_releasing, counted, release_begun, ended, is_restart_due}
+use Rattle.kube_objects.specs.Releases.{begin_release, react_in_release}
+use Rattle.kube_objects.specs.Stalls.{is_stalled}
 use Rattle.kube_objects.specs.Stamps.{stamped}
 use Rattle.kube_objects.specs.Stored.{stored, next_version}
 use Rattle.kube_objects.specs.Tick.{tick}
@@ -50,14 +55,28 @@ abbrev pub crash : ℕ → ℕ → Option ℕ → List Entry → List Entry
 crash k p None h = h
 crash k p (Some i) h = entry k 1 (identity p i) Crashes ∷ h
 
-abbrev pub released : ℕ → Identity → Option Request → List Entry → List Entry
-released k q None h = h
-released k q (Some request) h = send k 1 q Release request h
+abbrev pub released : Doc → ℕ → Identity → Option Request → List Entry → List Entry
+released doc k q None h = h
+released doc k q (Some request) h = send doc k 1 q Release request h
 
--- before is the history before the event
+-- led says whether the controller leads before
+abbrev pub stop_at_once : Doc → ℕ → Identity → Bool → List Entry → List Entry
+stop_at_once doc k q true h = begin_release doc k 1 q false (entry k 1 q ReleaseStops ∷ h)
+stop_at_once doc k q false h = entry k 1 q Stops ∷ h
+
+-- a release goes on that runs already
+abbrev pub stop_releasing : Doc → ℕ → Identity → (releasing led : Bool) → List Entry → List Entry
+stop_releasing doc k q true led h = entry k 1 q ReleaseStops ∷ h
+stop_releasing doc k q false led h = stop_at_once doc k q led h
+
+-- a leader that is stopped sends one update, or begins a release; before is the history before the event
+abbrev pub stop_as : ReleaseRule → Doc → ℕ → Identity → List Entry → List Entry → List Entry
+stop_as releases.Stop doc k q before h = released doc k q (release doc q k before) (entry k 1 q Stops ∷ h)
+stop_as _ doc k q before h = stop_releasing doc k q (is_releasing q before) (leads q before) h
+
 abbrev pub stop : Doc → ℕ → ℕ → Option ℕ → List Entry → List Entry → List Entry
 stop doc k p None before h = h
-stop doc k p (Some i) before h = released k (identity p i) (release doc (identity p i) k before) (entry k 1 (identity p i) Stops ∷ h)
+stop doc k p (Some i) before h = stop_as doc.settings.rules.release doc k (identity p i) before h
 
 abbrev pub stall : ℕ → ℕ → ℕ → Option ℕ → List Entry → List Entry
 stall k p beats None h = h
@@ -110,11 +129,16 @@ step_two doc k h = answer_all doc k (requests_due k h) h
 
 -- what a kubelet sends next
 abbrev pub kubelet_react : Doc → ℕ → Identity → Call → Reply → List Entry → List Entry
-kubelet_react doc k q call reply h = send_next k q (next_request doc q k call.request reply) h
+kubelet_react doc k q call reply h = send_next doc k q (next_request doc q k call.request reply) h
+
+-- what one to a controller causes, by whether the call is of a release
+abbrev pub elector_react : Doc → ℕ → Identity → Call → Reply → Option ℕ → List Entry → List Entry
+elector_react doc k q call reply None h = react doc k q (leads q h) (follow_on doc q k call.kind call.request reply h) h
+elector_react doc k q call reply (Some begun) h = react_in_release doc k q call.kind reply h
 
 -- what a counted reply causes; h has it on top
 abbrev pub react_as : Doc → ℕ → Identity → Call → Reply → Bool → List Entry → List Entry
-react_as doc k q call reply true h = react k q (leads q h) (follow_on doc q k call.kind call.request reply h) h
+react_as doc k q call reply true h = elector_react doc k q call reply (release_begun doc.settings.rules.release call.kind) h
 react_as doc k q call reply false h = kubelet_react doc k q call reply h
 
 -- a reply counts for the call that waits
@@ -147,11 +171,11 @@ restart_if doc k p None h = if is_restart_due doc p k (ended doc p h) then start
 abbrev pub restart : Doc → ℕ → ℕ → List Entry → List Entry
 restart doc k p h = restart_if doc k p (alive p h) h
 
--- a call expires whose timeout is over
+-- a call expires whose timeout is over, or the release ends that it is of
 abbrev pub expire : Doc → ℕ → ℕ → List Entry → List Entry
 expire doc k p h = if_up p (λ q T. expired doc k q T) (alive p h) h
 
--- a leader ends that has reached its deadline
+-- a leader ends, or begins to release its Lease, that has reached its deadline
 abbrev pub finish : Doc → ℕ → ℕ → List Entry → List Entry
 finish doc k p h = if_up p (λ q T. end_term doc k q (deadline doc q T) T) (alive p h) h
 
@@ -159,8 +183,13 @@ abbrev pub attempts : Doc → ℕ → ℕ → List Entry → List Entry
 attempts doc k p h = if_up p (try doc k) (alive p h) h
 
 -- the tick of who acts as the leader
+abbrev pub ticks_while : Bool → Doc → ℕ → ℕ → List Entry → List Entry
+ticks_while true doc k p h = h
+ticks_while false doc k p h = if_up p (λ q T. if acts doc q k T then tick doc k q T else T) (alive p h) h
+
+-- there is none while the store stands still
 abbrev pub ticks : Doc → ℕ → ℕ → List Entry → List Entry
-ticks doc k p h = if_up p (λ q T. if acts doc q k T then tick doc k q T else T) (alive p h) h
+ticks doc k p h = ticks_while (is_stalled doc k) doc k p h
 
 -- a controller's turn but for its tick
 abbrev pub elector_turn : Doc → ℕ → ℕ → List Entry → List Entry

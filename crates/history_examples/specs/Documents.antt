@@ -17,9 +17,10 @@ use Rattle.kube_objects.specs.declared.script.What.{What}
 use Rattle.kube_objects.specs.declared.script.What.TheVariants as what
 use Rattle.kube_objects.specs.declared.settings.RatePolicy.TheVariants as policy
 use Rattle.kube_objects.specs.declared.settings.Settings.{Settings}
-use Rattle.kube_objects.specs.Document.{Doc}
+use Rattle.kube_objects.specs.Document.{Doc, own_waits_each}
 use Rattle.kube_objects.specs.Entry.{actor_of}
 use Rattle.kube_objects.specs.Identities.{identity}
+use Rattle.kube_objects.specs.Rules.{own_rules}
 use Rattle.kube_objects.specs.Stored.{election}
 
 -- the settings of a document that says nothing but its end
@@ -43,6 +44,7 @@ settings end = record {
   unhealthy_percent = 55;
   fast_renew = false;
   rate_policy = policy.Standard;
+  rules = own_rules;
 }
 
 -- a controller of which nothing is said but its name
@@ -69,7 +71,7 @@ c2 = controller 11
 
 abbrev pub document : Settings → List Proc → List (Key × Object) → List Event → Doc
 document set controllers objects events =
-    record { settings = set; controllers = controllers; kubelets = []; objects = objects; events = events }
+    record { settings = set; controllers = controllers; kubelets = []; waits = own_waits_each controllers; objects = objects; events = events }
 
 -- one controller
 abbrev pub alone : ℕ → List (Key × Object) → List Event → Doc

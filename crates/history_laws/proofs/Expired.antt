@@ -1,7 +1,7 @@
 -- After the expiry of an identity's call, it has no call.
 use Rattle.std.proofs.Common.{◌≡◌, ℕ, Bool, true, false, List, [], ◌∷◌, Some, None, refl, sym, ap, ◌∙◌}
 use Rattle.kube_objects.specs.declared.deed.Actor.{Actor}
-use Rattle.kube_objects.specs.Entry.{Entry, Identity, Call, Fact, First, Event, Starts, Crashes, Stops, Stalls, Ends, Sends, Answers, Delivers, Expires, Leads, Ticks}
+use Rattle.kube_objects.specs.Entry.{Entry, Identity, Call, Fact, First, Event, Starts, Crashes, Stops, Stalls, Ends, ReleaseBegins, ReleaseEnds, StepsDown, ReleaseStops, Sends, Answers, Delivers, Expires, Leads, Ticks}
 use Rattle.kube_objects.specs.Identities.{is_by}
 use Rattle.kube_objects.specs.Newest.{newest, when, join}
 use Rattle.kube_objects.specs.Process.{open_as, call_says, last_call, call_in}
@@ -17,6 +17,10 @@ silent q who Crashes other = refl
 silent q who Stops other = refl
 silent q who (Stalls beats) other = refl
 silent q who Ends other = refl
+silent q who (ReleaseBegins at_deadline) other = ap (λ b. when b None) other
+silent q who ReleaseEnds other = refl
+silent q who StepsDown other = refl
+silent q who ReleaseStops other = refl
 silent q who (Sends call arrives) other = ap (λ b. when b (open_as call.kind call)) other
 silent q who (Answers call reply comes written) other = refl
 silent q who (Delivers call reply false) other = refl
@@ -37,6 +41,10 @@ expired_none q k (e ∷ h) c is = cases (λ is. expired_none q k h c is) e.actor
     own who Stops by is = absurd (none_is c is)
     own who (Stalls beats) by is = absurd (none_is c is)
     own who Ends by is = absurd (none_is c is)
+    own who (ReleaseBegins at_deadline) by is = absurd (none_is c is)
+    own who ReleaseEnds by is = absurd (none_is c is)
+    own who StepsDown by is = absurd (none_is c is)
+    own who ReleaseStops by is = absurd (none_is c is)
     own who (Sends call arrives) by is = absurd (none_is c is)
     own who (Answers call reply comes written) by is = absurd (none_is c is)
     own who (Delivers call reply counted) by is = absurd (none_is c is)

@@ -12,3 +12,4 @@ pub mod Once
 pub mod Numbers
 pub mod Starts
 pub mod Bounds
+pub mod OwnRules

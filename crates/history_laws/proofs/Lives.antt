@@ -2,7 +2,7 @@
 use Rattle.std.proofs.Common.{◌≡◌, ℕ, ◌+◌, ◌==◌, ◌&&◌, ◌≤◌, Bool, true, false, List, ◌∷◌, Option, Some, None, refl, sym, ap, subst, arith}
 use Rattle.std.proofs.lemmas.Bool.{eqb-true}
 use Rattle.kube_objects.specs.declared.deed.Actor.{Actor}
-use Rattle.kube_objects.specs.Entry.{Entry, Identity, Fact, First, Event, Starts, Crashes, Stops, Stalls, Ends, Sends, Answers, Delivers, Expires, Leads, Ticks}
+use Rattle.kube_objects.specs.Entry.{Entry, Identity, Fact, First, Event, Starts, Crashes, Stops, Stalls, Ends, ReleaseBegins, ReleaseEnds, StepsDown, ReleaseStops, Sends, Answers, Delivers, Expires, Leads, Ticks}
 use Rattle.kube_objects.specs.Identities.{of_process}
 use Rattle.kube_objects.specs.Newest.{added, when, join, has}
 use Rattle.kube_objects.specs.Process.{born, gone, life_says, life, alive, is_start, starts}
@@ -40,6 +40,10 @@ counted_more x h next s p = cases x.actor x.fact next
     cases who Crashes next = λ i up. s p i (lost (of_process p who) (life p h) i up)
     cases who Stops next = λ i up. s p i (lost (of_process p who) (life p h) i up)
     cases who Ends next = λ i up. s p i (lost (of_process p who) (life p h) i up)
+    cases who ReleaseEnds next = λ i up. s p i (lost (of_process p who) (life p h) i up)
+    cases who (ReleaseBegins at_deadline) next = s p
+    cases who StepsDown next = s p
+    cases who ReleaseStops next = s p
     cases who (Stalls beats) next = s p
     cases who (First key object) next = s p
     cases who (Event what version) next = s p
@@ -61,6 +65,10 @@ over_more q x h next s = cases x.actor x.fact next
     cases who Crashes next = (s.0, λ up. s.1 (lost (of_process q.process who) (life q.process h) q.incarnation up))
     cases who Stops next = (s.0, λ up. s.1 (lost (of_process q.process who) (life q.process h) q.incarnation up))
     cases who Ends next = (s.0, λ up. s.1 (lost (of_process q.process who) (life q.process h) q.incarnation up))
+    cases who ReleaseEnds next = (s.0, λ up. s.1 (lost (of_process q.process who) (life q.process h) q.incarnation up))
+    cases who (ReleaseBegins at_deadline) next = s
+    cases who StepsDown next = s
+    cases who ReleaseStops next = s
     cases who (Stalls beats) next = s
     cases who (First key object) next = s
     cases who (Event what version) next = s

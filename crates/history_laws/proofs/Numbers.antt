@@ -6,7 +6,7 @@ use Rattle.kube_objects.specs.declared.deed.Actor.{Actor}
 use Rattle.kube_objects.specs.declared.deed.Actor.TheVariants as actor
 use Rattle.kube_objects.specs.Clocks.{store_wall, whole_second}
 use Rattle.kube_objects.specs.Document.{Doc}
-use Rattle.kube_objects.specs.Entry.{Entry, Call, Fact, First, Event, Starts, Crashes, Stops, Stalls, Ends, Sends, Answers, Delivers, Expires, Leads, Ticks, script_entry}
+use Rattle.kube_objects.specs.Entry.{Entry, Call, Fact, First, Event, Starts, Crashes, Stops, Stalls, Ends, ReleaseBegins, ReleaseEnds, StepsDown, ReleaseStops, Sends, Answers, Delivers, Expires, Leads, Ticks, script_entry}
 use Rattle.kube_objects.specs.Identities.{identity, is_same, is_by, identity_of}
 use Rattle.kube_objects.specs.Newest.{added}
 use Rattle.kube_objects.specs.Process.{begun, is_send}
@@ -17,7 +17,7 @@ use Rattle.history_laws.specs.Tails.{IsTail}
 use Rattle.history_laws.specs.Calls.{NumbersCount, NumbersDiffer}
 use Rattle.history_laws.proofs.Plainly.{some_is, none_is, same_self}
 use Rattle.history_laws.proofs.Tailed.{tail_of_empty, same_head, same_rest, tails_meet, begun_tail}
-use Rattle.history_laws.proofs.Walk.{CallIsNext, Keeps, all_kinds, walk_history}
+use Rattle.history_laws.proofs.Walk.{CallIsNext, Keeps, KeepsRelease, all_kinds, all_release, walk_history}
 
 abbrev Numbered : List Entry → Type 0
 Numbered h = (e : Entry) (before : List Entry) → IsTail (e ∷ before) h → IfSome (sent_of e.actor e.fact) (CallIsNext before)
@@ -31,6 +31,9 @@ numbered_more x h new s e before (inr at) = s e before at
 numbered_keeps : (doc : Doc) → Keeps doc (λ k step h. Numbered h)
 numbered_keeps doc = all_kinds doc (λ k step h. Numbered h) (λ k step h s. s) (λ k h s. s) (λ x h next s. numbered_more x h next.1 s)
 
+numbered_release : (doc : Doc) → KeepsRelease doc (λ k step h. Numbered h)
+numbered_release doc = all_release doc (λ k step h. Numbered h) (λ x h next s. numbered_more x h next.1 s)
+
 put_numbered : (doc : Doc) (xs : List (Key × Object)) (h : List Entry) → Numbered h → Numbered (put_all doc xs h)
 put_numbered doc [] h s = s
 put_numbered doc (x ∷ xs) h s =
@@ -38,7 +41,7 @@ put_numbered doc (x ∷ xs) h s =
     put_numbered doc xs (e ∷ h) (numbered_more e h tt s)
 
 pub numbers_count : NumbersCount
-numbers_count doc k = walk_history doc (λ k step h. Numbered h) (numbered_keeps doc) (put_numbered doc doc.objects [] (λ e before at. absurd (tail_of_empty e before at))) k
+numbers_count doc k = walk_history doc (λ k step h. Numbered h) (numbered_keeps doc) (numbered_release doc) (put_numbered doc doc.objects [] (λ e before at. absurd (tail_of_empty e before at))) k
 
 -- a request raises its sender's number of requests by one
 sent_counts : (e : Entry) (h : List Entry) (s : Sent) → sent_of e.actor e.fact ≡ Some s → begun s.who (e ∷ h) ≡ begun s.who h + 1
@@ -58,6 +61,10 @@ sent_counts e h s is = cases e.actor e.fact is
     cases who Stops is = absurd (none_is s is)
     cases who (Stalls beats) is = absurd (none_is s is)
     cases who Ends is = absurd (none_is s is)
+    cases who (ReleaseBegins at_deadline) is = absurd (none_is s is)
+    cases who ReleaseEnds is = absurd (none_is s is)
+    cases who StepsDown is = absurd (none_is s is)
+    cases who ReleaseStops is = absurd (none_is s is)
     cases who (Sends call arrives) is = by_actor who call arrives is
     cases who (Answers call reply comes written) is = absurd (none_is s is)
     cases who (Delivers call reply counted) is = absurd (none_is s is)

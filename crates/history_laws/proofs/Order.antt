@@ -11,7 +11,7 @@ use Rattle.history_laws.specs.Tails.{In}
 use Rattle.history_laws.specs.Order.{IsWithin, IsOrdered, EntriesAreOrdered, EntriesAreEarlier, TurnsArePositions, HistoriesArePositions, StepsOnlyAdd}
 use Rattle.history_laws.proofs.Plainly.{for_new, for_old}
 use Rattle.history_laws.proofs.Tailed.{tail_all, one_adds, two_adds, three_adds, turns_add, turn_tail, before_turn, later_tail}
-use Rattle.history_laws.proofs.Walk.{Keeps, all_kinds, walk_at_turn}
+use Rattle.history_laws.proofs.Walk.{Keeps, KeepsRelease, all_kinds, all_release, walk_at_turn}
 
 record Sorted (k step : ℕ) (h : List Entry) : Type 0 where
   ordered : IsOrdered h
@@ -37,6 +37,9 @@ sorted_more x h s = record { ordered = (s.within, s.ordered); within = for_new (
 sorted_keeps : (doc : Doc) → Keeps doc Sorted
 sorted_keeps doc = all_kinds doc Sorted sorted_on sorted_next (λ x h next s. sorted_more x h s)
 
+sorted_release : (doc : Doc) → KeepsRelease doc Sorted
+sorted_release doc = all_release doc Sorted (λ x h next s. sorted_more x h s)
+
 -- ---- before beat 0
 
 put_sorted : (doc : Doc) (xs : List (Key × Object)) (h : List Entry) → Sorted 0 0 h → Sorted 0 0 (put_all doc xs h)
@@ -49,7 +52,7 @@ first_sorted : (doc : Doc) → Sorted 0 0 (history doc 0)
 first_sorted doc = put_sorted doc doc.objects [] (record { ordered = tt; within = λ e at. absurd at })
 
 turn_sorted : (doc : Doc) (p k : ℕ) → Sorted k 4 (at_turn doc p k)
-turn_sorted doc p k = walk_at_turn doc Sorted (sorted_keeps doc) (sorted_on 0 0 (history doc 0) (first_sorted doc)) p k
+turn_sorted doc p k = walk_at_turn doc Sorted (sorted_keeps doc) (sorted_release doc) (sorted_on 0 0 (history doc 0) (first_sorted doc)) p k
 
 -- ---- the laws
 

@@ -6,7 +6,7 @@ use Rattle.kube_objects.specs.declared.call.Request.{Request}
 use Rattle.kube_objects.specs.declared.call.Request.TheVariants.{Get, Create, Update, PostStatus}
 use Rattle.kube_objects.specs.declared.deed.Actor.{Actor}
 use Rattle.kube_objects.specs.Document.{Doc}
-use Rattle.kube_objects.specs.Entry.{Entry, Identity, Call, Fact, First, Event, Starts, Crashes, Stops, Stalls, Ends, Sends, Answers, Delivers, Expires, Leads, Ticks}
+use Rattle.kube_objects.specs.Entry.{Entry, Identity, Call, Fact, First, Event, Starts, Crashes, Stops, Stalls, Ends, ReleaseBegins, ReleaseEnds, StepsDown, ReleaseStops, Sends, Answers, Delivers, Expires, Leads, Ticks}
 use Rattle.kube_objects.specs.Identities.{is_by}
 use Rattle.kube_objects.specs.Kubelet.{is_post, ends_round, round_says, has_round, next_request}
 use Rattle.kube_objects.specs.Newest.{newest, when, join, or_else}
@@ -43,6 +43,11 @@ runs_more q x h own s = cases x.actor x.fact (is_by q x.actor) refl own
     plain : (b : Bool) → RunsIn (call_in q h) (has_round q h) (λ k. join (upper (when b None) (last_expired q k h)))
     plain true = (s.0, λ k c is post. absurd (none_is c is))
     plain false = s
+
+    -- a release forgets the call
+    begins : (b : Bool) → RunsIn (join (upper (when b None) (last_call q h))) (has_round q h) (λ k. join (upper (when b None) (last_expired q k h)))
+    begins true = (λ c is. absurd (none_is c is), λ k c is post. absurd (none_is c is))
+    begins false = s
 
     sends : (b : Bool) (call : Call) → (b ≡ true → RunsOwn q h (Sends call None))
         → RunsIn (join (upper (when b (open_as call.kind call)) (last_call q h))) (or_else false (upper (when (is_post call.request && b) true) (last_round q h))) (λ k. join (upper (when b None) (last_expired q k h)))
@@ -103,6 +108,10 @@ runs_more q x h own s = cases x.actor x.fact (is_by q x.actor) refl own
     cases who Stops b is own = plain (is_by q who)
     cases who (Stalls beats) b is own = plain (is_by q who)
     cases who Ends b is own = plain (is_by q who)
+    cases who (ReleaseBegins at_deadline) b is own = begins (is_by q who)
+    cases who ReleaseEnds b is own = plain (is_by q who)
+    cases who StepsDown b is own = plain (is_by q who)
+    cases who ReleaseStops b is own = plain (is_by q who)
     cases who (Answers call reply comes written) b is own = plain (is_by q who)
     cases who (Leads version) b is own = plain (is_by q who)
     cases who (Ticks tick) b is own = plain (is_by q who)

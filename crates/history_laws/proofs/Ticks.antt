@@ -1,5 +1,5 @@
 -- One walk through a tick, for every property that each of its entries keeps.
-use Rattle.std.proofs.Common.{◌≡◌, ◌≤◌, ℕ, ◌&&◌, not, nat_lt, nat_le, if◌then◌else◌, Bool, true, false, List, [], ◌∷◌, Option, Some, None, refl, arith}
+use Rattle.std.proofs.Common.{◌≡◌, ◌≤◌, ℕ, ◌==◌, ◌&&◌, ◌||◌, not, nat_lt, nat_le, if◌then◌else◌, Bool, true, false, List, [], ◌∷◌, Option, Some, None, refl, arith}
 use Rattle.std.specs.Prelude.{if◌then◌else◌}
 use Rattle.std.specs.List.{list_any}
 use Rattle.std.specs.declared.cmp.Ordering.{Ordering}
@@ -13,23 +13,32 @@ use Rattle.kube_objects.specs.declared.node.ZoneState.TheVariants.{Normal, Parti
 use Rattle.kube_objects.specs.declared.pod.Due.{Due}
 use Rattle.kube_objects.specs.declared.pod.Due.TheVariants.{Never, At}
 use Rattle.kube_objects.specs.declared.pod.Pod.{Pod}
+use Rattle.kube_objects.specs.declared.rules.EvictRule.{EvictRule}
+use Rattle.kube_objects.specs.declared.rules.EvictRule.TheVariants.{Added, Seen}
+use Rattle.kube_objects.specs.declared.rules.JudgeRule.{JudgeRule}
+use Rattle.kube_objects.specs.declared.rules.JudgeRule.TheVariants as judges
 use Rattle.kube_objects.specs.declared.settings.RatePolicy.{RatePolicy}
 use Rattle.kube_objects.specs.declared.settings.RatePolicy.TheVariants.{Standard, Gentle, Halt}
 use Rattle.kube_objects.specs.Clocks.{wall}
 use Rattle.kube_objects.specs.Document.{Doc}
-use Rattle.kube_objects.specs.Entry.{Entry, Identity, Place, Tick, Sync, Pass, Mark, Mode, Zone, Untaint, Swap, Head, Delete}
-use Rattle.kube_objects.specs.Health.{is_pass_due, mark_of}
+use Rattle.kube_objects.specs.Entry.{Entry, Identity, Place, Tick, Sync, Pass, Mark, Mode, Zone, Untaint, Swap, Head, Delete, Skip}
+use Rattle.kube_objects.specs.Health.{is_pass_due, is_pass_tick, before_pass, mark_of}
 use Rattle.kube_objects.specs.InForce.{watches}
+use Rattle.kube_objects.specs.Deletes.{no_version}
+use Rattle.kube_objects.specs.Judgement.{Passed, passes, has_turned_on, judged, is_new, is_healthy, is_crossed, queue}
 use Rattle.kube_objects.specs.Keys.{key_cmp}
 use Rattle.kube_objects.specs.Modes.{nodes, places, state_in, size_in, rate_in, all_full, mode}
 use Rattle.kube_objects.specs.Newest.{when}
 use Rattle.kube_objects.specs.Seen.{seen_node, seen_pod, is_fresh, is_synced, is_stale, node_names, is_pod, pod_key, pod_keys, insert_once, insert_named, named}
+use Rattle.kube_objects.specs.Sightings.{sighted_due}
 use Rattle.kube_objects.specs.Stored.{Write, write_of, node_key}
-use Rattle.kube_objects.specs.Tainting.{Wants, Nothing, Wanted, Whatever, wants, has_condition, is_opposite, waits, Queued, head_of}
+use Rattle.kube_objects.specs.Tainting.{Wants, Nothing, Wanted, Whatever, wants, wants_ready, has_condition, is_opposite, waits, Queued, head_of}
+use Rattle.kube_objects.specs.Tick.{has_settled, is_stripped, cleaned_by, judge, judge_seen, judge_all, add_crossed, tainted_by, push, push_as, push_seen, push_first}
+use Rattle.kube_objects.specs.Tick.{evict_by, evict_sighted, evict_within, due_by, insert_due, and_due, dues, has_room}
 use Rattle.kube_objects.specs.Tick.{add, for_each, sync, mark_as, mark_seen, mark, is_same_mode, mode_as, set_mode, zone_as, zone, set_zones, marks, pass, clean_as, clean_seen, clean, cleaned, taint_as, taint_head, taint, tainted, evict_due, evict_on, evict_seen, evict, evicted, tick, whole_pass, add_untaint, add_swap, taint_first, add_delete, phases}
 use Rattle.kube_objects.specs.Tokens.{rated, is_rated, has_token}
 use Rattle.kube_objects.specs.Tolerations.{due}
-use Rattle.kube_objects.specs.Tries.{try_node, try_delete}
+use Rattle.kube_objects.specs.Tries.{try_node, try_delete, try_delete_alone}
 use Rattle.kube_objects.specs.Zones.{state_rate, partial_rate, full_rate, rate_of}
 
 -- a try to write a node as the cache has it
@@ -47,6 +56,20 @@ pub record IsDelete (doc : Doc) (k : ℕ) (q : Identity) (pod : Key) (given node
   pub test : nat_le at (wall doc q.process k) ≡ true
   pub is : answer ≡ try_delete q pod given x.node node_given h
 
+-- a try to delete a pod that is due by what the term has seen of it, by the pod's version alone
+pub record IsSightedDelete (doc : Doc) (k : ℕ) (q : Identity) (pod : Key) (given node_given : Version) (at : ℕ) (answer : Option Answer) (h : List Entry) : Type 0 where
+  pub kind : is_pod pod.kind ≡ true
+  pub x : Pod
+  pub sees : seen_pod q pod h ≡ Some (given, x)
+  pub time : sighted_due doc q pod h ≡ At at
+  pub test : nat_le at (wall doc q.process k) ≡ true
+  pub no_node : node_given ≡ no_version
+  pub is : answer ≡ try_delete_alone q pod given h
+
+abbrev pub IsDeleteBy : EvictRule → Doc → ℕ → Identity → Key → Version → Version → ℕ → Option Answer → List Entry → Type 0
+IsDeleteBy Added doc k q pod given node_given at answer h = IsDelete doc k q pod given node_given at answer h
+IsDeleteBy Seen doc k q pod given node_given at answer h = IsSightedDelete doc k q pod given node_given at answer h
+
 -- a rate isn't above the primary one, where the secondary one isn't
 abbrev pub IsRate : Doc → ℕ → Type 0
 IsRate doc rate = doc.settings.secondary_rate ≤ doc.settings.primary_rate → rate ≤ doc.settings.primary_rate
@@ -61,7 +84,8 @@ MadeTick doc k q (Zone place state rate) h = IsRate doc rate
 MadeTick doc k q (Untaint name given node answer) h = IsTry q name given answer h
 MadeTick doc k q (Swap name wanted given node answer) h = IsTry q name given answer h
 MadeTick doc k q (Head place name wanted given node answer) h = (has_token doc q k place h ≡ true) × IsTry q name given answer h
-MadeTick doc k q (Delete pod given node_given at answer) h = IsDelete doc k q pod given node_given at answer h
+MadeTick doc k q (Delete pod given node_given at answer) h = IsDeleteBy doc.settings.rules.evict_from doc k q pod given node_given at answer h
+MadeTick doc k q (Skip place name) h = has_token doc q k place h ≡ true
 
 -- ---- rates
 
@@ -120,10 +144,27 @@ pub pods_only : (h : List Entry) → Each IsPodKey (pod_keys h)
 pods_only [] = tt
 pods_only (e ∷ h) = pods_more (write_of e.fact) (pod_keys h) (pods_only h)
 
--- what the delete of one pod keeps, the look at the pod keeps
-pub evict_step : (doc : Doc) (k : ℕ) (q : Identity) (P : List Entry → Type 0) (pod : Key) (h : List Entry) → IsPodKey pod → P h
-    → ((given node_given : Version) (at : ℕ) (a : Option Answer) → IsDelete doc k q pod given node_given at a h → P (add k q (Delete pod given node_given at a) h)) → P (evict doc k q pod h)
-evict_step doc k q P pod h kind p more = by_stale (is_stale q pod h) (seen_pod q pod h) refl
+insert_due_each : (at : ℕ) (pod : Key) (xs : List (ℕ × Key)) → IsPodKey pod → Each (λ x. IsPodKey x.1) xs → Each (λ x. IsPodKey x.1) (insert_due at pod xs)
+insert_due_each at pod [] new old = (new, tt)
+insert_due_each at pod (x ∷ xs) new old = by_order (nat_le at x.0) (insert_due_each at pod xs new old.1)
+  where
+    by_order : (b : Bool) → Each (λ x. IsPodKey x.1) (insert_due at pod xs) → Each (λ x. IsPodKey x.1) (elim b [ true ↦ (at, pod) ∷ x ∷ xs | false ↦ x ∷ insert_due at pod xs ])
+    by_order true later = (new, old)
+    by_order false later = (old.0, later)
+
+and_due_each : (pod : Key) (d : Due) (xs : List (ℕ × Key)) → IsPodKey pod → Each (λ x. IsPodKey x.1) xs → Each (λ x. IsPodKey x.1) (and_due pod d xs)
+and_due_each pod Never xs new old = old
+and_due_each pod (At at) xs new old = insert_due_each at pod xs new old
+
+-- pods with their dues are pods
+pub dues_only : (doc : Doc) (q : Identity) (h : List Entry) (pods : List Key) → Each IsPodKey pods → Each (λ x. IsPodKey x.1) (dues doc q pods h)
+dues_only doc q h [] all = tt
+dues_only doc q h (pod ∷ pods) all = and_due_each pod (due_by doc.settings.rules.evict_from doc q pod h) (dues doc q pods h) all.0 (dues_only doc q h pods all.1)
+
+-- what the delete of one pod keeps that is due by what is stored, the look at the pod keeps
+pub evict_added : (doc : Doc) (k : ℕ) (q : Identity) (P : List Entry → Type 0) (pod : Key) (h : List Entry) → IsPodKey pod → P h
+    → ((given node_given : Version) (at : ℕ) (a : Option Answer) → IsDelete doc k q pod given node_given at a h → P (add k q (Delete pod given node_given at a) h)) → P (evict_by Added doc k q pod h)
+evict_added doc k q P pod h kind p more = by_stale (is_stale q pod h) (seen_pod q pod h) refl
   where
     by_time : (x : Version × Pod) (y : Version × Node) → seen_pod q pod h ≡ Some x → seen_node q x.1.node h ≡ Some y → (at : ℕ) → due x.1 y.1 ≡ At at → (b : Bool) → nat_le at (wall doc q.process k) ≡ b
         → P (if b then add_delete k q pod x.0 x.1.node y.0 at h else h)
@@ -144,6 +185,31 @@ evict_step doc k q P pod h kind p more = by_stale (is_stale q pod h) (seen_pod q
     by_stale false None is = p
     by_stale false (Some x) is = by_node x is (seen_node q x.1.node h) refl
 
+-- and by what the term has seen
+pub evict_sight : (doc : Doc) (k : ℕ) (q : Identity) (P : List Entry → Type 0) (pod : Key) (h : List Entry) → IsPodKey pod → P h
+    → ((given node_given : Version) (at : ℕ) (a : Option Answer) → IsSightedDelete doc k q pod given node_given at a h → P (add k q (Delete pod given node_given at a) h)) → P (evict_by Seen doc k q pod h)
+evict_sight doc k q P pod h kind p more = by_stale (is_stale q pod h) (seen_pod q pod h) refl (sighted_due doc q pod h) refl
+  where
+    by_time : (x : Version × Pod) → seen_pod q pod h ≡ Some x → (at : ℕ) → sighted_due doc q pod h ≡ At at → (b : Bool) → nat_le at (wall doc q.process k) ≡ b
+        → P (if b then add k q (Delete pod x.0 no_version at (try_delete_alone q pod x.0 h)) h else h)
+    by_time x sees at time false test = p
+    by_time x sees at time true test =
+        more x.0 no_version at (try_delete_alone q pod x.0 h) (record { kind = kind; x = x.1; sees = sees; time = time; test = test; no_node = refl; is = refl })
+
+    by_stale : (b : Bool) (o : Option (Version × Pod)) → seen_pod q pod h ≡ o → (d : Due) → sighted_due doc q pod h ≡ d → P (evict_sighted doc k q pod b o d h)
+    by_stale true o sees d time = p
+    by_stale false None sees d time = p
+    by_stale false (Some x) sees Never time = p
+    by_stale false (Some x) sees (At at) time = by_time x sees at time (nat_le at (wall doc q.process k)) refl
+
+pub evict_step : (doc : Doc) (k : ℕ) (q : Identity) (P : List Entry → Type 0) (pod : Key) (h : List Entry) → IsPodKey pod → P h
+    → ((given node_given : Version) (at : ℕ) (a : Option Answer) → IsDeleteBy doc.settings.rules.evict_from doc k q pod given node_given at a h → P (add k q (Delete pod given node_given at a) h)) → P (evict doc k q pod h)
+evict_step doc k q P pod h kind p more = by_rule doc.settings.rules.evict_from more
+  where
+    by_rule : (rule : EvictRule) → ((given node_given : Version) (at : ℕ) (a : Option Answer) → IsDeleteBy rule doc k q pod given node_given at a h → P (add k q (Delete pod given node_given at a) h)) → P (evict_by rule doc k q pod h)
+    by_rule Added more = evict_added doc k q P pod h kind p more
+    by_rule Seen more = evict_sight doc k q P pod h kind p more
+
 -- ---- the walk
 
 module _ (doc : Doc) (k : ℕ) (q : Identity) (P : List Entry → Type 0) (more : (t : Tick) (h : List Entry) → MadeTick doc k q t h → P h → P (add k q t h)) where
@@ -156,7 +222,7 @@ module _ (doc : Doc) (k : ℕ) (q : Identity) (P : List Entry → Type 0) (more 
   every f keeps (x ∷ xs) h p = every f keeps xs (f x h) (keeps x h p)
 
   pub walk_sync : (h : List Entry) → P h → P (sync doc k q h)
-  walk_sync h p = by_test (watches doc q.process h && not (is_fresh q h))
+  walk_sync h p = by_test (has_settled doc k q h && (watches doc q.process h && not (is_fresh q h)))
     where
       by_test : (b : Bool) → P (if b then add k q Sync h else h)
       by_test true = more Sync h tt p
@@ -225,10 +291,47 @@ module _ (doc : Doc) (k : ℕ) (q : Identity) (P : List Entry → Type 0) (more 
       by_stale : (b : Bool) (o : Option (Version × Node)) → seen_node q name h ≡ o → P (clean_seen doc k q name b o h)
       by_stale true o is = p
       by_stale false None is = p
-      by_stale false (Some x) is = by_wants x is (wants (mode q h) x.1)
+      by_stale false (Some x) is = by_wants x is (wants (is_stripped doc.settings.rules.first_sight k q name h || mode q h) x.1)
+
+  walk_judge : (x : Passed) (name : ℕ) (h : List Entry) → P h → P (judge doc k q x name h)
+  walk_judge x name h p = by_stale (is_stale q (node_key name) h) (seen_node q name x.before) (seen_node q name h) refl
+    where
+      by_crossed : (z : Version × Node) → seen_node q name h ≡ Some z → (new : Bool) (w : Wants) → P (add_crossed doc k q name z.0 z.1 new w h)
+      by_crossed z is new (Wanted wanted) = more _ h (z.1, is, refl) p
+      by_crossed z is new Nothing = p
+      by_crossed z is new Whatever = p
+
+      by_untaint : (z : Version × Node) → seen_node q name h ≡ Some z → (b : Bool) → P (if b then add_untaint k q name z.0 z.1 h else h)
+      by_untaint z is false = p
+      by_untaint z is true = more _ h (z.1, is, refl) p
+
+      by_test : (z : Version × Node) → seen_node q name h ≡ Some z → (w : Wants) (b c : Bool)
+          → P (if b then add_crossed doc k q name z.0 z.1 (is_new doc q name x.before) w h else (if c then add_untaint k q name z.0 z.1 h else h))
+      by_test z is w true c = by_crossed z is (is_new doc q name x.before) w
+      by_test z is w false c = by_untaint z is c
+
+      by_stale : (b : Bool) (was o : Option (Version × Node)) → seen_node q name h ≡ o → P (judge_seen doc k q name x b was o h)
+      by_stale true was o is = p
+      by_stale false None o is = p
+      by_stale false (Some y) None is = p
+      by_stale false (Some y) (Some z) is =
+          let w = judged q name x y.1 in
+          by_test z is w (is_crossed w z.1) (has_condition z.1 && (is_new doc q name x.before || is_healthy w || has_turned_on q x))
+
+  walk_judge_all : (xs : List Passed) (h : List Entry) → P h → P (judge_all doc k q xs h)
+  walk_judge_all [] h p = p
+  walk_judge_all (x ∷ xs) h p = every (judge doc k q x) (walk_judge x) (node_names h) h p
 
   pub walk_cleaned : (h : List Entry) → P h → P (cleaned doc k q h)
-  walk_cleaned h p = every (clean doc k q) walk_clean (node_names h) h p
+  walk_cleaned h p = by_rule doc.settings.rules.judge
+    where
+      by_pass : (b : Bool) → P (if b then judge_all doc k q (passes q h) h else h)
+      by_pass false = p
+      by_pass true = walk_judge_all (passes q h) h p
+
+      by_rule : (rule : JudgeRule) → P (cleaned_by rule doc k q h)
+      by_rule judges.Tick = every (clean doc k q) walk_clean (node_names h) h p
+      by_rule judges.Pass = by_pass (is_pass_tick k q h)
 
   walk_taint : (place : Place) (h : List Entry) → P h → P (taint doc k q place h)
   walk_taint place h p = by_token (has_token doc q k place h) refl
@@ -246,14 +349,49 @@ module _ (doc : Doc) (k : ℕ) (q : Identity) (P : List Entry → Type 0) (more 
       by_token false token = p
       by_token true token = by_head token (head_of q place (node_names h) h)
 
+  walk_push : (place : Place) (h : List Entry) → P h → P (push doc k q place h)
+  walk_push place h p = by_token (has_token doc q k place h) refl
+    where
+      by_wants : has_token doc q k place h ≡ true → (name : ℕ) (x : Version × Node) → seen_node q name h ≡ Some x → (w : Wants) → P (push_as doc k q place name x.0 x.1 w h)
+      by_wants token name x is (Wanted wanted) = more _ h (token, (x.1, is, refl)) p
+      by_wants token name x is Nothing = more _ h token p
+      by_wants token name x is Whatever = more _ h token p
+
+      by_seen : has_token doc q k place h ≡ true → (name : ℕ) (o : Option (Version × Node)) → seen_node q name h ≡ o → P (push_seen doc k q place name o h)
+      by_seen token name None is = more _ h token p
+      by_seen token name (Some x) is = by_wants token name x is (wants_ready x.1.ready)
+
+      by_first : has_token doc q k place h ≡ true → (names : List ℕ) → P (push_first doc k q place names h)
+      by_first token [] = p
+      by_first token (name ∷ names) = by_seen token name (seen_node q name h) refl
+
+      by_token : (b : Bool) → has_token doc q k place h ≡ b → P (if b then push_first doc k q place (queue doc q place (passes q h)) h else h)
+      by_token false token = p
+      by_token true token = by_first token (queue doc q place (passes q h))
+
   pub walk_tainted : (h : List Entry) → P h → P (tainted doc k q h)
-  walk_tainted h p = every (taint doc k q) walk_taint (places (nodes q h)) h p
+  walk_tainted h p = by_rule doc.settings.rules.judge
+    where
+      by_rule : (rule : JudgeRule) → P (tainted_by rule doc k q h)
+      by_rule judges.Tick = every (taint doc k q) walk_taint (places (nodes q h)) h p
+      by_rule judges.Pass = every (push doc k q) walk_push (places (nodes q (before_pass q h))) h p
 
   pub walk_evict : (pod : Key) (h : List Entry) → IsPodKey pod → P h → P (evict doc k q pod h)
   walk_evict pod h kind p = evict_step doc k q P pod h kind p (λ given node_given at a made. more (Delete pod given node_given at a) h made p)
 
+  walk_within : (x : ℕ × Key) (h : List Entry) → IsPodKey x.1 → P h → P (evict_within doc k q x h)
+  walk_within x h kind p = by_room (has_room doc q k 0 h)
+    where
+      by_room : (b : Bool) → P (if b then evict doc k q x.1 h else h)
+      by_room false = p
+      by_room true = walk_evict x.1 h kind p
+
   pub walk_evicted : (h : List Entry) → P h → P (evicted doc k q h)
-  walk_evicted h p = each (evict doc k q) IsPodKey walk_evict (pod_keys h) h (pods_only h) p
+  walk_evicted h p = by_limit (doc.settings.rules.evict_burst == 0)
+    where
+      by_limit : (b : Bool) → P (elim b [ true ↦ for_each (evict doc k q) (pod_keys h) h | false ↦ for_each (evict_within doc k q) (dues doc q (pod_keys h) h) h ])
+      by_limit true = each (evict doc k q) IsPodKey walk_evict (pod_keys h) h (pods_only h) p
+      by_limit false = each (evict_within doc k q) (λ x. IsPodKey x.1) walk_within (dues doc q (pod_keys h) h) h (dues_only doc q h (pod_keys h) (pods_only h)) p
 
   pub walk_tick : (h : List Entry) → P h → P (tick doc k q h)
   walk_tick h p = by_test (is_synced q (sync doc k q h))

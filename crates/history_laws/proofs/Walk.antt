@@ -8,24 +8,29 @@ use Rattle.kube_base.specs.declared.numbers.Version.{Version}
 use Rattle.kube_objects.specs.declared.call.Request.{Request}
 use Rattle.kube_objects.specs.declared.call.Request.TheVariants.{Get}
 use Rattle.kube_objects.specs.declared.deed.Actor.{Actor}
+use Rattle.kube_objects.specs.declared.call.Reply.{Reply}
+use Rattle.kube_objects.specs.declared.rules.ReleaseRule.{ReleaseRule}
+use Rattle.kube_objects.specs.declared.rules.ReleaseRule.TheVariants as rules
 use Rattle.kube_objects.specs.declared.script.Event.{Event}
 use Rattle.kube_objects.specs.declared.script.What.{What}
 use Rattle.kube_objects.specs.declared.script.What.TheVariants as what
-use Rattle.kube_objects.specs.Clocks.{local}
+use Rattle.kube_objects.specs.Clocks.{local, wall}
 use Rattle.kube_objects.specs.Document.{Doc, processes, is_controller, is_up_first}
-use Rattle.kube_objects.specs.Elector.{Follow, Fails, Asks, Succeeds, follow_on, leads, deadline, timer, attempt, release, acts}
-use Rattle.kube_objects.specs.Entry.{Entry, Identity, Call, Plain, Release, Fact, Event as Happens, Starts, Crashes, Stops, Stalls, Ends, Delivers, Expires, Leads, Ticks, actor_of, entry, script_entry}
+use Rattle.kube_objects.specs.Elector.{Follow, Fails, Asks, Succeeds, follow_on, leads, deadline, timer, attempt, release as releases_of, acts, acts_by, acts_on, shown, release_from}
+use Rattle.kube_objects.specs.Entry.{Entry, Identity, Call, CallKind, Plain, Fast, Release, Look, Emptying, Fact, Event as Happens, Starts, Crashes, Stops, Stalls, Ends, ReleaseBegins, ReleaseStops, Delivers, Expires, Leads, Ticks, actor_of, entry, script_entry}
 use Rattle.kube_objects.specs.Identities.{identity}
 use Rattle.kube_objects.specs.Kubelet.{node_of, is_post, has_round, next_request, post, send_next, is_post_call, round_if, is_round_due, round_timer, round}
 use Rattle.kube_objects.specs.Newest.{has, only_if}
 use Rattle.kube_objects.specs.Pauses.{is_paused}
-use Rattle.kube_objects.specs.Process.{alive, starts, begun, call_in, counted, is_late, ended, is_restart_due}
+use Rattle.kube_objects.specs.Process.{alive, starts, begun, is_releasing, call_in, counted, is_late, release_begun, ended, is_restart_due}
+use Rattle.kube_objects.specs.Releases.{and_end, end_release, first_call, send_first, begin_release, is_mine, after_look, empty_or_end, react_in_release}
+use Rattle.kube_objects.specs.Stalls.{is_stalled}
 use Rattle.kube_objects.specs.Stored.{election, node_lease}
 use Rattle.kube_objects.specs.Tick.{tick}
-use Rattle.kube_objects.specs.Turns.{react, expire_call, end_term, just_expired, is_fast_call, attempt_if, try}
+use Rattle.kube_objects.specs.Turns.{react, expire_as, expire_call, end_released, end_as, end_term, just_expired, is_fast_call, attempt_if, try}
 use Rattle.kube_objects.specs.Wire.{send, Sent, Back, sent_of, back_of}
 use Rattle.history.specs.History.{three_steps, history, at_turn}
-use Rattle.history.specs.Steps.{start, start_first, starts_below, first_starts, start_if_down, crash, stall, released, stop, effect, stamp, event_version, happen_all, step_one, answered, step_two, react_as, deliver_as, step_three, if_up, restart_if, restart, expire, finish, attempts, ticks, controller_turn, kubelet_turn, turn, turns, elector_turn, happens, delivered, unpaused_turn}
+use Rattle.history.specs.Steps.{start, start_first, starts_below, first_starts, start_if_down, crash, stall, released, stop_at_once, stop_releasing, stop_as, stop, effect, stamp, event_version, happen_all, step_one, answered, step_two, elector_react, react_as, deliver_as, step_three, if_up, restart_if, restart, expire, finish, attempts, ticks_while, ticks, controller_turn, kubelet_turn, turn, turns, elector_turn, happens, delivered, unpaused_turn}
 use Rattle.history_laws.specs.Tails.{In}
 use Rattle.history_laws.proofs.Counting.{counted_is, only_test, only_value}
 use Rattle.history_laws.proofs.Expired.{expired_none}
@@ -58,6 +63,10 @@ pub record Coming (k : ℕ) (h : List Entry) (b : Back) : Type 0 where
 abbrev pub stopped_at : ℕ → ProcId → ℕ → List Entry → List Entry
 stopped_at k id i before = entry k 1 (identity id.0 i) Stops ∷ script_entry k 1 (Happens (what.Stop id) None) ∷ before
 
+-- and of one that begins a release
+abbrev pub halted_at : ℕ → ProcId → ℕ → List Entry → List Entry
+halted_at k id i before = entry k 1 (identity id.0 i) ReleaseStops ∷ script_entry k 1 (Happens (what.Stop id) None) ∷ before
+
 -- the history after a counted reply
 abbrev pub after_reply : ℕ → Back → Call → List Entry → List Entry
 after_reply k b waiting h = entry k 3 b.who (Delivers waiting b.reply true) ∷ h
@@ -84,14 +93,56 @@ pub record KeepsTurn (doc : Doc) (A : Identity → ℕ → Type 0) (P : ℕ → 
   pub ends : (k p i at : ℕ) (h : List Entry) → is_controller doc p ≡ true → alive p h ≡ Some i → deadline doc (identity p i) h ≡ Some at → nat_lt (local doc p k) at ≡ false
       → P k h → P k (entry k 4 (identity p i) Ends ∷ h)
   pub polls : (k p i : ℕ) (h : List Entry) → is_controller doc p ≡ true → alive p h ≡ Some i → is_paused doc p k ≡ false → call_in (identity p i) h ≡ None
-      → P k h → P k (send k 4 (identity p i) Plain (Get election) h)
+      → P k h → P k (send doc k 4 (identity p i) Plain (Get election) h)
   pub attempts : (k p i : ℕ) (h : List Entry) → is_controller doc p ≡ true → alive p h ≡ Some i → is_paused doc p k ≡ false → call_in (identity p i) h ≡ None
-      → P k h → P k (send k 4 (identity p i) (attempt doc (identity p i) k h).0 (attempt doc (identity p i) k h).1 h)
+      → P k h → P k (send doc k 4 (identity p i) (attempt doc (identity p i) k h).0 (attempt doc (identity p i) k h).1 h)
   pub seeks : (k p i : ℕ) (call : Call) (h : List Entry) → is_controller doc p ≡ false → alive p h ≡ Some i → is_paused doc p k ≡ false → just_expired (identity p i) k h ≡ Some call → is_post call.request ≡ true
-      → P k h → P k (send k 4 (identity p i) Plain (Get (node_lease (node_of doc p))) h)
+      → P k h → P k (send doc k 4 (identity p i) Plain (Get (node_lease (node_of doc p))) h)
   pub posts : (k p i : ℕ) (h : List Entry) → is_controller doc p ≡ false → alive p h ≡ Some i → is_paused doc p k ≡ false → has_round (identity p i) h ≡ false
-      → P k h → P k (send k 4 (identity p i) Plain (post doc (identity p i) k h) h)
+      → P k h → P k (send doc k 4 (identity p i) Plain (post doc (identity p i) k h) h)
   pub ticks : (k : ℕ) (q : Identity) (h : List Entry) → A q k → P k h → P k (tick doc k q h)
+
+-- ---- releases, which a document knows whose rule isn't that of a stop's single update
+
+abbrev pub IsStop : Doc → Type 0
+IsStop doc = doc.settings.rules.release ≡ rules.Stop
+
+-- a property at a beat that what a release adds in a turn keeps: its end by time, and its begin at the deadline
+pub record KeepsReleaseTurn (doc : Doc) (P : ℕ → List Entry → Type 0) : Type 0 where
+  pub closes : (k p i begun : ℕ) (call : Call) (h : List Entry) → alive p h ≡ Some i → call_in (identity p i) h ≡ Some call → is_late doc (identity p i) k call ≡ true
+      → release_begun doc.settings.rules.release call.kind ≡ Some begun → P k h → P k (end_release doc k 4 (identity p i) h)
+  pub begins : (k p i at : ℕ) (h : List Entry) → is_controller doc p ≡ true → alive p h ≡ Some i → deadline doc (identity p i) h ≡ Some at → nat_lt (local doc p k) at ≡ false
+      → (IsStop doc → ⊥) → P k h → P k (end_as doc.settings.rules.release doc k (identity p i) h)
+
+-- and at a beat and a step: a stop while it runs, its begin at a stop, and what a reply in it causes
+pub record KeepsRelease (doc : Doc) (P : ℕ → ℕ → List Entry → Type 0) : Type 0 where
+  pub halts : (k : ℕ) (id : ProcId) (i : ℕ) (h : List Entry) → Scripted doc k (what.Stop id) → alive id.0 h ≡ Some i → (IsStop doc → ⊥) → P k 1 h → P k 1 (entry k 1 (identity id.0 i) ReleaseStops ∷ h)
+  pub begins : (k : ℕ) (id : ProcId) (i : ℕ) (before : List Entry) → Scripted doc k (what.Stop id) → alive id.0 before ≡ Some i → is_paused doc id.0 k ≡ false → (IsStop doc → ⊥)
+      → leads (identity id.0 i) before ≡ true → P k 1 (halted_at k id i before) → P k 1 (begin_release doc k 1 (identity id.0 i) false (halted_at k id i before))
+  pub reacts : (k begun : ℕ) (b : Back) (waiting : Call) (h : List Entry) → Coming k h b → counted doc b.who k b.call.number h ≡ Some waiting → is_controller doc b.who.process ≡ true
+      → release_begun doc.settings.rules.release waiting.kind ≡ Some begun → P k 3 h → P k 3 (after_reply k b waiting h) → P k 3 (react_in_release doc k b.who waiting.kind b.reply (after_reply k b waiting h))
+  pub turns : KeepsReleaseTurn doc (λ k h. P k 4 h)
+
+-- under the rule of a stop's single update there is nothing to keep
+none_begun : (rule : ReleaseRule) (kind : CallKind) (begun : ℕ) → rule ≡ rules.Stop → release_begun rule kind ≡ Some begun → ⊥
+none_begun rules.Stop kind begun stop is = cc
+none_begun rules.Own kind begun stop is = cc
+none_begun rules.Checked kind begun stop is = cc
+none_begun rules.Reread kind begun stop is = cc
+
+pub no_release_turn : (doc : Doc) (P : ℕ → List Entry → Type 0) → IsStop doc → KeepsReleaseTurn doc P
+no_release_turn doc P stop = record {
+  closes = λ k p i begun call h up waits late is s. absurd (none_begun doc.settings.rules.release call.kind begun stop is);
+  begins = λ k p i at h role up is before other s. absurd (other stop);
+}
+
+pub no_release : (doc : Doc) (P : ℕ → ℕ → List Entry → Type 0) → IsStop doc → KeepsRelease doc P
+no_release doc P stop = record {
+  halts = λ k id i h scripted up other s. absurd (other stop);
+  begins = λ k id i before scripted up awake other led s. absurd (other stop);
+  reacts = λ k begun b waiting h coming is role of was s. absurd (none_begun doc.settings.rules.release waiting.kind begun stop of);
+  turns = no_release_turn doc (λ k h. P k 4 h) stop;
+}
 
 -- a property, at a beat and a step, that each kind of entry keeps
 pub record Keeps (doc : Doc) (P : ℕ → ℕ → List Entry → Type 0) : Type 0 where
@@ -103,19 +154,19 @@ pub record Keeps (doc : Doc) (P : ℕ → ℕ → List Entry → Type 0) : Type 
   pub stalls : (k : ℕ) (id : ProcId) (beats i : ℕ) (h : List Entry) → Scripted doc k (what.Pause id beats) → alive id.0 h ≡ Some i → P k 1 h → P k 1 (entry k 1 (identity id.0 i) (Stalls beats) ∷ h)
   pub stops : (k : ℕ) (id : ProcId) (i : ℕ) (h : List Entry) → Scripted doc k (what.Stop id) → alive id.0 h ≡ Some i → P k 1 h → P k 1 (entry k 1 (identity id.0 i) Stops ∷ h)
   pub releases : (k : ℕ) (id : ProcId) (i : ℕ) (before : List Entry) (request : Request) → Scripted doc k (what.Stop id) → alive id.0 before ≡ Some i → is_paused doc id.0 k ≡ false
-      → release doc (identity id.0 i) k before ≡ Some request → P k 1 (script_entry k 1 (Happens (what.Stop id) None) ∷ before) → P k 1 (stopped_at k id i before) → P k 1 (send k 1 (identity id.0 i) Release request (stopped_at k id i before))
+      → releases_of doc (identity id.0 i) k before ≡ Some request → P k 1 (script_entry k 1 (Happens (what.Stop id) None) ∷ before) → P k 1 (stopped_at k id i before) → P k 1 (send doc k 1 (identity id.0 i) Release request (stopped_at k id i before))
   pub answers : (k : ℕ) (s : Sent) (h : List Entry) → Arriving k h s → P k 2 h → P k 2 (answered doc k s h)
   pub ignores : (k : ℕ) (b : Back) (h : List Entry) → Coming k h b → counted doc b.who k b.call.number h ≡ None → P k 3 h → P k 3 (entry k 3 b.who (Delivers b.call b.reply false) ∷ h)
   pub counts : (k : ℕ) (b : Back) (waiting : Call) (h : List Entry) → Coming k h b → counted doc b.who k b.call.number h ≡ Some waiting → P k 3 h → P k 3 (after_reply k b waiting h)
   pub follows : (k : ℕ) (b : Back) (waiting : Call) (h : List Entry) (request : Request) → Coming k h b → counted doc b.who k b.call.number h ≡ Some waiting
       → is_controller doc b.who.process ≡ true → follow_on doc b.who k waiting.kind waiting.request b.reply (after_reply k b waiting h) ≡ Asks request
-      → P k 3 h → P k 3 (after_reply k b waiting h) → P k 3 (send k 3 b.who Plain request (after_reply k b waiting h))
+      → P k 3 h → P k 3 (after_reply k b waiting h) → P k 3 (send doc k 3 b.who Plain request (after_reply k b waiting h))
   pub leads : (k : ℕ) (b : Back) (waiting : Call) (h : List Entry) (version : Version) → Coming k h b → counted doc b.who k b.call.number h ≡ Some waiting
       → is_controller doc b.who.process ≡ true → follow_on doc b.who k waiting.kind waiting.request b.reply (after_reply k b waiting h) ≡ Succeeds version
       → P k 3 h → P k 3 (after_reply k b waiting h) → P k 3 (entry k 3 b.who (Leads version) ∷ after_reply k b waiting h)
   pub asks : (k : ℕ) (b : Back) (waiting : Call) (h : List Entry) (request : Request) → Coming k h b → counted doc b.who k b.call.number h ≡ Some waiting
       → is_controller doc b.who.process ≡ false → next_request doc b.who k waiting.request b.reply ≡ Some request
-      → P k 3 h → P k 3 (after_reply k b waiting h) → P k 3 (send k 3 b.who Plain request (after_reply k b waiting h))
+      → P k 3 h → P k 3 (after_reply k b waiting h) → P k 3 (send doc k 3 b.who Plain request (after_reply k b waiting h))
   pub turns : KeepsTurn doc (Ticking doc) (λ k h. P k 4 h)
 
 -- what every new entry has: a call's number is the next one, and so is a start's incarnation
@@ -133,6 +184,77 @@ LeadIsUp who _ h = Unit {0}
 
 abbrev pub IsNext : Entry → List Entry → Type 0
 IsNext x h = StartIsNext x.actor x.fact h × IfSome (sent_of x.actor x.fact) (CallIsNext h) × LeadIsUp x.actor x.fact h
+
+-- an entry of a tick is by one who ticks, and is as a tick makes it
+abbrev pub Made : Doc → ℕ → Actor → Fact → List Entry → Type 0
+Made doc k who (Ticks t) h = (q : Identity) × (who ≡ actor_of q) × Ticking doc q k × MadeTick doc k q t h
+Made doc k who _ h = Unit {0}
+
+-- an entry that is of no tick
+abbrev pub IsPlain : Fact → Type 0
+IsPlain (Ticks t) = ⊥
+IsPlain _ = Unit {0}
+
+plain_made : (doc : Doc) (k : ℕ) (who : Actor) (d : Fact) (h : List Entry) → IsPlain d → Made doc k who d h
+plain_made doc k who (Ticks t) h plain = absurd plain
+plain_made doc k who d h plain = tt
+
+-- what a release adds, for a property that every new entry keeps
+module _ (doc : Doc) (P : List Entry → Type 0) (k step : ℕ) (more : (x : Entry) (h : List Entry) → x.beat ≡ k → x.step ≡ step → IsNext x h → IsPlain x.fact → P h → P (x ∷ h)) where
+  keeps_and_end : (q : Identity) (b : Bool) (h : List Entry) → P h → P (and_end k step q b h)
+  keeps_and_end q true h s = more _ h refl refl (tt, tt, tt) tt s
+  keeps_and_end q false h s = s
+
+  pub keeps_end_release : (q : Identity) (h : List Entry) → P h → P (end_release doc k step q h)
+  keeps_end_release q h s = more _ (and_end k step q (acts_on doc q h) h) refl refl (tt, tt, tt) tt (keeps_and_end q (acts_on doc q h) h s)
+
+  keeps_send : (q : Identity) (kind : CallKind) (request : Request) (h : List Entry) → P h → P (send doc k step q kind request h)
+  keeps_send q kind request h s = more _ h refl refl (tt, refl, tt) tt s
+
+  keeps_first : (q : Identity) (o : Option (CallKind × Request)) (h : List Entry) → P h → P (send_first doc k step q o h)
+  keeps_first q None h s = keeps_end_release q h s
+  keeps_first q (Some call) h s = keeps_send q call.0 call.1 h s
+
+  pub keeps_begin_release : (q : Identity) (at_deadline : Bool) (h : List Entry) → P h → P (begin_release doc k step q at_deadline h)
+  keeps_begin_release q at_deadline h s =
+      keeps_first q (first_call doc.settings.rules.release k (release_from q (wall doc q.process k) (shown q h))) (entry k step q (ReleaseBegins at_deadline) ∷ h)
+      (more _ h refl refl (tt, tt, tt) tt s)
+
+  pub keeps_end_as : (rule : ReleaseRule) (q : Identity) (h : List Entry) → step ≡ 4 → P h → P (end_as rule doc k q h)
+  keeps_end_as rule q h is s = by_rule rule
+    where
+      late : P (begin_release doc k 4 q true (and_end k 4 q (not (acts_by doc.settings.rules.in_release true)) h))
+      late = subst (λ n. P (begin_release doc k n q true (and_end k n q (not (acts_by doc.settings.rules.in_release true)) h))) is
+          (keeps_begin_release q true (and_end k step q (not (acts_by doc.settings.rules.in_release true)) h) (keeps_and_end q (not (acts_by doc.settings.rules.in_release true)) h s))
+
+      by_running : (b : Bool) → P (end_released doc k q b h)
+      by_running true = s
+      by_running false = late
+
+      by_rule : (rule : ReleaseRule) → P (end_as rule doc k q h)
+      by_rule rules.Stop = more _ h refl (sym is) (tt, tt, tt) tt s
+      by_rule rules.Own = by_running (is_releasing q h)
+      by_rule rules.Checked = by_running (is_releasing q h)
+      by_rule rules.Reread = by_running (is_releasing q h)
+
+  keeps_empty : (q : Identity) (begun : ℕ) (o : Option Request) (h : List Entry) → step ≡ 3 → P h → P (empty_or_end doc k q begun o h)
+  keeps_empty q begun None h is s = subst (λ n. P (end_release doc k n q h)) is (keeps_end_release q h s)
+  keeps_empty q begun (Some request) h is s = subst (λ n. P (send doc k n q (Emptying begun) request h)) is (keeps_send q (Emptying begun) request h s)
+
+  pub keeps_react : (q : Identity) (kind : CallKind) (reply : Reply) (h : List Entry) → step ≡ 3 → P h → P (react_in_release doc k q kind reply h)
+  keeps_react q (Look begun) reply h is s = keeps_empty q begun (after_look doc.settings.rules.release q (wall doc q.process k) (is_mine q h) reply) h is s
+  keeps_react q Plain reply h is s = subst (λ n. P (end_release doc k n q h)) is (keeps_end_release q h s)
+  keeps_react q Fast reply h is s = subst (λ n. P (end_release doc k n q h)) is (keeps_end_release q h s)
+  keeps_react q Release reply h is s = subst (λ n. P (end_release doc k n q h)) is (keeps_end_release q h s)
+  keeps_react q (Emptying begun) reply h is s = subst (λ n. P (end_release doc k n q h)) is (keeps_end_release q h s)
+
+-- a property of turns that every new entry keeps, what a release adds
+pub all_release_turns : (doc : Doc) (P : ℕ → List Entry → Type 0)
+    → ((k : ℕ) (x : Entry) (h : List Entry) → x.beat ≡ k → x.step ≡ 4 → IsNext x h → P k h → P k (x ∷ h)) → KeepsReleaseTurn doc P
+all_release_turns doc P more = record {
+  closes = λ k p i begun call h up waits late is s. keeps_end_release doc (P k) k 4 (λ x h beat is next plain. more k x h beat is next) (identity p i) h s;
+  begins = λ k p i at h role up is before other s. keeps_end_as doc (P k) k 4 (λ x h beat is next plain. more k x h beat is next) doc.settings.rules.release (identity p i) h refl s;
+}
 
 -- a property of turns that every new entry keeps, whatever its kind
 pub all_turns : (doc : Doc) (A : Identity → ℕ → Type 0) (P : ℕ → List Entry → Type 0)
@@ -173,10 +295,20 @@ all_kinds doc P on next more = record {
       subst (λ step. P k step (x ∷ h)) step (subst (λ k. P k x.step (x ∷ h)) beat (more x h next (subst (λ k. P k x.step h) (sym beat) (subst (λ step. P k step h) (sym step) s)))));
 }
 
--- an entry of a tick is by one who ticks, and is as a tick makes it
-abbrev pub Made : Doc → ℕ → Actor → Fact → List Entry → Type 0
-Made doc k who (Ticks t) h = (q : Identity) × (who ≡ actor_of q) × Ticking doc q k × MadeTick doc k q t h
-Made doc k who _ h = Unit {0}
+-- one that every new entry keeps, what a release adds
+pub all_release : (doc : Doc) (P : ℕ → ℕ → List Entry → Type 0)
+    → ((x : Entry) (h : List Entry) → IsNext x h → P x.beat x.step h → P x.beat x.step (x ∷ h))
+    → KeepsRelease doc P
+all_release doc P more = record {
+  halts = λ k id i h scripted up other s. more _ h (tt, tt, tt) s;
+  begins = λ k id i before scripted up awake other led s. keeps_begin_release doc (P k 1) k 1 (λ x h beat is next plain. at k 1 x h beat is next) (identity id.0 i) false (halted_at k id i before) s;
+  reacts = λ k begun b waiting h coming is role of was s. keeps_react doc (P k 3) k 3 (λ x h beat is next plain. at k 3 x h beat is next) b.who waiting.kind b.reply (after_reply k b waiting h) refl s;
+  turns = all_release_turns doc (λ k h. P k 4 h) (λ k x h beat step next s. at k 4 x h beat step next s);
+}
+  where
+    at : (k step : ℕ) (x : Entry) (h : List Entry) → x.beat ≡ k → x.step ≡ step → IsNext x h → P k step h → P k step (x ∷ h)
+    at k step x h beat is next s =
+        subst (λ step. P k step (x ∷ h)) is (subst (λ k. P k x.step (x ∷ h)) beat (more x h next (subst (λ k. P k x.step h) (sym beat) (subst (λ step. P k step h) (sym is) s))))
 
 -- a property that every new entry keeps, of whom only a tick's is known how it was made
 pub all_made : (doc : Doc) (P : ℕ → ℕ → List Entry → Type 0)
@@ -211,9 +343,32 @@ all_made doc P on next more = record {
   };
 }
 
+-- one that every new entry of no tick keeps, what a release adds
+pub plain_release : (doc : Doc) (P : ℕ → ℕ → List Entry → Type 0)
+    → ((x : Entry) (h : List Entry) → IsPlain x.fact → P x.beat x.step h → P x.beat x.step (x ∷ h))
+    → KeepsRelease doc P
+plain_release doc P more = record {
+  halts = λ k id i h scripted up other s. more _ h tt s;
+  begins = λ k id i before scripted up awake other led s. keeps_begin_release doc (P k 1) k 1 (at k 1) (identity id.0 i) false (halted_at k id i before) s;
+  reacts = λ k begun b waiting h coming is role of was s. keeps_react doc (P k 3) k 3 (at k 3) b.who waiting.kind b.reply (after_reply k b waiting h) refl s;
+  turns = record {
+    closes = λ k p i begun call h up waits late is s. keeps_end_release doc (P k 4) k 4 (at k 4) (identity p i) h s;
+    begins = λ k p i reading h role up is before other s. keeps_end_as doc (P k 4) k 4 (at k 4) doc.settings.rules.release (identity p i) h refl s;
+  };
+}
+  where
+    at : (k step : ℕ) (x : Entry) (h : List Entry) → x.beat ≡ k → x.step ≡ step → IsNext x h → IsPlain x.fact → P k step h → P k step (x ∷ h)
+    at k step x h beat is next plain s =
+        subst (λ step. P k step (x ∷ h)) is (subst (λ k. P k x.step (x ∷ h)) beat (more x h plain (subst (λ k. P k x.step h) (sym beat) (subst (λ step. P k step h) (sym is) s))))
+
+pub made_release : (doc : Doc) (P : ℕ → ℕ → List Entry → Type 0)
+    → ((x : Entry) (h : List Entry) → Made doc x.beat x.actor x.fact h → P x.beat x.step h → P x.beat x.step (x ∷ h))
+    → KeepsRelease doc P
+made_release doc P more = plain_release doc P (λ x h plain s. more x h (plain_made doc x.beat x.actor x.fact h plain) s)
+
 -- ---- step 4
 
-module _ (doc : Doc) (A : Identity → ℕ → Type 0) (P : ℕ → List Entry → Type 0) (keeps : KeepsTurn doc A P) where
+module _ (doc : Doc) (A : Identity → ℕ → Type 0) (P : ℕ → List Entry → Type 0) (keeps : KeepsTurn doc A P) (release : KeepsReleaseTurn doc P) where
   walk_if_up : (k p : ℕ) (f : Identity → List Entry → List Entry) → ((i : ℕ) (h : List Entry) → alive p h ≡ Some i → P k h → P k (f (identity p i) h)) → (up : Option ℕ) (h : List Entry) → alive p h ≡ up → P k h → P k (if_up p f up h)
   walk_if_up k p f one None h is s = s
   walk_if_up k p f one (Some i) h is s = one i h is s
@@ -226,17 +381,31 @@ module _ (doc : Doc) (A : Identity → ℕ → Type 0) (P : ℕ → List Entry �
   walk_restart k p (Some i) h s = s
   walk_restart k p None h s = walk_restart_as k p (is_restart_due doc p k (ended doc p h)) h s
 
-  walk_expire_as : (k p i : ℕ) (call : Call) (h : List Entry) → alive p h ≡ Some i → call_in (identity p i) h ≡ Some call → (b : Bool) → is_late doc (identity p i) k call ≡ b → P k h → P k (if b then entry k 4 (identity p i) (Expires call) ∷ h else h)
+  walk_expired : (k p i : ℕ) (call : Call) (h : List Entry) → alive p h ≡ Some i → call_in (identity p i) h ≡ Some call → is_late doc (identity p i) k call ≡ true
+      → (o : Option ℕ) → release_begun doc.settings.rules.release call.kind ≡ o → P k h → P k (expire_as doc k (identity p i) call o h)
+  walk_expired k p i call h up waits late None of s = keeps.expires k p i call h up waits late s
+  walk_expired k p i call h up waits late (Some begun) of s = release.closes k p i begun call h up waits late of s
+
+  walk_expire_as : (k p i : ℕ) (call : Call) (h : List Entry) → alive p h ≡ Some i → call_in (identity p i) h ≡ Some call → (b : Bool) → is_late doc (identity p i) k call ≡ b
+      → P k h → P k (if b then expire_as doc k (identity p i) call (release_begun doc.settings.rules.release call.kind) h else h)
   walk_expire_as k p i call h up waits false late s = s
-  walk_expire_as k p i call h up waits true late s = keeps.expires k p i call h up waits late s
+  walk_expire_as k p i call h up waits true late s = walk_expired k p i call h up waits late (release_begun doc.settings.rules.release call.kind) refl s
 
   walk_expire : (k p i : ℕ) (h : List Entry) → alive p h ≡ Some i → (o : Option Call) → call_in (identity p i) h ≡ o → P k h → P k (expire_call doc k (identity p i) o h)
   walk_expire k p i h up None waits s = s
   walk_expire k p i h up (Some call) waits s = walk_expire_as k p i call h up waits (is_late doc (identity p i) k call) refl s
 
-  walk_end_as : (k p i at : ℕ) → is_controller doc p ≡ true → (h : List Entry) → alive p h ≡ Some i → deadline doc (identity p i) h ≡ Some at → (b : Bool) → nat_lt (local doc p k) at ≡ b → P k h → P k (if b then h else entry k 4 (identity p i) Ends ∷ h)
+  walk_deadline : (k p i at : ℕ) → is_controller doc p ≡ true → (h : List Entry) → alive p h ≡ Some i → deadline doc (identity p i) h ≡ Some at → nat_lt (local doc p k) at ≡ false
+      → (rule : ReleaseRule) → doc.settings.rules.release ≡ rule → P k h → P k (end_as rule doc k (identity p i) h)
+  walk_deadline k p i at role h up is before rules.Stop by s = keeps.ends k p i at h role up is before s
+  walk_deadline k p i at role h up is before rules.Own by s = subst (λ r. P k (end_as r doc k (identity p i) h)) by (release.begins k p i at h role up is before (λ stop. cc) s)
+  walk_deadline k p i at role h up is before rules.Checked by s = subst (λ r. P k (end_as r doc k (identity p i) h)) by (release.begins k p i at h role up is before (λ stop. cc) s)
+  walk_deadline k p i at role h up is before rules.Reread by s = subst (λ r. P k (end_as r doc k (identity p i) h)) by (release.begins k p i at h role up is before (λ stop. cc) s)
+
+  walk_end_as : (k p i at : ℕ) → is_controller doc p ≡ true → (h : List Entry) → alive p h ≡ Some i → deadline doc (identity p i) h ≡ Some at → (b : Bool) → nat_lt (local doc p k) at ≡ b
+      → P k h → P k (if b then h else end_as doc.settings.rules.release doc k (identity p i) h)
   walk_end_as k p i at role h up is true before s = s
-  walk_end_as k p i at role h up is false before s = keeps.ends k p i at h role up is before s
+  walk_end_as k p i at role h up is false before s = walk_deadline k p i at role h up is before doc.settings.rules.release refl s
 
   walk_end : (k p i : ℕ) → is_controller doc p ≡ true → (h : List Entry) → alive p h ≡ Some i → (o : Option ℕ) → deadline doc (identity p i) h ≡ o → P k h → P k (end_term doc k (identity p i) o h)
   walk_end k p i role h up None is s = s
@@ -284,11 +453,15 @@ module _ (doc : Doc) (A : Identity → ℕ → Type 0) (P : ℕ → List Entry �
       walk_attempts k p role awake (finish doc k p h2) (walk_finish k p role h2 s2)
 
   pub walk_ticks : (k p : ℕ) (h : List Entry) → ((i : ℕ) → alive p h ≡ Some i → acts doc (identity p i) k h ≡ true → A (identity p i) k) → P k h → P k (ticks doc k p h)
-  walk_ticks k p h acting s = by_up (alive p h) refl
+  walk_ticks k p h acting s = by_stall (is_stalled doc k)
     where
       by_up : (o : Option ℕ) → alive p h ≡ o → P k (if_up p (λ q T. (if (acts doc q k T) then tick doc k q T else T)) o h)
       by_up None up = s
       by_up (Some i) up = walk_tick_as k (identity p i) (acts doc (identity p i) k h) (acting i up) h s
+
+      by_stall : (b : Bool) → P k (ticks_while b doc k p h)
+      by_stall true = s
+      by_stall false = by_up (alive p h) refl
 
   walk_controller : (k p : ℕ) → is_controller doc p ≡ true → is_paused doc p k ≡ false → (h : List Entry) → Begins doc A k p h → P k h → P k (controller_turn doc k p h)
   walk_controller k p role awake h begins s = walk_ticks k p (elector_turn doc k p h) (λ i up acting. begins i role up acting) (walk_to_tick k p role awake h s)
@@ -331,20 +504,20 @@ pub ticking_begins : (doc : Doc) (k p : ℕ) → Begins doc (Ticking doc) k p (a
 ticking_begins doc k p i role up acting = record { role = role; up = up; acting = acting }
 
 -- where nothing is to be known of who ticks
-module _ (doc : Doc) (P : ℕ → List Entry → Type 0) (keeps : KeepsTurn doc Anyone P) where
+module _ (doc : Doc) (P : ℕ → List Entry → Type 0) (keeps : KeepsTurn doc Anyone P) (release : KeepsReleaseTurn doc P) where
   pub walk_any_turn : (k p : ℕ) (h : List Entry) → P k h → P k (turn doc k p h)
-  walk_any_turn k p h s = walk_turn doc Anyone P keeps k p h (λ i role up acting. tt) s
+  walk_any_turn k p h s = walk_turn doc Anyone P keeps release k p h (λ i role up acting. tt) s
 
   -- from the end of a term on
   pub walk_any_after_end : (k p : ℕ) → is_controller doc p ≡ true → is_paused doc p k ≡ false → (h : List Entry) → P k h → P k (ticks doc k p (attempts doc k p h))
-  walk_any_after_end k p role awake h s = walk_ticks doc Anyone P keeps k p (attempts doc k p h) (λ i up acting. tt) (walk_attempts doc Anyone P keeps k p role awake h s)
+  walk_any_after_end k p role awake h s = walk_ticks doc Anyone P keeps release k p (attempts doc k p h) (λ i up acting. tt) (walk_attempts doc Anyone P keeps release k p role awake h s)
 
   pub walk_any_turns : (k n : ℕ) (h : List Entry) → P k h → P k (turns doc k n h)
-  walk_any_turns k n h s = walk_turns doc Anyone P keeps k n h (λ p i role up acting. tt) s
+  walk_any_turns k n h s = walk_turns doc Anyone P keeps release k n h (λ p i role up acting. tt) s
 
 -- ---- steps 1 to 3, and histories
 
-module _ (doc : Doc) (P : ℕ → ℕ → List Entry → Type 0) (keeps : Keeps doc P) where
+module _ (doc : Doc) (P : ℕ → ℕ → List Entry → Type 0) (keeps : Keeps doc P) (release : KeepsRelease doc P) where
   -- ---- step 1
 
   walk_start_first : (p : ℕ) (b : Bool) (h : List Entry) → P 0 1 h → P 0 1 (start_first p b h)
@@ -371,17 +544,38 @@ module _ (doc : Doc) (P : ℕ → ℕ → List Entry → Type 0) (keeps : Keeps 
   walk_stall k id beats None h scripted is s = s
   walk_stall k id beats (Some i) h scripted is s = keeps.stalls k id beats i h scripted is s
 
-  walk_released : (k : ℕ) (id : ProcId) (i : ℕ) (before : List Entry) → Scripted doc k (what.Stop id) → alive id.0 before ≡ Some i → is_paused doc id.0 k ≡ false → (o : Option Request) → release doc (identity id.0 i) k before ≡ o
-      → P k 1 (script_entry k 1 (Happens (what.Stop id) None) ∷ before) → P k 1 (stopped_at k id i before) → P k 1 (released k (identity id.0 i) o (stopped_at k id i before))
+  walk_released : (k : ℕ) (id : ProcId) (i : ℕ) (before : List Entry) → Scripted doc k (what.Stop id) → alive id.0 before ≡ Some i → is_paused doc id.0 k ≡ false → (o : Option Request) → releases_of doc (identity id.0 i) k before ≡ o
+      → P k 1 (script_entry k 1 (Happens (what.Stop id) None) ∷ before) → P k 1 (stopped_at k id i before) → P k 1 (released doc k (identity id.0 i) o (stopped_at k id i before))
   walk_released k id i before scripted up awake None is was s = s
   walk_released k id i before scripted up awake (Some request) is was s = keeps.releases k id i before request scripted up awake is was s
 
   walk_stop : (k : ℕ) (id : ProcId) (up : Option ℕ) (before : List Entry) → Scripted doc k (what.Stop id) → ((i : ℕ) → up ≡ Some i → (alive id.0 before ≡ Some i) × (is_paused doc id.0 k ≡ false))
       → P k 1 (script_entry k 1 (Happens (what.Stop id) None) ∷ before) → P k 1 (stop doc k id.0 up before (script_entry k 1 (Happens (what.Stop id) None) ∷ before))
   walk_stop k id None before scripted is s = s
-  walk_stop k id (Some i) before scripted is s =
-      walk_released k id i before scripted (is i refl).0 (is i refl).1 (release doc (identity id.0 i) k before) refl s
-      (keeps.stops k id i (script_entry k 1 (Happens (what.Stop id) None) ∷ before) scripted (is i refl).0 s)
+  walk_stop k id (Some i) before scripted is s = by_rule doc.settings.rules.release refl
+    where
+      up : alive id.0 before ≡ Some i
+      up = (is i refl).0
+
+      stopped : P k 1 (stopped_at k id i before)
+      stopped = keeps.stops k id i (script_entry k 1 (Happens (what.Stop id) None) ∷ before) scripted up s
+
+      halted : (IsStop doc → ⊥) → P k 1 (halted_at k id i before)
+      halted other = release.halts k id i (script_entry k 1 (Happens (what.Stop id) None) ∷ before) scripted up other s
+
+      by_led : (IsStop doc → ⊥) → (b : Bool) → leads (identity id.0 i) before ≡ b → P k 1 (stop_at_once doc k (identity id.0 i) b (script_entry k 1 (Happens (what.Stop id) None) ∷ before))
+      by_led other true led = release.begins k id i before scripted up (is i refl).1 other led (halted other)
+      by_led other false led = stopped
+
+      by_running : (IsStop doc → ⊥) → (b : Bool) → P k 1 (stop_releasing doc k (identity id.0 i) b (leads (identity id.0 i) before) (script_entry k 1 (Happens (what.Stop id) None) ∷ before))
+      by_running other true = halted other
+      by_running other false = by_led other (leads (identity id.0 i) before) refl
+
+      by_rule : (rule : ReleaseRule) → doc.settings.rules.release ≡ rule → P k 1 (stop_as rule doc k (identity id.0 i) before (script_entry k 1 (Happens (what.Stop id) None) ∷ before))
+      by_rule rules.Stop by = walk_released k id i before scripted up (is i refl).1 (releases_of doc (identity id.0 i) k before) refl s stopped
+      by_rule rules.Own by = by_running (λ stop. cc) (is_releasing (identity id.0 i) before)
+      by_rule rules.Checked by = by_running (λ stop. cc) (is_releasing (identity id.0 i) before)
+      by_rule rules.Reread by = by_running (λ stop. cc) (is_releasing (identity id.0 i) before)
 
   walk_effect : (k : ℕ) (w : What) (before : List Entry) → Scripted doc k w → P k 1 (script_entry k 1 (Happens (stamp doc k w) (event_version w before)) ∷ before)
       → P k 1 (effect doc k w before (script_entry k 1 (Happens (stamp doc k w) (event_version w before)) ∷ before))
@@ -394,6 +588,7 @@ module _ (doc : Doc) (P : ℕ → ℕ → List Entry → Type 0) (keeps : Keeps 
   walk_effect k (what.Watch id on) before scripted s = s
   walk_effect k (what.Ready id status) before scripted s = s
   walk_effect k (what.Pause id beats) before scripted s = walk_stall k id beats (alive id.0 before) (script_entry k 1 (Happens (what.Pause id beats) None) ∷ before) scripted refl s
+  walk_effect k (what.Stall beats) before scripted s = s
   walk_effect k (what.Put key object) before scripted s = s
   walk_effect k (what.Remove key) before scripted s = s
 
@@ -442,20 +637,42 @@ module _ (doc : Doc) (P : ℕ → ℕ → List Entry → Type 0) (keeps : Keeps 
   walk_lead k g b waiting h false version s new = more_over g k 3 _ (after_reply k b waiting h) s (new s.0)
 
   walk_react : (k : ℕ) (g : List Entry) (b : Back) (waiting : Call) (h : List Entry) → Coming k h b → counted doc b.who k b.call.number h ≡ Some waiting → is_controller doc b.who.process ≡ true
-      → (led : Bool) (f : Follow) → follow_on doc b.who k waiting.kind waiting.request b.reply (after_reply k b waiting h) ≡ f → P k 3 h → Over g k 3 (after_reply k b waiting h) → Over g k 3 (react k b.who led f (after_reply k b waiting h))
+      → (led : Bool) (f : Follow) → follow_on doc b.who k waiting.kind waiting.request b.reply (after_reply k b waiting h) ≡ f → P k 3 h → Over g k 3 (after_reply k b waiting h) → Over g k 3 (react doc k b.who led f (after_reply k b waiting h))
   walk_react k g b waiting h coming is role led Fails follows was s = s
   walk_react k g b waiting h coming is role led (Asks request) follows was s = more_over g k 3 _ (after_reply k b waiting h) s (keeps.follows k b waiting h request coming is role follows was s.0)
   walk_react k g b waiting h coming is role led (Succeeds version) follows was s = walk_lead k g b waiting h led version s (keeps.leads k b waiting h version coming is role follows was)
 
   walk_ask : (k : ℕ) (g : List Entry) (b : Back) (waiting : Call) (h : List Entry) → Coming k h b → counted doc b.who k b.call.number h ≡ Some waiting → is_controller doc b.who.process ≡ false
-      → (o : Option Request) → next_request doc b.who k waiting.request b.reply ≡ o → P k 3 h → Over g k 3 (after_reply k b waiting h) → Over g k 3 (send_next k b.who o (after_reply k b waiting h))
+      → (o : Option Request) → next_request doc b.who k waiting.request b.reply ≡ o → P k 3 h → Over g k 3 (after_reply k b waiting h) → Over g k 3 (send_next doc k b.who o (after_reply k b waiting h))
   walk_ask k g b waiting h coming is role None asked was s = s
   walk_ask k g b waiting h coming is role (Some request) asked was s = more_over g k 3 _ (after_reply k b waiting h) s (keeps.asks k b waiting h request coming is role asked was s.0)
 
+  -- what a reply in a release causes only adds
+  in_and_end : (k : ℕ) (q : Identity) (b : Bool) (e : Entry) (h : List Entry) → In e h → In e (and_end k 3 q b h)
+  in_and_end k q true e h at = inr at
+  in_and_end k q false e h at = at
+
+  in_empty : (k : ℕ) (q : Identity) (begun : ℕ) (o : Option Request) (e : Entry) (h : List Entry) → In e h → In e (empty_or_end doc k q begun o h)
+  in_empty k q begun None e h at = inr (in_and_end k q (acts_on doc q h) e h at)
+  in_empty k q begun (Some request) e h at = inr at
+
+  in_reaction : (k : ℕ) (q : Identity) (kind : CallKind) (reply : Reply) (e : Entry) (h : List Entry) → In e h → In e (react_in_release doc k q kind reply h)
+  in_reaction k q (Look begun) reply e h at = in_empty k q begun (after_look doc.settings.rules.release q (wall doc q.process k) (is_mine q h) reply) e h at
+  in_reaction k q Plain reply e h at = inr (in_and_end k q (acts_on doc q h) e h at)
+  in_reaction k q Fast reply e h at = inr (in_and_end k q (acts_on doc q h) e h at)
+  in_reaction k q Release reply e h at = inr (in_and_end k q (acts_on doc q h) e h at)
+  in_reaction k q (Emptying begun) reply e h at = inr (in_and_end k q (acts_on doc q h) e h at)
+
+  walk_elector : (k : ℕ) (g : List Entry) (b : Back) (waiting : Call) (h : List Entry) → Coming k h b → counted doc b.who k b.call.number h ≡ Some waiting → is_controller doc b.who.process ≡ true
+      → (o : Option ℕ) → release_begun doc.settings.rules.release waiting.kind ≡ o → P k 3 h → Over g k 3 (after_reply k b waiting h) → Over g k 3 (elector_react doc k b.who waiting b.reply o (after_reply k b waiting h))
+  walk_elector k g b waiting h coming is role None of was s =
+      walk_react k g b waiting h coming is role (leads b.who (after_reply k b waiting h)) (follow_on doc b.who k waiting.kind waiting.request b.reply (after_reply k b waiting h)) refl was s
+  walk_elector k g b waiting h coming is role (Some begun) of was s =
+      (release.reacts k begun b waiting h coming is role of was s.0, λ e at. in_reaction k b.who waiting.kind b.reply e (after_reply k b waiting h) (s.1 e at))
+
   walk_react_as : (k : ℕ) (g : List Entry) (b : Back) (waiting : Call) (h : List Entry) → Coming k h b → counted doc b.who k b.call.number h ≡ Some waiting
       → (role : Bool) → is_controller doc b.who.process ≡ role → P k 3 h → Over g k 3 (after_reply k b waiting h) → Over g k 3 (react_as doc k b.who waiting b.reply role (after_reply k b waiting h))
-  walk_react_as k g b waiting h coming is true role was s =
-      walk_react k g b waiting h coming is role (leads b.who (after_reply k b waiting h)) (follow_on doc b.who k waiting.kind waiting.request b.reply (after_reply k b waiting h)) refl was s
+  walk_react_as k g b waiting h coming is true role was s = walk_elector k g b waiting h coming is role (release_begun doc.settings.rules.release waiting.kind) refl was s
   walk_react_as k g b waiting h coming is false role was s = walk_ask k g b waiting h coming is role (next_request doc b.who k waiting.request b.reply) refl was s
 
   walk_deliver_as : (k : ℕ) (g : List Entry) (b : Back) (h : List Entry) → Coming k h b → (o : Option Call) → counted doc b.who k b.call.number h ≡ o → Over g k 3 h → Over g k 3 (deliver_as doc k b.who b.call b.reply o h)
@@ -492,8 +709,8 @@ module _ (doc : Doc) (P : ℕ → ℕ → List Entry → Type 0) (keeps : Keeps 
   walk_history first zero = first
   walk_history first (suc k) =
       let h = three_steps doc k (history doc k) in
-      keeps.next k (walk_turns doc (Ticking doc) (λ k h. P k 4 h) keeps.turns k (processes doc) h (λ p. ticking_begins doc k p) (walk_steps k (history doc k) (walk_history first k)))
+      keeps.next k (walk_turns doc (Ticking doc) (λ k h. P k 4 h) keeps.turns release.turns k (processes doc) h (λ p. ticking_begins doc k p) (walk_steps k (history doc k) (walk_history first k)))
 
   -- the history at a turn
   pub walk_at_turn : P 0 1 (history doc 0) → (p k : ℕ) → P k 4 (at_turn doc p k)
-  walk_at_turn first p k = walk_turns doc (Ticking doc) (λ k h. P k 4 h) keeps.turns k p (three_steps doc k (history doc k)) (λ p. ticking_begins doc k p) (walk_steps k (history doc k) (walk_history first k))
+  walk_at_turn first p k = walk_turns doc (Ticking doc) (λ k h. P k 4 h) keeps.turns release.turns k p (three_steps doc k (history doc k)) (λ p. ticking_begins doc k p) (walk_steps k (history doc k) (walk_history first k))

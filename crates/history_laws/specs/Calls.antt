@@ -1,5 +1,6 @@
 -- The numbers of requests, and how many an identity sends.
 use Rattle.std.specs.Prelude.{◌≡◌, ℕ, suc, ◌+◌, ◌≤◌, List, ◌∷◌, Some, IfSome}
+use Rattle.kube_objects.specs.declared.rules.ReleaseRule.TheVariants.{Stop}
 use Rattle.kube_objects.specs.Document.{Doc}
 use Rattle.kube_objects.specs.Entry.{Entry, Identity}
 use Rattle.kube_objects.specs.Process.{begun}
@@ -18,10 +19,10 @@ NumbersDiffer = (doc : Doc) (k : ℕ) (e f : Entry) (g h : List Entry) (x y : Se
     → IsTail (e ∷ g) (history doc k) → IsTail (f ∷ h) (history doc k)
     → sent_of e.actor e.fact ≡ Some x → sent_of f.actor f.fact ≡ Some y → x.who ≡ y.who → x.call.number ≡ y.call.number → e ∷ g ≡ f ∷ h
 
--- an identity sends at most one request in a beat
+-- where a stop sends a single update, an identity sends at most one request in a beat
 abbrev pub OneCallABeat : Type 0
-OneCallABeat = (doc : Doc) (q : Identity) (k : ℕ) → begun q (history doc (suc k)) ≤ begun q (history doc k) + 1
+OneCallABeat = (doc : Doc) → doc.settings.rules.release ≡ Stop → (q : Identity) (k : ℕ) → begun q (history doc (suc k)) ≤ begun q (history doc k) + 1
 
--- before a beat an identity has sent at most one request for each beat before
+-- and so before a beat at most one request for each beat before
 abbrev pub CallsAreFew : Type 0
-CallsAreFew = (doc : Doc) (q : Identity) (k : ℕ) → begun q (history doc k) ≤ k
+CallsAreFew = (doc : Doc) → doc.settings.rules.release ≡ Stop → (q : Identity) (k : ℕ) → begun q (history doc k) ≤ k

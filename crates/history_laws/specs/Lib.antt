@@ -4,3 +4,4 @@ pub mod Order
 pub mod Calls
 pub mod Starts
 pub mod Bare
+pub mod Own

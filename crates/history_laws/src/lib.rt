@@ -2,6 +2,7 @@
 #![tactic(auto)]
 
 ghost use Rattle.history_laws.specs.Calls.{NumbersCount, NumbersDiffer, OneCallABeat, CallsAreFew};
+ghost use Rattle.history_laws.specs.Own.{OwnRulesChangeNothing};
 ghost use Rattle.history_laws.specs.Order.{EntriesAreOrdered, EntriesAreEarlier, TurnsArePositions, HistoriesArePositions, StepsOnlyAdd};
 ghost use Rattle.history_laws.specs.Starts.{StartsAreFew};
 ghost use Rattle.history_laws.specs.Versions.{VersionsAreGiven, VersionsRise, VersionsAreContents};
@@ -33,4 +34,9 @@ pub fn entries_are_ordered()
     ensures turns { TurnsArePositions }
     ensures histories { HistoriesArePositions }
     ensures adds { StepsOnlyAdd }
+{}
+
+/// A document that goes by the project's own rules has the history that it had before there were others.
+pub fn own_rules_change_nothing()
+    ensures { OwnRulesChangeNothing }
 {}

@@ -2,9 +2,9 @@
 use Rattle.std.proofs.Common.{◌≡◌, ◌&&◌, Bool, true, false, List, [], ◌∷◌, Option, Some, None, refl, sym, ap, ◌∙◌, arith}
 use Rattle.kube_objects.specs.declared.call_slot.CallSlot.{CallSlot}
 use Rattle.kube_objects.specs.declared.deed.Actor.{Actor}
-use Rattle.kube_objects.specs.CallSlots.{CallSlotStands, waiting_as}
+use Rattle.kube_objects.specs.CallSlots.{CallSlotStands, waiting_as, release_of}
 use Rattle.kube_objects.specs.Document.{Doc}
-use Rattle.kube_objects.specs.Entry.{Entry, Identity, Call, Fact, Sends, Delivers, Expires}
+use Rattle.kube_objects.specs.Entry.{Entry, Identity, Call, Fact, ReleaseBegins, Sends, Delivers, Expires}
 use Rattle.kube_objects.specs.Identities.{is_by}
 use Rattle.kube_objects.specs.Newest.{added, when, join}
 use Rattle.kube_objects.specs.Process.{begun, call_in, last_call, call_says, is_send, open_as}
@@ -34,6 +34,7 @@ call_in-unbegun q (e ∷ h) none = by_fact e.fact e.actor none (λ n. call_in-un
     by_fact (Sends call arrives) who n rest = sent call (is_by q who) n rest
     by_fact (Delivers call reply counted) who n rest = ended (counted && is_by q who) rest n
     by_fact (Expires call) who n rest = ended (is_by q who) rest n
+    by_fact (ReleaseBegins at_deadline) who n rest = ended (is_by q who) rest n
     by_fact _ who n rest = rest n
 
 -- an entry that isn't looked at; for an entry with a fact of another kind both premises are `refl`
@@ -42,6 +43,7 @@ call_slot-beside doc q h e slot unsent unsaid s =
     record {
       begun = s.begun ∙ ap (λ b. added b (begun q h)) (sym unsent);
       waiting = s.waiting ∙ ap (λ o. waiting_as doc q (join (said o (last_call q h)))) (sym unsaid);
+      ordinary = ap (λ o. release_of doc (join (said o (last_call q h)))) unsaid ∙ s.ordinary;
     }
 
 -- an entry of another identity
@@ -60,4 +62,5 @@ call_slot-foreign doc q h e slot other = call_slot-beside doc q h e slot (ap (λ
     by_fact (Sends call arrives) b is = ap (λ b. when b (open_as call.kind call)) other
     by_fact (Delivers call reply counted) b is = ap (λ b. when {A = Option Call} (counted && b) None) other ∙ never counted
     by_fact (Expires call) b is = ap (λ b. when {A = Option Call} b None) other
+    by_fact (ReleaseBegins at_deadline) b is = ap (λ b. when {A = Option Call} b None) other
     by_fact _ b is = refl

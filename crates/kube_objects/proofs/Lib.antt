@@ -3,3 +3,5 @@ pub mod Clocks
 pub mod KeyOrder
 pub mod OwnCalls
 pub mod Pauses
+pub mod Own
+pub mod Stalls

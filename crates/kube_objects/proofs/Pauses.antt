@@ -29,7 +29,7 @@ end_value k from beats at is = by_test (nat_le from k && nat_lt k (from + beats)
     by_test true is = cc
     by_test false is = absurd (none_is at is)
 
-end_later : (k from : ℕ) (o : Option ℕ) (at : ℕ) → end_of k from o ≡ Some at → k < at
+pub end_later : (k from : ℕ) (o : Option ℕ) (at : ℕ) → end_of k from o ≡ Some at → k < at
 end_later k from None at is = absurd (none_is at is)
 end_later k from (Some beats) at is = by_tests (nat_le from k) (nat_lt k (from + beats)) refl is
   where
@@ -138,6 +138,7 @@ never_pauses p (what.Loss id requests replies) is = refl
 never_pauses p (what.Watch id on) is = refl
 never_pauses p (what.Ready id status) is = refl
 never_pauses p (what.Pause id beats) is = absurd is
+never_pauses p (what.Stall beats) is = refl
 never_pauses p (what.Put key object) is = refl
 never_pauses p (what.Remove key) is = refl
 

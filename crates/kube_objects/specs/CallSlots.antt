@@ -4,17 +4,24 @@ use Rattle.kube_objects.specs.declared.call_slot.CallSlot.{CallSlot}
 use Rattle.kube_objects.specs.declared.call_slot.Waiting.{Waiting}
 use Rattle.kube_objects.specs.Clocks.{local}
 use Rattle.kube_objects.specs.Document.{Doc}
-use Rattle.kube_objects.specs.Entry.{Entry, Identity, Call, CallKind, Plain, Fast, Release}
-use Rattle.kube_objects.specs.Process.{begun, call_in, is_late}
+use Rattle.kube_objects.specs.Entry.{Entry, Identity, Call, CallKind, Plain, Fast, Release, Look, Emptying}
+use Rattle.kube_objects.specs.Process.{begun, call_in, release_begun, is_late}
 
 -- a call by its number and the reading at which it was sent
 abbrev pub waiting_as : Doc → Identity → Option Call → Option Waiting
 waiting_as doc q None = None
 waiting_as doc q (Some call) = Some (record { number = call.number; sent = record { 0 = local doc q.process call.sent } })
 
+-- the beat at which the release of a call began that waits
+abbrev pub release_of : Doc → Option Call → Option ℕ
+release_of doc None = None
+release_of doc (Some call) = release_begun doc.settings.rules.release call.kind
+
+-- a slot's call is of no release, whose time would end it too
 pub record CallSlotStands (doc : Doc) (q : Identity) (h : List Entry) (slot : CallSlot) : Type 0 where
   pub begun : slot.begun ≡ begun q h
   pub waiting : slot.waiting ≡ waiting_as doc q (call_in q h)
+  pub ordinary : release_of doc (call_in q h) ≡ None
 
 -- ---- what a slot holds, whatever the document
 
@@ -50,11 +57,13 @@ is_overdue now timeout (Some held) = is_over held.1 now timeout
 
 -- ---- kinds of calls
 
--- whether a call of this kind waits for its reply
+-- whether a call of this kind waits for its reply, for its timeout and no longer
 abbrev pub waits : CallKind → Bool
 waits Plain = true
 waits Fast = true
 waits Release = false
+waits (Look begun) = false
+waits (Emptying begun) = false
 
 -- whether a call waits whose timeout is over
 abbrev pub is_late_call : Doc → Identity → ℕ → Option Call → Bool

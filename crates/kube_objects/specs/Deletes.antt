@@ -21,3 +21,16 @@ delete_over next given node_given (Some pod) (Some node) =
 
 abbrev pub answer_delete : Key → Version → Key → Version → List Entry → Reply
 answer_delete pod given node node_given h = delete_over (next_version h) given node_given (stored pod h) (stored node h)
+
+-- ---- a delete that names the pod's version alone. Source: the same; Kubernetes 1.20's own names no version
+
+abbrev pub delete_alone_over : Version → Version → Option Held → Reply
+delete_alone_over next given None = reply.Absent
+delete_alone_over next given (Some pod) = cond (pod.version.0 == given.0) (reply.Done next) (reply.Conflict pod.version)
+
+abbrev pub answer_delete_alone : Key → Version → List Entry → Reply
+answer_delete_alone pod given h = delete_alone_over (next_version h) given (stored pod h)
+
+-- where a delete's entry names no version of a node
+abbrev pub no_version : Version
+no_version = record { 0 = 0 }

@@ -1,5 +1,6 @@
 -- The document as the definitions read it, and the timings of each process.
-use Rattle.std.specs.Prelude.{ℕ, ℤ, pos, ◌*◌, nat_lt, Bool, false, List, ◌++◌, length, slice_get, Option, Some, None}
+use Rattle.std.specs.Prelude.{ℕ, ℤ, pos, ◌*◌, nat_lt, Bool, false, List, ◌++◌, map, length, slice_get, Option, Some, None}
+use Rattle.kube_objects.specs.Rules.{own_waits}
 use Rattle.kube_objects.specs.declared.key.Key.{Key}
 use Rattle.kube_objects.specs.declared.object.Object.{Object}
 use Rattle.kube_objects.specs.declared.script.Event.{Event}
@@ -10,6 +11,8 @@ pub record Doc : Type 0 where
   pub settings : Settings
   pub controllers : List Proc
   pub kubelets : List Proc
+  -- the waits of each controller
+  pub waits : List (List ℕ)
   pub objects : List (Key × Object)
   pub events : List Event
 
@@ -37,6 +40,18 @@ first_rate doc p = field (λ x. x.rate_ppm) 0 (process_at doc p)
 
 abbrev pub offset_millis : Doc → ℕ → ℤ
 offset_millis doc p = field (λ x. x.offset_millis) (pos 0) (process_at doc p)
+
+-- the waits of controllers of whom the document says none
+abbrev pub own_waits_each : List Proc → List (List ℕ)
+own_waits_each controllers = map (λ c. own_waits) controllers
+
+abbrev pub waits_or : List ℕ → Option (List ℕ) → List ℕ
+waits_or default None = default
+waits_or default (Some waits) = waits
+
+-- the waits of a controller after failed attempts, in thousandths of its retry period
+abbrev pub waits_of : Doc → ℕ → List ℕ
+waits_of doc p = waits_or own_waits (slice_get doc.waits p)
 
 -- ---- timings; where they meet a reading they are in units of 10^-12 s
 

@@ -17,11 +17,14 @@ pub record Identity : Type 0 where
   pub process : ℕ
   pub incarnation : ℕ
 
--- a plain call, an update that a leader sends without a Get, or the update that gives up the lead
+-- a plain call, an update that a leader sends without a Get, or the update that gives up the lead at a stop; and the calls of a release,
+-- with the beat at which it began: the Get that looks at the Lease, and the update that empties it
 pub data CallKind : Type 0 where
   Plain : CallKind
   Fast : CallKind
   Release : CallKind
+  Look : (begun : ℕ) → CallKind
+  Emptying : (begun : ℕ) → CallKind
 
 -- a request with its number in the incarnation and the beat at which it was sent
 pub record Call : Type 0 where
@@ -46,6 +49,8 @@ pub data Tick : Type 0 where
   Swap : (node wanted : ℕ) (given : Version) (written : Node) (answer : Option Answer) → Tick
   Head : (place : Place) (node wanted : ℕ) (given : Version) (written : Node) (answer : Option Answer) → Tick
   Delete : (pod : Key) (given node_given : Version) (due : ℕ) (answer : Option Answer) → Tick
+  -- a queued node has its turn, and nothing is to be written
+  Skip : (place : Place) (node : ℕ) → Tick
 
 -- what an entry does
 pub data Fact : Type 0 where
@@ -57,6 +62,13 @@ pub data Fact : Type 0 where
   Crashes : Fact
   Stops : Fact
   Ends : Fact
+  -- a leader begins to release its Lease: at its renew deadline, or else at a stop, which stands before. Its process ends with the release
+  ReleaseBegins : (at_deadline : Bool) → Fact
+  ReleaseEnds : Fact
+  -- a leader that releases its Lease acts no more: its deadline has come, or its release ends in which it acted
+  StepsDown : Fact
+  -- it is stopped: a release begins, or goes on
+  ReleaseStops : Fact
   -- a process that is up stands still for so many beats
   Stalls : (beats : ℕ) → Fact
   -- a request is sent; it arrives at that beat, or is lost

@@ -90,9 +90,9 @@ post doc q k h = PostStatus (node_of doc q.process) (posted_status doc q.process
 
 -- ---- what a kubelet adds to the history at a counted reply, and in its turn
 
-abbrev pub send_next : ℕ → Identity → Option Request → List Entry → List Entry
-send_next k q None h = h
-send_next k q (Some request) h = send k 3 q Plain request h
+abbrev pub send_next : Doc → ℕ → Identity → Option Request → List Entry → List Entry
+send_next doc k q None h = h
+send_next doc k q (Some request) h = send doc k 3 q Plain request h
 
 abbrev pub is_post_call : Option Call → Bool
 is_post_call None = false
@@ -100,8 +100,8 @@ is_post_call (Some call) = is_post call.request
 
 -- a post that expired is followed by the Get; else a round begins where it is time
 abbrev pub round_if : Doc → ℕ → Identity → Bool → Bool → List Entry → List Entry
-round_if doc k q true due h = send k 4 q Plain (Get (node_lease (node_of doc q.process))) h
-round_if doc k q false true h = send k 4 q Plain (post doc q k h) h
+round_if doc k q true due h = send doc k 4 q Plain (Get (node_lease (node_of doc q.process))) h
+round_if doc k q false true h = send doc k 4 q Plain (post doc q k h) h
 round_if doc k q false false h = h
 
 -- whether none runs and its time has come

@@ -77,6 +77,10 @@ is_refused None = false
 is_refused (Some (answer.Done version)) = false
 is_refused (Some _) = true
 
+abbrev pub is_accepted : Option Answer → Bool
+is_accepted (Some (answer.Done version)) = true
+is_accepted _ = false
+
 -- a refused untaint, swap or delete makes its key stale until the next sync; a mark or a queued taint doesn't
 abbrev pub stale_tick : Key → Tick → Option Bool
 stale_tick key Sync = Some false

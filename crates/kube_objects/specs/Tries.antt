@@ -8,7 +8,7 @@ use Rattle.kube_objects.specs.declared.call.Reply.{Reply}
 use Rattle.kube_objects.specs.declared.call.Reply.TheVariants as reply
 use Rattle.kube_objects.specs.declared.key.Key.{Key}
 use Rattle.kube_objects.specs.Answers.{answer_update}
-use Rattle.kube_objects.specs.Deletes.{answer_delete}
+use Rattle.kube_objects.specs.Deletes.{answer_delete, answer_delete_alone}
 use Rattle.kube_objects.specs.Entry.{Entry, Identity}
 use Rattle.kube_objects.specs.Newest.{only_if}
 use Rattle.kube_objects.specs.Stored.{stored, next_version, node_key}
@@ -34,3 +34,7 @@ try_node q name given h = tried q (answer_update (next_version h) given (stored 
 -- a try to delete a pod by its version and that of its node
 abbrev pub try_delete : Identity → Key → Version → ℕ → Version → List Entry → Option Answer
 try_delete q pod given node node_given h = tried q (answer_delete pod given (node_key node) node_given h) h
+
+-- and by its version alone
+abbrev pub try_delete_alone : Identity → Key → Version → List Entry → Option Answer
+try_delete_alone q pod given h = tried q (answer_delete_alone pod given h) h

@@ -57,10 +57,11 @@ is_mark_reason reason = (reason == NODE_STATUS_UNKNOWN) || (reason == NODE_STATU
 abbrev pub is_condition_key : ℕ → Bool
 is_condition_key key = (key == NOT_READY) || (key == UNREACHABLE)
 
--- the script puts and removes, and all else is done by processes
+-- the script puts, removes and stops the store, and all else is done by processes
 abbrev pub is_by_script : Act → Bool
 is_by_script (act.Put key version) = true
 is_by_script (act.Removed key version) = true
+is_by_script (act.Stall beats) = true
 is_by_script _ = false
 
 abbrev pub is_script : Actor → Bool

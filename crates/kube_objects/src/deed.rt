@@ -20,6 +20,8 @@ pub enum Act {
     End,
     /// A process stands still for so many beats.
     Pause(u32),
+    /// The store stands still for so many beats.
+    Stall(u32),
     Lead(Version),
     Create(Key, Answer, u32),
     Update(Key, Answer, u32),

@@ -1,6 +1,7 @@
 // Keys of objects, in their order.
 ghost use Rattle.std.specs.Prelude.{◌≡◌};
 ghost use Rattle.kube_objects.specs.Keys.{key_cmp};
+ghost use Rattle.kube_objects.specs.Stored.{node_key};
 
 use kube_base::{KUBE_CONTROLLER_MANAGER, KUBE_SYSTEM, ListOf};
 use std::cmp::Ordering;
@@ -28,6 +29,17 @@ impl Key {
         space: KUBE_SYSTEM,
         name: KUBE_CONTROLLER_MANAGER,
     };
+
+    /// The key of the node of that name.
+    pub fn node(name: u32) -> Key
+        ensures { result ≡ node_key name }
+    {
+        Key {
+            kind: Kind::Node,
+            space: 0,
+            name,
+        }
+    }
 }
 
 /// Keys in order.

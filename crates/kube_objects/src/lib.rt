@@ -10,6 +10,7 @@ mod lease;
 mod node;
 mod object;
 mod pod;
+mod rules;
 mod script;
 mod settings;
 #[cfg(test)]
@@ -24,5 +25,9 @@ pub use lease::{Holder, Lease};
 pub use node::{Effect, Node, Ready, ReadyStatus, Taint, Taints, ZoneState};
 pub use object::{Items, Object};
 pub use pod::{Due, DueList, Operator, Pod, Toleration, Tolerations};
-pub use script::{Event, Events, Proc, Procs, What};
-pub use settings::{RatePolicy, Settings, Settings2};
+pub use rules::{
+    BucketRule, EvictRule, JudgeRule, ProbeRule, QueueRule, ReleaseActing, ReleaseRule,
+    RespectRule, RetryRule, Rules, SightRule,
+};
+pub use script::{Event, Events, Proc, Procs, WaitLists, What};
+pub use settings::{RatePolicy, Settings, TickSettings};

@@ -1,4 +1,5 @@
 // The settings of a document.
+use crate::Rules;
 use kube_base::{Beat, Wall};
 
 /// How fast nodes are tainted in zones that are disrupted.
@@ -10,7 +11,7 @@ pub enum RatePolicy {
 }
 
 /// All settings. Rates are in nodes per 1,000 s.
-#[derive(Clone, Copy, Debug, PartialEq, Eq)]
+#[derive(Clone, Copy)]
 pub struct Settings {
     pub beat_millis: u32,
     pub end_beat: Beat,
@@ -32,11 +33,12 @@ pub struct Settings {
     /// Whether a leader renews without a Get where it can.
     pub fast_renew: bool,
     pub rate_policy: RatePolicy,
+    pub rules: Rules,
 }
 
 /// The settings of a controller's tick. Rates are in nodes per 1,000 s.
-#[derive(Clone, Copy, Debug, PartialEq, Eq)]
-pub struct Settings2 {
+#[derive(Clone, Copy)]
+pub struct TickSettings {
     pub monitor_period_millis: u32,
     pub grace_period_millis: u32,
     pub startup_grace_millis: u32,

@@ -3,7 +3,7 @@ use Rattle.std.proofs.Common.{◌≡◌, ◌∙◌, ℕ, ◌+◌, ◌&&◌, not,
 use Rattle.kube_objects.specs.declared.deed.Actor.{Actor}
 use Rattle.kube_objects.specs.Clocks.{local}
 use Rattle.kube_objects.specs.Document.{Doc}
-use Rattle.kube_objects.specs.Entry.{Call, Fact, Delivers, Entry, Expires, Identity, Sends, Starts}
+use Rattle.kube_objects.specs.Entry.{Call, Fact, Delivers, Entry, Expires, Identity, ReleaseBegins, Sends, Starts}
 use Rattle.kube_objects.specs.Identities.{is_by}
 use Rattle.kube_objects.specs.Kubelet.{ends_round, is_post, is_post_call, round_period, round_says, round_timer_says}
 use Rattle.kube_objects.specs.Newest.{added, has, join, or_else, or_zero, when}
@@ -61,6 +61,7 @@ module _ (doc : Doc) (q : Identity) (h : List Entry) (e : Entry) (other : is_by 
   call-foreign (Sends call arrives) = ap (λ b. when b (open_as call.kind call)) other
   call-foreign (Delivers call reply counted) = never {A = Option Call} counted None
   call-foreign (Expires call) = ap (λ b. when {A = Option Call} b None) other
+  call-foreign (ReleaseBegins at_deadline) = ap (λ b. when {A = Option Call} b None) other
   call-foreign _ = refl
 
   round-foreign : (d : Fact) → round_says q e.actor d ≡ None
@@ -102,6 +103,7 @@ module _ (doc : Doc) (q : Identity) (h : List Entry) (beat step : ℕ) (who : Ac
   quiet-kind (Sends call arrives) is = absurd (cc)
   quiet-kind (Delivers call reply counted) is = absurd (cc)
   quiet-kind (Expires call) is = absurd (cc)
+  quiet-kind (ReleaseBegins at_deadline) is = absurd (cc)
   quiet-kind _ is = record { unsent = refl; call = refl; round = refl; timer = refl; settled = λ s n. still_settled (is_by q who) (last_expired q n h) (s n) }
 
 pub kubelet-quiet : (doc : Doc) (q : Identity) (e : Entry) (h : List Entry) (x : Kubelet) → is_of_kubelet e.fact ≡ false → KubeletStands doc q h x → KubeletStands doc q (e ∷ h) x

@@ -7,17 +7,19 @@ use Rattle.kube_objects.specs.declared.call.Reply.TheVariants as reply
 use Rattle.kube_objects.specs.declared.call.Request.{Request}
 use Rattle.kube_objects.specs.declared.call.Request.TheVariants.{Get, Create, Update, PostStatus}
 use Rattle.kube_objects.specs.declared.call_slot.CallSlot.{CallSlot}
-use Rattle.kube_objects.specs.CallSlots.{CallSlotStands, is_late_call}
+use Rattle.kube_objects.specs.CallSlots.{CallSlotStands, is_late_call, release_of}
 use Rattle.kube_objects.specs.Clocks.{local}
 use Rattle.kube_objects.specs.Document.{Doc}
+use Rattle.kube_objects.specs.Elector.{acts_on}
 use Rattle.kube_objects.specs.Entry.{Call, Entry, Expires, Identity, Plain, Sends, entry}
 use Rattle.kube_objects.specs.InForce.{posted_status}
 use Rattle.kube_objects.specs.Kubelet.{ends_round, has_round, is_post, next_request, round_period, round_timer}
 use Rattle.kube_objects.specs.Newest.{has, only_if}
-use Rattle.kube_objects.specs.Process.{answered_call, call_in, counted, is_late}
-use Rattle.kube_objects.specs.Turns.{expire_call, expired, with_reply}
+use Rattle.kube_objects.specs.Process.{answered_call, call_in, counted, is_late, release_begun}
+use Rattle.kube_objects.specs.Releases.{and_end}
+use Rattle.kube_objects.specs.Turns.{expire_as, expire_call, expired, with_reply}
 use Rattle.kube_objects.specs.Wire.{next_call}
-use Rattle.kube_objects.proofs.OwnCalls.{call_in-expired, call_in-sent, call_in-with_reply, none_late}
+use Rattle.kube_objects.proofs.OwnCalls.{call_in-expired, call_in-sent, call_in-with_reply, late_expires, none_late}
 use Rattle.kubelet_node.specs.declared.kubelet.Kubelet.{Kubelet}
 use Rattle.kubelet_node.specs.declared.waiting.Awaited.{Awaited}
 use Rattle.kubelet_node.specs.declared.waiting.Waiting.{Waiting}
@@ -51,8 +53,16 @@ post-awaited (Update key given lease) = refl
 -- ---- the expiry of a turn
 
 module _ (doc : Doc) (k : ℕ) (q : Identity) (h : List Entry) where
-  status_as : (call : Call) (b : Bool) → posted_status doc q.process (if b then entry k 4 q (Expires call) ∷ h else h) ≡ posted_status doc q.process h
-  status_as call true = refl
+  status_end : (b : Bool) → posted_status doc q.process (and_end k 4 q b h) ≡ posted_status doc q.process h
+  status_end true = refl
+  status_end false = refl
+
+  status_expired : (call : Call) (o : Option ℕ) → posted_status doc q.process (expire_as doc k q call o h) ≡ posted_status doc q.process h
+  status_expired call None = refl
+  status_expired call (Some begun) = status_end (acts_on doc q h)
+
+  status_as : (call : Call) (b : Bool) → posted_status doc q.process (if b then expire_as doc k q call (release_begun doc.settings.rules.release call.kind) h else h) ≡ posted_status doc q.process h
+  status_as call true = status_expired call (release_begun doc.settings.rules.release call.kind)
   status_as call false = refl
 
   pub status-expiry : (c : Option Call) → posted_status doc q.process (expire_call doc k q c h) ≡ posted_status doc q.process h
@@ -93,14 +103,14 @@ module _ (doc : Doc) (k : ℕ) (q : Identity) (h : List Entry) where
       → Expired doc k q (expire_call doc k q c h) (record x { slot = slot; waiting = None }) posted
   expired-late None x slot posted s is late free posted_is = absurd (cc)
   expired-late (Some call) x slot posted s is late free posted_is =
-      subst (λ T. Expired doc k q T (record x { slot = slot; waiting = None }) posted) (sym (ap (λ b. (if b then entry k 4 q (Expires call) ∷ h else h)) late)) (expiry_of call x slot posted s is (free call) posted_is)
+      subst (λ T. Expired doc k q T (record x { slot = slot; waiting = None }) posted) (sym (late_expires doc k q h call (ap (release_of doc) (sym is) ∙ s.call.slot.ordinary) late)) (expiry_of call x slot posted s is (free call) posted_is)
 
 -- ---- a call begins
 
 -- a request of a round, whose timer moves where it is a post
-pub asked-stands : (doc : Doc) (k step : ℕ) (q : Identity) (h next : List Entry) (x : Kubelet) (ask : Ask) → Asked k step q h next (λ T. CallStands doc q T x) ask
+pub asked-stands : (doc : Doc) (k step : ℕ) (q : Identity) (h next : List Entry) (x : Kubelet) (ask : Ask) → Asked doc k step q h next (λ T. CallStands doc q T x) ask
     → x.timer.0 ≡ cond (is_post ask.request) (local doc q.process k + round_period doc) (round_timer doc q h) → (is_post ask.request || has_round q h) ≡ true
-    → Asked k step q h next (λ T. KubeletStands doc q T x) ask
+    → Asked doc k step q h next (λ T. KubeletStands doc q T x) ask
 asked-stands doc k step q h next x ask a timer runs =
     record {
       sent = a.sent;

@@ -4,7 +4,7 @@ use Rattle.kube_objects.specs.declared.call.Ask.{Ask}
 use Rattle.kube_objects.specs.declared.call.Reply.{Reply}
 use Rattle.kube_objects.specs.Clocks.{local}
 use Rattle.kube_objects.specs.Document.{Doc, call_timeout}
-use Rattle.kube_objects.specs.Entry.{Entry, Identity, Call, Plain, Fact, Starts, Sends, Delivers, Expires, entry}
+use Rattle.kube_objects.specs.Entry.{Entry, Identity, Call, Plain, Fact, ReleaseBegins, Starts, Sends, Delivers, Expires, entry}
 use Rattle.kube_objects.specs.Kubelet.{has_round, is_post_call, next_request, round, round_timer, send_next}
 use Rattle.kube_objects.specs.Newest.{has}
 use Rattle.kube_objects.specs.Process.{begun, call_in}
@@ -14,15 +14,15 @@ use Rattle.kubelet_node.specs.declared.kubelet.Kubelet.{Kubelet}
 use Rattle.kubelet_node.specs.Stands.{CallStands, IsSettled}
 
 -- next is h with the request sent, whose arrival the kubelet doesn't look at
-pub record Asked (k step : ℕ) (q : Identity) (h next : List Entry) (Stands : List Entry → Type 0) (ask : Ask) : Type 0 where
-  pub sent : next ≡ send k step q Plain ask.request h
+pub record Asked (doc : Doc) (k step : ℕ) (q : Identity) (h next : List Entry) (Stands : List Entry → Type 0) (ask : Ask) : Type 0 where
+  pub sent : next ≡ send doc k step q Plain ask.request h
   pub number : ask.number ≡ begun q h + 1
   pub stands : (arrives : Option ℕ) → Stands (entry k step q (Sends (next_call q k Plain ask.request h) arrives) ∷ h)
 
 -- a request is sent, or next is h
-abbrev pub Moved : (k step : ℕ) → Identity → (h next : List Entry) → (List Entry → Type 0) → Option Ask → Type 0
-Moved k step q h next Stands None = (next ≡ h) × Stands h
-Moved k step q h next Stands (Some ask) = Asked k step q h next Stands ask
+abbrev pub Moved : Doc → (k step : ℕ) → Identity → (h next : List Entry) → (List Entry → Type 0) → Option Ask → Type 0
+Moved doc k step q h next Stands None = (next ≡ h) × Stands h
+Moved doc k step q h next Stands (Some ask) = Asked doc k step q h next Stands ask
 
 -- ---- a turn
 
@@ -42,7 +42,7 @@ pub record Expired (doc : Doc) (k : ℕ) (q : Identity) (h : List Entry) (x : Ku
 
 -- the history with a counted reply and what the kubelet sends at once; h is that before the reply
 abbrev pub followed : Doc → ℕ → Identity → Call → Reply → List Entry → List Entry
-followed doc k q call reply h = send_next k q (next_request doc q k call.request reply) (with_reply k q call reply h)
+followed doc k q call reply h = send_next doc k q (next_request doc q k call.request reply) (with_reply k q call reply h)
 
 -- ---- when a turn does anything
 
@@ -62,4 +62,5 @@ is_of_kubelet Starts = true
 is_of_kubelet (Sends call arrives) = true
 is_of_kubelet (Delivers call reply counted) = true
 is_of_kubelet (Expires call) = true
+is_of_kubelet (ReleaseBegins at_deadline) = true
 is_of_kubelet _ = false

@@ -80,7 +80,7 @@ impl Kubelet {
         ensures turns { (doc : Doc) (q : Identity) (h : List Entry) (k : ℕ)
             → KubeletStands doc q h self.old → now.0 ≡ local doc q.process k → wall.0 ≡ wall_at doc q.process k
             → status ≡ posted_status doc q.process h → begun q h + 1 < 2 ^ 64
-            → Moved k 4 q (expired doc k q h) (turned doc k q h) (λ x. KubeletStands doc q x self.new) result }
+            → Moved doc k 4 q (expired doc k q h) (turned doc k q h) (λ x. KubeletStands doc q x self.new) result }
     {
         let lost = self.expire(now);
         self.round(lost, now, wall, status)
@@ -102,7 +102,7 @@ impl Kubelet {
         ensures counts { (doc : Doc) (q : Identity) (h : List Entry) (k : ℕ) (call : Call)
             → KubeletStands doc q h self.old → now.0 ≡ local doc q.process k → wall.0 ≡ wall_at doc q.process k
             → begun q h + 1 < 2 ^ 64 → counted doc q k number h ≡ Some call
-            → Moved k 3 q (with_reply k q call reply h) (followed doc k q call reply h)
+            → Moved doc k 3 q (with_reply k q call reply h) (followed doc k q call reply h)
             (λ x. KubeletStands doc q x self.new) result }
     {
         if !self.slot.accepts(number, now, self.timing.timeout) {
@@ -171,7 +171,7 @@ impl Kubelet {
         ensures history { (doc : Doc) (q : Identity) (h : List Entry) (k : ℕ)
             → Expired doc k q h self.old lost → now.0 ≡ local doc q.process k → wall.0 ≡ wall_at doc q.process k
             → status ≡ posted_status doc q.process h → begun q h + 1 < 2 ^ 64
-            → Moved k 4 q h (round doc k q h) (λ x. KubeletStands doc q x self.new) result }
+            → Moved doc k 4 q h (round doc k q h) (λ x. KubeletStands doc q x self.new) result }
     {
         if lost {
             return Some(self.ask(Request::Get(self.lease_key()), now));
@@ -192,8 +192,8 @@ impl Kubelet {
         ensures asks { BeginsCall self.old now.0 request self.new result }
         ensures history { (doc : Doc) (q : Identity) (h next : List Entry) (k step : ℕ)
             → CallStands doc q h self.old → now.0 ≡ local doc q.process k
-            → begun q h + 1 < 2 ^ 64 → next ≡ send k step q Plain request h
-            → Asked k step q h next (λ x. CallStands doc q x self.new) result }
+            → begun q h + 1 < 2 ^ 64 → next ≡ send doc k step q Plain request h
+            → Asked doc k step q h next (λ x. CallStands doc q x self.new) result }
     {
         let number = self.slot.begin(now);
         self.waiting = Some(Waiting {

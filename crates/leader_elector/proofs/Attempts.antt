@@ -26,10 +26,10 @@ pub before : (now at : ℕ) → now < at → nat_lt now at ≡ true
 before now at lt = grind (arith, nat_tests)
 
 module _ (doc : Doc) (k : ℕ) (q : Identity) (h : List Entry) where
-  pub try-fast : is_fast_call (just_expired q k h) ≡ true → try doc k q h ≡ send k 4 q Plain (Get election) h
+  pub try-fast : is_fast_call (just_expired q k h) ≡ true → try doc k q h ≡ send doc k 4 q Plain (Get election) h
   try-fast fast = ap (λ b. attempt_if doc k q b (not (has (call_in q h)) && not (nat_lt (local doc q.process k) (timer doc q h))) h) fast
 
-  pub try-due : is_fast_call (just_expired q k h) ≡ false → (not (has (call_in q h)) && not (nat_lt (local doc q.process k) (timer doc q h))) ≡ true → try doc k q h ≡ send k 4 q (attempt doc q k h).0 (attempt doc q k h).1 h
+  pub try-due : is_fast_call (just_expired q k h) ≡ false → (not (has (call_in q h)) && not (nat_lt (local doc q.process k) (timer doc q h))) ≡ true → try doc k q h ≡ send doc k 4 q (attempt doc q k h).0 (attempt doc q k h).1 h
   try-due slow is = λ i. attempt_if doc k q (slow i) (is i) h
 
   pub try-none : is_fast_call (just_expired q k h) ≡ false → (not (has (call_in q h)) && not (nat_lt (local doc q.process k) (timer doc q h))) ≡ false → try doc k q h ≡ h

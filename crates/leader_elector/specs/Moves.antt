@@ -7,7 +7,7 @@ use Rattle.kube_objects.specs.declared.call.Request.{Request}
 use Rattle.kube_objects.specs.Clocks.{local}
 use Rattle.kube_objects.specs.Document.{Doc, call_timeout}
 use Rattle.kube_objects.specs.Elector.{Shown, leads, deadline, follow_on, is_before}
-use Rattle.kube_objects.specs.Entry.{Entry, Identity, Call, CallKind, Fact, Starts, Sends, Delivers, Expires, Leads, Ends, entry}
+use Rattle.kube_objects.specs.Entry.{Entry, Identity, Call, CallKind, Fact, ReleaseBegins, Starts, Sends, Delivers, Expires, Leads, Ends, entry}
 use Rattle.kube_objects.specs.Process.{begun}
 use Rattle.kube_objects.specs.Turns.{react, end_term, expired, try, with_reply}
 use Rattle.kube_objects.specs.Wire.{next_call, send}
@@ -23,9 +23,9 @@ use Rattle.leader_elector.specs.declared.leading.LeadingNext.TheVariants as lead
 use Rattle.leader_elector.specs.Stands.{CandidateStands, ElectorStands, IsChosen, LeadingStands, ended_identity, follow_of}
 
 -- next is h with the request sent, whose arrival the state doesn't look at
-pub record Asked (k step : ℕ) (q : Identity) (h next : List Entry) (Stands : List Entry → Type 0) (ask : Ask) : Type 0 where
+pub record Asked (doc : Doc) (k step : ℕ) (q : Identity) (h next : List Entry) (Stands : List Entry → Type 0) (ask : Ask) : Type 0 where
   pub kind : CallKind
-  pub sent : next ≡ send k step q kind ask.request h
+  pub sent : next ≡ send doc k step q kind ask.request h
   pub number : ask.number ≡ begun q h + 1
   pub stands : (arrives : Option ℕ) → Stands (entry k step q (Sends (next_call q k kind ask.request h) arrives) ∷ h)
 
@@ -36,7 +36,7 @@ tested doc k q h = end_term doc k q (deadline doc q h) h
 -- a candidate's turn; h is the history after the expiry
 abbrev pub CandidateTurns : Doc → ℕ → Identity → List Entry → CandidateNext → Type 0
 CandidateTurns doc k q h (candidate.Stay c) = (try doc k q h ≡ h) × CandidateStands doc q h c
-CandidateTurns doc k q h (candidate.Ask c ask) = Asked k 4 q h (try doc k q h) (λ x. CandidateStands doc q x c) ask
+CandidateTurns doc k q h (candidate.Ask c ask) = Asked doc k 4 q h (try doc k q h) (λ x. CandidateStands doc q x c) ask
 CandidateTurns doc k q h (candidate.Lead l) = ⊥
 
 -- what a candidate does, by what it asks in its turn
@@ -47,7 +47,7 @@ after_turn c (Some ask) = candidate.Ask c ask
 -- a leader's turn; h is the history after the expiry
 abbrev pub LeadingTurns : Doc → ℕ → Identity → List Entry → LeadingNext → Type 0
 LeadingTurns doc k q h (leading.Stay l) = (tested doc k q h ≡ h) × (try doc k q h ≡ h) × LeadingStands doc q h l
-LeadingTurns doc k q h (leading.Ask l ask) = (tested doc k q h ≡ h) × Asked k 4 q h (try doc k q h) (λ x. LeadingStands doc q x l) ask
+LeadingTurns doc k q h (leading.Ask l ask) = (tested doc k q h ≡ h) × Asked doc k 4 q h (try doc k q h) (λ x. LeadingStands doc q x l) ask
 LeadingTurns doc k q h (leading.End x) = (tested doc k q h ≡ entry k 4 q Ends ∷ h) × (ended_identity x ≡ q)
 
 -- whether a candidate leads
@@ -65,24 +65,24 @@ ends (leading.End x) = true
 -- the history with a counted reply and what the elector does at once; h is that before the reply
 abbrev pub reacted : Doc → ℕ → Identity → Call → Reply → List Entry → List Entry
 reacted doc k q call reply h =
-    react k q (leads q h) (follow_on doc q k call.kind call.request reply (with_reply k q call reply h)) (with_reply k q call reply h)
+    react doc k q (leads q h) (follow_on doc q k call.kind call.request reply (with_reply k q call reply h)) (with_reply k q call reply h)
 
 -- next is the history with what follows the reply; h is the history with the reply
 abbrev pub CandidateReplies : Doc → ℕ → Identity → List Entry → List Entry → CandidateNext → Type 0
 CandidateReplies doc k q h next (candidate.Stay c) = (next ≡ h) × CandidateStands doc q h c
-CandidateReplies doc k q h next (candidate.Ask c ask) = Asked k 3 q h next (λ x. CandidateStands doc q x c) ask
+CandidateReplies doc k q h next (candidate.Ask c ask) = Asked doc k 3 q h next (λ x. CandidateStands doc q x c) ask
 CandidateReplies doc k q h next (candidate.Lead l) =
     (version : Version) × (next ≡ entry k 3 q (Leads version) ∷ h) × LeadingStands doc q next l
 
 -- the same, where the candidate may become a leader
 abbrev pub CandidateHears : Doc → ℕ → Identity → List Entry → List Entry → Candidate → Heard → Type 0
 CandidateHears doc k q h next c heard.Stays = (next ≡ h) × CandidateStands doc q h c
-CandidateHears doc k q h next c (heard.Asks ask) = Asked k 3 q h next (λ x. CandidateStands doc q x c) ask
+CandidateHears doc k q h next c (heard.Asks ask) = Asked doc k 3 q h next (λ x. CandidateStands doc q x c) ask
 CandidateHears doc k q h next c (heard.Wins won) = (version : Version) × (next ≡ entry k 3 q (Leads version) ∷ h) × IsChosen doc q k h won
 
 abbrev pub LeadingReplies : Doc → ℕ → Identity → List Entry → List Entry → LeadingNext → Type 0
 LeadingReplies doc k q h next (leading.Stay l) = (next ≡ h) × LeadingStands doc q h l
-LeadingReplies doc k q h next (leading.Ask l ask) = Asked k 3 q h next (λ x. LeadingStands doc q x l) ask
+LeadingReplies doc k q h next (leading.Ask l ask) = Asked doc k 3 q h next (λ x. LeadingStands doc q x l) ask
 LeadingReplies doc k q h next (leading.End x) = ⊥
 
 -- a reply that doesn't count changes nothing
@@ -140,7 +140,7 @@ last_of (Some x) old = Some x
 -- an attempt starts, or nothing happens; next is the history with it
 abbrev pub Tried : Doc → ℕ → Identity → List Entry → List Entry → Elector → Bool → Option Ask → Type 0
 Tried doc k q h next e expired None = (expired ≡ false) × (next ≡ h) × ElectorStands doc q h e
-Tried doc k q h next e expired (Some ask) = Asked k 4 q h next (λ x. ElectorStands doc q x e) ask
+Tried doc k q h next e expired (Some ask) = Asked doc k 4 q h next (λ x. ElectorStands doc q x e) ask
 
 -- what a counted reply is followed by
 abbrev pub Received : Doc → ℕ → Identity → Call → Reply → List Entry → Elector → Option code.Follow → Type 0
@@ -157,4 +157,5 @@ is_of_elector (Sends call arrives) = true
 is_of_elector (Delivers call reply counted) = true
 is_of_elector (Expires call) = true
 is_of_elector (Leads version) = true
+is_of_elector (ReleaseBegins at_deadline) = true
 is_of_elector _ = false

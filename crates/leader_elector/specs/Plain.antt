@@ -5,8 +5,9 @@ use Rattle.kube_objects.specs.declared.call.Ask.{Ask}
 use Rattle.kube_objects.specs.declared.call.Reply.{Reply}
 use Rattle.kube_objects.specs.declared.call.Request.{Request}
 use Rattle.kube_objects.specs.declared.call.Request.TheVariants.{Get}
+use Rattle.kube_objects.specs.declared.rules.RespectRule.TheVariants.{Record}
 use Rattle.kube_objects.specs.CallSlots.{calls_of, held_call, is_overdue, next_number}
-use Rattle.kube_objects.specs.Elector.{Shown, Follow, Fails, Asks, Succeeds, Moment, attempt_from, follow, newly, timer_follow, told}
+use Rattle.kube_objects.specs.Elector.{Shown, Follow, Fails, Asks, Succeeds, Moment, attempt_from, follow, newly, told}
 use Rattle.kube_objects.specs.Entry.{Identity, CallKind, Plain}
 use Rattle.kube_objects.specs.Identities.{identity}
 use Rattle.kube_objects.specs.Kinds.{keeps_kind}
@@ -42,7 +43,7 @@ abbrev pub identity_of : Elector → Identity
 identity_of e = identity e.me.0 e.incarnation
 
 abbrev pub moment_of : Elector → (now wall : ℕ) → Moment
-moment_of e now wall = record { seconds = e.timing.lease_seconds; now = now; wall = wall }
+moment_of e now wall = record { seconds = e.timing.lease_seconds; now = now; wall = wall; respect = Record }
 
 -- who it is and its timings stay
 pub record IsSame (old new : Elector) : Type 0 where
@@ -112,13 +113,19 @@ observed_after now w reply k = or_else k.observed (newly (told w.request reply) 
 abbrev pub follow_in : Elector → Moment → Wait → Reply → ElectorState → Follow
 follow_in e m w reply k = follow (identity_of e) m (observed_after m.now w reply k) w.kind w.request reply
 
+-- the reading at which the next attempt starts: next, a retry period from now, after a failure, and after a leader's success
+abbrev pub next_attempt : Follow → (led : Bool) → (next : ℕ) → Option ℕ
+next_attempt Fails led next = Some next
+next_attempt (Asks request) led next = None
+next_attempt (Succeeds version) led next = when led next
+
 abbrev pub after_reply : Elector → Moment → (led : Bool) → Wait → Reply → ElectorState → ElectorState
 after_reply e m led w reply k = record k {
   held = None;
   wait = None;
   shown = last_of (told w.request reply) k.shown;
   observed = observed_after m.now w reply k;
-  timer = or_else k.timer (timer_follow (follow_in e m w reply k) led (m.now + e.timing.retry));
+  timer = or_else k.timer (next_attempt (follow_in e m w reply k) led (m.now + e.timing.retry));
 }
 
 -- the request that follows at once

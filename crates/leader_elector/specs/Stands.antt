@@ -7,6 +7,7 @@ use Rattle.kube_objects.specs.Document.{Doc, lease_seconds, renew_deadline, retr
 use Rattle.kube_objects.specs.Elector.{Shown, Follow, Fails, Asks, Succeeds, is_fast, shown, observed_at, timer, leads, deadline}
 use Rattle.kube_objects.specs.Entry.{Entry, Identity, Call, CallKind, Plain, Fast}
 use Rattle.kube_objects.specs.Identities.{identity}
+use Rattle.kube_objects.specs.Own.{IsOwn}
 use Rattle.kube_objects.specs.Process.{begun, call_in}
 use Rattle.kube_objects.specs.Turns.{is_fast_call, just_expired}
 use Rattle.leader_elector.specs.declared.acting.Acting.{Acting}
@@ -22,13 +23,14 @@ use Rattle.leader_elector.specs.declared.waiting.Waiting.{Waiting}
 use Rattle.leader_elector.specs.declared.won.Won.{Won}
 use Rattle.kube_objects.specs.CallSlots.{CallSlotStands}
 
--- the timings are those of a process of the document
+-- the timings are those of a process of the document, which goes by the project's own rules
 pub record IsTimingOf (doc : Doc) (p : ℕ) (t : Timing) : Type 0 where
   pub lease : t.lease_seconds ≡ lease_seconds doc p
   pub renew : t.renew ≡ renew_deadline doc p
   pub retry : t.retry ≡ retry_period doc p
   pub timeout : t.timeout ≡ call_timeout doc p
   pub fast : t.fast ≡ doc.settings.fast_renew
+  pub own : IsOwn doc
 
 -- the request that waits, its kind, and the least reading at which it has expired
 pub record Wait : Type 0 where

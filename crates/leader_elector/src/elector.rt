@@ -5,7 +5,7 @@ ghost use Rattle.kube_objects.specs.Clocks.{local, wall as wall_at};
 ghost use Rattle.kube_objects.specs.Document.{Doc};
 ghost use Rattle.kube_objects.specs.CallSlots.{held_call, is_awaited};
 ghost use Rattle.kube_objects.specs.Elector.{attempt, attempt_from, created, follow, follow_get, follow_on, given_up, is_blocked, is_valid, leads};
-ghost use Rattle.kube_objects.specs.Elector.{moment, newly, observed_at, one_more, renewed, shown, taken, timer, timer_follow, updated};
+ghost use Rattle.kube_objects.specs.Elector.{moment, newly, observed_at, one_more, renewed, shown, taken, timer, updated};
 ghost use Rattle.kube_objects.specs.Entry.{Call, Entry, Identity, Starts, entry};
 ghost use Rattle.kube_objects.specs.Identities.{holder_of, is_other, is_own};
 ghost use Rattle.kube_objects.specs.Kinds.{keeps_kind};
@@ -18,7 +18,7 @@ ghost use Rattle.leader_elector.specs.Stands.{ElectorStands, IsNew, IsSettled, I
 ghost use Rattle.leader_elector.specs.Stands.{shown_of, waiting_of};
 ghost use Rattle.leader_elector.specs.Plain.{IsSame, after_expiry, after_reply, asked_of, attempt_in, follow_in, follow_keeps_kind};
 ghost use Rattle.leader_elector.specs.Plain.{has_lost_update, identity_of, state_of, moment_of, numbered, turn_in, wake_in, with_call};
-ghost use Rattle.leader_elector.specs.Plain.{BeginsCall, Receives, begun_in};
+ghost use Rattle.leader_elector.specs.Plain.{BeginsCall, Receives, begun_in, next_attempt};
 ghost use Rattle.leader_elector.specs.Stands.{Wait};
 
 use crate::Timing;
@@ -131,7 +131,7 @@ impl Elector {
             → ElectorStands doc q h self.old → leads q h ≡ led
             → now.0 ≡ local doc q.process k → wall.0 ≡ wall_at doc q.process k
             → begun q h + 1 < 2 ^ 64
-            → Asked k 4 q h (send k 4 q (attempt doc q k h).0 (attempt doc q k h).1 h) (λ x. ElectorStands doc q x self.new) result }
+            → Asked doc k 4 q h (send doc k 4 q (attempt doc q k h).0 (attempt doc q k h).1 h) (λ x. ElectorStands doc q x self.new) result }
     {
         if self.timing.fast && led {
             return self.renew(now, wall);
@@ -149,7 +149,7 @@ impl Elector {
             → ElectorStands doc q h self.old
             → now.0 ≡ local doc q.process k → wall.0 ≡ wall_at doc q.process k
             → begun q h + 1 < 2 ^ 64
-            → Asked k 4 q h (send k 4 q (attempt_from q (moment doc q k) (observed_at doc q h) (shown q h)).0
+            → Asked doc k 4 q h (send doc k 4 q (attempt_from q (moment doc q k) (observed_at doc q h) (shown q h)).0
             (attempt_from q (moment doc q k) (observed_at doc q h) (shown q h)).1 h) (λ x. ElectorStands doc q x self.new) result }
     {
         let Some(seen) = self.seen else {
@@ -174,8 +174,8 @@ impl Elector {
         ensures asks { BeginsCall self.old now.0 (kind_of fast, request) self.new result }
         ensures history { (doc : Doc) (q : Identity) (h next : List Entry) (k step : ℕ)
             → ElectorStands doc q h self.old → now.0 ≡ local doc q.process k
-            → begun q h + 1 < 2 ^ 64 → next ≡ send k step q (kind_of fast) request h
-            → Asked k step q h next (λ x. ElectorStands doc q x self.new) result }
+            → begun q h + 1 < 2 ^ 64 → next ≡ send doc k step q (kind_of fast) request h
+            → Asked doc k step q h next (λ x. ElectorStands doc q x self.new) result }
     {
         let number = self.slot.begin(now);
         self.waiting = Some(Waiting {
@@ -262,7 +262,7 @@ impl Elector {
         requires now { now.0 ≤ most_local }
         ensures changed { self.new ≡ record self.old { timer = self.new.timer } }
         ensures timer { self.new.timer.0 ≡ or_else self.old.timer.0
-            (timer_follow (follow_of follow.now) led (now.0 + self.old.timing.retry)) }
+            (next_attempt (follow_of follow.now) led (now.0 + self.old.timing.retry)) }
     {
         let moves = match *follow {
             Follow::Fails => true,

@@ -1,5 +1,6 @@
 -- An entry that is no election write, no request, no answer, no counted reply, and no start, crash, stop or end.
 use Rattle.std.proofs.Common.{◌≡◌, ℕ, ◌&&◌, Bool, true, false, List, ◌∷◌, Option, Some, None, IfSome, refl, sym, ap, ◌∙◌, subst, inl, arith, ◌≤◌}
+use Rattle.kube_base.specs.declared.numbers.Version.{Version}
 use Rattle.kube_objects.specs.declared.call.Answer.{Answer}
 use Rattle.kube_objects.specs.declared.call.Answer.TheVariants as answer
 use Rattle.kube_objects.specs.declared.key.Kind.{Kind}
@@ -7,7 +8,10 @@ use Rattle.kube_objects.specs.declared.key.Kind.TheVariants as kind
 use Rattle.kube_objects.specs.declared.script.What.{What}
 use Rattle.kube_objects.specs.Document.{Doc}
 use Rattle.kube_objects.specs.Elector.{shows, shown, newly, observed, leads, deadline_says, deadline}
-use Rattle.kube_objects.specs.Entry.{Entry, Identity, Call, Stalls, Ticks, Tick, Sync, Pass, Mark, Mode, Zone, Untaint, Swap, Head, Delete, entry}
+use Rattle.kube_objects.specs.declared.key.Key.{Key}
+use Rattle.kube_objects.specs.declared.rules.EvictRule.{EvictRule}
+use Rattle.kube_objects.specs.declared.rules.EvictRule.TheVariants.{Added, Seen}
+use Rattle.kube_objects.specs.Entry.{Entry, Identity, Call, Stalls, Ticks, Tick, Sync, Pass, Mark, Mode, Zone, Untaint, Swap, Head, Delete, Skip, entry}
 use Rattle.kube_objects.specs.Identities.{identity, is_by, of_process}
 use Rattle.kube_objects.specs.Keys.{key_eq}
 use Rattle.kube_objects.specs.Newest.{added, when, join, has, or_zero, or_else}
@@ -16,7 +20,7 @@ use Rattle.kube_objects.specs.Seen.{is_pod}
 use Rattle.kube_objects.specs.Stored.{stored, election, Write, node_write, try_write, tick_write, at_key, write_of, writes}
 use Rattle.kube_objects.specs.Wire.{of_event, in_force, request_delay_of, reply_delay_of, sent_of, back_of}
 use Rattle.history_laws.proofs.Plainly.{upper, for_new, added_more, false_is}
-use Rattle.history_laws.proofs.Ticks.{MadeTick}
+use Rattle.history_laws.proofs.Ticks.{IsDeleteBy, MadeTick}
 use Rattle.lease_laws.proofs.Invariant.{view, SentRight, BackRight, Numbered, NumberedIn, EntryNumbered, Saw, Led, Inv}
 use Rattle.lease_laws.proofs.Grown.{Grows}
 use Rattle.lease_laws.proofs.EachKind.{entries_more, shown_more, leading_more, numbers_closed, top_stays, held_stays}
@@ -88,6 +92,7 @@ quiet_write (Mark name given node a) other = quiet_try (node_write name node) a 
 quiet_write (Untaint name given node a) other = quiet_try (node_write name node) a refl
 quiet_write (Swap name wanted given node a) other = quiet_try (node_write name node) a refl
 quiet_write (Head place name wanted given node a) other = quiet_try (node_write name node) a refl
+quiet_write (Skip place name) other = refl
 quiet_write (Delete pod given node_given due a) other = quiet_try (pod, None) a other
 
 pod_elsewhere : (kind : Kind) (space name : ℕ) → is_pod kind ≡ true → key_eq (record { kind = kind; space = space; name = name }) election ≡ false
@@ -95,8 +100,12 @@ pod_elsewhere kind.Node space name is = absurd (false_is is)
 pod_elsewhere kind.Lease space name is = absurd (false_is is)
 pod_elsewhere kind.Pod space name is = refl
 
+deletes_pod : (rule : EvictRule) (doc : Doc) (k : ℕ) (q : Identity) (pod : Key) (given node_given : Version) (due : ℕ) (a : Option Answer) (h : List Entry) → IsDeleteBy rule doc k q pod given node_given due a h → is_pod pod.kind ≡ true
+deletes_pod Added doc k q pod given node_given due a h made = made.kind
+deletes_pod Seen doc k q pod given node_given due a h made = made.kind
+
 pub deletes_elsewhere : (doc : Doc) (k : ℕ) (q : Identity) (t : Tick) (h : List Entry) → MadeTick doc k q t h → DeletesElsewhere t
-deletes_elsewhere doc k q (Delete pod given node_given due a) h made = pod_elsewhere pod.kind pod.space pod.name made.kind
+deletes_elsewhere doc k q (Delete pod given node_given due a) h made = pod_elsewhere pod.kind pod.space pod.name (deletes_pod doc.settings.rules.evict_from doc k q pod given node_given due a h made)
 deletes_elsewhere doc k q Sync h made = tt
 deletes_elsewhere doc k q Pass h made = tt
 deletes_elsewhere doc k q (Mark name given node a) h made = tt
@@ -105,6 +114,7 @@ deletes_elsewhere doc k q (Zone place state rate) h made = tt
 deletes_elsewhere doc k q (Untaint name given node a) h made = tt
 deletes_elsewhere doc k q (Swap name wanted given node a) h made = tt
 deletes_elsewhere doc k q (Head place name wanted given node a) h made = tt
+deletes_elsewhere doc k q (Skip place name) h made = tt
 
 -- no tick writes the election Lease
 pub stored_tick : (doc : Doc) (k : ℕ) (q : Identity) (t : Tick) (h : List Entry) → MadeTick doc k q t h → stored election (entry k 4 q (Ticks t) ∷ h) ≡ stored election h

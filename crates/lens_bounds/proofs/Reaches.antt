@@ -5,7 +5,7 @@ use Rattle.std.proofs.lemmas.Nat.{mul-le}
 use Rattle.kube_objects.specs.declared.script.Event.{Event}
 use Rattle.kube_objects.specs.declared.script.Proc.{Proc}
 use Rattle.kube_objects.specs.declared.script.What.{What}
-use Rattle.kube_objects.specs.declared.script.What.TheVariants.{Rate, Delay, Loss, Crash, Start, Stop, Watch, Ready, Pause, Put, Remove}
+use Rattle.kube_objects.specs.declared.script.What.TheVariants.{Rate, Delay, Loss, Crash, Start, Stop, Watch, Ready, Pause, Stall, Put, Remove}
 use Rattle.kube_objects.specs.Document.{Doc}
 use Rattle.script_reader.specs.Lawful.{IsLawful, IsLawfulDoc, IsLawfulWhat, AreLawfulFrom}
 use Rattle.lens_bounds.specs.declared.reach.Reach.{Reach}
@@ -54,6 +54,7 @@ event-some doc count own (Stop id) r lawful some = some
 event-some doc count own (Watch id on) r lawful some = some
 event-some doc count own (Ready id status) r lawful some = some
 event-some doc count own (Pause id beats) r lawful some = some
+event-some doc count own (Stall beats) r lawful some = some
 event-some doc count own (Put key object) r lawful some = some
 event-some doc count own (Remove key) r lawful some = some
 
@@ -67,6 +68,7 @@ event-run count own (Stop id) r run = run
 event-run count own (Watch id on) r run = run
 event-run count own (Ready id status) r run = run
 event-run count own (Pause id beats) r run = run
+event-run count own (Stall beats) r run = run
 event-run count own (Put key object) r run = run
 event-run count own (Remove key) r run = run
 

@@ -3,7 +3,7 @@ use Rattle.std.specs.Prelude.{ℕ, ◌*◌, min, max, nat_lt, not, Bool, true, f
 use Rattle.kube_objects.specs.declared.script.Event.{Event}
 use Rattle.kube_objects.specs.declared.script.Proc.{Proc}
 use Rattle.kube_objects.specs.declared.script.What.{What}
-use Rattle.kube_objects.specs.declared.script.What.TheVariants.{Rate, Delay, Loss, Crash, Start, Stop, Watch, Ready, Pause, Put, Remove}
+use Rattle.kube_objects.specs.declared.script.What.TheVariants.{Rate, Delay, Loss, Crash, Start, Stop, Watch, Ready, Pause, Stall, Put, Remove}
 use Rattle.kube_objects.specs.Document.{Doc, beat_micros}
 use Rattle.lens_bounds.specs.declared.calm.Calm.{Calm}
 use Rattle.lens_bounds.specs.declared.outages.Outage.{Outage}
@@ -46,6 +46,7 @@ with_event count controllers (Stop id) r = r
 with_event count controllers (Watch id on) r = r
 with_event count controllers (Ready id status) r = r
 with_event count controllers (Pause id beats) r = r
+with_event count controllers (Stall beats) r = r
 with_event count controllers (Put key object) r = r
 with_event count controllers (Remove key) r = r
 

@@ -82,6 +82,7 @@ fn with_event(count: usize, controllers: bool, what: &What, reach: Reach) -> Rea
         | What::Watch(_, _)
         | What::Ready(_, _)
         | What::Pause(_, _)
+        | What::Stall(_)
         | What::Put(_, _)
         | What::Remove(_) => reach,
     }

@@ -8,7 +8,7 @@ use Rattle.kube_objects.specs.declared.object.Object.{Object}
 use Rattle.kube_objects.specs.declared.object.Object.TheVariants as object
 use Rattle.kube_objects.specs.declared.script.Event.{Event}
 use Rattle.kube_objects.specs.declared.script.What.{What}
-use Rattle.kube_objects.specs.declared.script.What.TheVariants.{Rate, Delay, Loss, Crash, Start, Stop, Watch, Ready, Pause, Put, Remove}
+use Rattle.kube_objects.specs.declared.script.What.TheVariants.{Rate, Delay, Loss, Crash, Start, Stop, Watch, Ready, Pause, Stall, Put, Remove}
 use Rattle.kube_objects.specs.Tainting.{unreachable}
 use Rattle.kube_objects.specs.Tolerations.{first_tolerating}
 use Rattle.outage_laws.specs.Gone.{tolerated_for}
@@ -49,6 +49,7 @@ time_put (Stop id) = None
 time_put (Watch id on) = None
 time_put (Ready id status) = None
 time_put (Pause id beats) = None
+time_put (Stall beats) = None
 time_put (Put key object) = time_of object
 time_put (Remove key) = None
 

@@ -81,6 +81,7 @@ fn time_put(what: &What) -> Option<u64>
         | What::Watch(_, _)
         | What::Ready(_, _)
         | What::Pause(_, _)
+        | What::Stall(_)
         | What::Remove(_) => None,
     }
 }

@@ -7,7 +7,7 @@ struct Rule {
     allowed: &'static str,
 }
 
-/// The keys of a sort of objects, those of version 1 first.
+/// The keys of a sort of objects, those of version 1 first, then those of versions 2 and 3.
 #[derive(Clone, Copy)]
 struct Table {
     /// The first key of the object's path.
@@ -17,6 +17,8 @@ struct Table {
     keys: &'static [&'static str],
     /// How many of the keys version 1 has.
     first: usize,
+    /// How many of them versions 2 and 3 have.
+    second: usize,
 }
 
 const TOP: [&str; 6] = [
@@ -30,7 +32,7 @@ const TOP: [&str; 6] = [
 
 const PROCESS: [&str; 3] = ["beat", "type", "process"];
 
-const TABLES: [Table; 11] = [
+const TABLES: [Table; 12] = [
     Table {
         part: "settings",
         kind: "",
@@ -53,8 +55,25 @@ const TABLES: [Table; 11] = [
             "unhealthyPercent",
             "fastRenew",
             "ratePolicy",
+            "rules",
+            "retries",
+            "respect",
+            "firstSyncMillis",
+            "probe",
+            "judge",
+            "firstSight",
+            "queue",
+            "bucket",
+            "evictFrom",
+            "evictBurst",
+            "evictRate",
+            "release",
+            "inRelease",
+            "readyMillis",
+            "readyBurst",
         ],
         first: 17,
+        second: 18,
     },
     Table {
         part: "controllers",
@@ -69,69 +88,87 @@ const TABLES: [Table; 11] = [
             "renewDeadlineMillis",
             "retryPeriodMillis",
             "callTimeoutMillis",
+            "waits",
         ],
         first: 5,
+        second: 9,
     },
     Table {
         part: "kubelets",
         kind: "",
         keys: &["node", "ratePpm", "offsetMillis", "up", "ready"],
         first: 5,
+        second: 5,
     },
     Table {
         part: "events",
         kind: "rate",
         keys: &["beat", "type", "process", "ratePpm"],
         first: 4,
+        second: 4,
     },
     Table {
         part: "events",
         kind: "delay",
         keys: &["beat", "type", "process", "requestBeats", "replyBeats"],
         first: 5,
+        second: 5,
     },
     Table {
         part: "events",
         kind: "loss",
         keys: &["beat", "type", "process", "requests", "replies"],
         first: 5,
+        second: 5,
     },
     Table {
         part: "events",
         kind: "watch",
         keys: &["beat", "type", "process", "on"],
         first: 4,
+        second: 4,
     },
     Table {
         part: "events",
         kind: "ready",
         keys: &["beat", "type", "process", "status"],
         first: 4,
+        second: 4,
     },
     Table {
         part: "events",
         kind: "pause",
         keys: &["beat", "type", "process", "beats"],
         first: 4,
+        second: 4,
+    },
+    Table {
+        part: "events",
+        kind: "stall",
+        keys: &["beat", "type", "beats"],
+        first: 3,
+        second: 3,
     },
     Table {
         part: "events",
         kind: "put",
         keys: &["beat", "type", "object"],
         first: 3,
+        second: 3,
     },
     Table {
         part: "events",
         kind: "remove",
         keys: &["beat", "type", "kind", "namespace", "name"],
         first: 5,
+        second: 5,
     },
 ];
 
 const RULES: [Rule; 36] = [
     Rule {
         key: "version",
-        allowed: "the number 1, 2 or 3",
+        allowed: "the number 1, 2, 3 or 4",
     },
     Rule {
         key: "settings",
@@ -259,7 +296,7 @@ const RULES: [Rule; 36] = [
     },
     Rule {
         key: "type",
-        allowed: "one of crash, start, stop, rate, delay, loss, put, remove, watch, ready, and in version 3 pause",
+        allowed: "one of crash, start, stop, rate, delay, loss, put, remove, watch, ready, and from version 3 on pause",
     },
     Rule {
         key: "process",
@@ -306,11 +343,85 @@ const EVENT_RULES: [Rule; 7] = [
     },
 ];
 
+const LATER_RULES: [Rule; 17] = [
+    Rule {
+        key: "rules",
+        allowed: "\"own\"; \"1.20\" and \"1.36\" are known, but not built yet",
+    },
+    Rule {
+        key: "retries",
+        allowed: "\"after\", \"grid\" or \"ticks\"",
+    },
+    Rule {
+        key: "respect",
+        allowed: "\"record\" or \"own\"",
+    },
+    Rule {
+        key: "firstSyncMillis",
+        allowed: "a whole number from 0 to 604800000",
+    },
+    Rule {
+        key: "probe",
+        allowed: "\"run\" or \"record\"",
+    },
+    Rule {
+        key: "judge",
+        allowed: "\"tick\" or \"pass\"",
+    },
+    Rule {
+        key: "firstSight",
+        allowed: "\"keep\" or \"strip\"",
+    },
+    Rule {
+        key: "queue",
+        allowed: "\"once\" or \"again\"",
+    },
+    Rule {
+        key: "bucket",
+        allowed: "\"empty\" or \"full\"",
+    },
+    Rule {
+        key: "evictFrom",
+        allowed: "\"added\" or \"seen\"",
+    },
+    Rule {
+        key: "evictBurst",
+        allowed: "a whole number from 0 to 30000",
+    },
+    Rule {
+        key: "evictRate",
+        allowed: "a whole number from 0 to 1000000000",
+    },
+    Rule {
+        key: "release",
+        allowed: "\"stop\", \"own\", \"checked\" or \"reread\"",
+    },
+    Rule {
+        key: "inRelease",
+        allowed: "\"still\" or \"acts\"",
+    },
+    Rule {
+        key: "readyMillis",
+        allowed: "a whole number from 0 to 60000",
+    },
+    Rule {
+        key: "readyBurst",
+        allowed: "a whole number from 0 to 30000",
+    },
+    Rule {
+        key: "waits",
+        allowed: "an array of 1 to 1000 whole numbers from 1000 to 2200",
+    },
+];
+
 /// What may stand at a key of the document itself.
 pub(crate) fn allowed_at(key: &[u8]) -> Option<&'static str> {
     match find(&RULES, key) {
         Some(allowed) => Some(allowed),
-        None => find(&EVENT_RULES, key),
+        None => match find(&EVENT_RULES, key) {
+            Some(allowed) => Some(allowed),
+            None => find(&LATER_RULES, key),
+        },
     }
 }
 
@@ -328,6 +439,16 @@ pub(crate) fn keys_in(part: &[u8], kind: &[u8]) -> &'static [&'static str] {
     for table in &TABLES {
         if is_of(table, part, kind) {
             return table.keys;
+        }
+    }
+    other_keys(part)
+}
+
+/// The same of versions 2 and 3.
+pub(crate) fn second_keys_in(part: &[u8], kind: &[u8]) -> &'static [&'static str] {
+    for table in &TABLES {
+        if is_of(table, part, kind) {
+            return table.keys.get(..table.second).unwrap_or(table.keys);
         }
     }
     other_keys(part)

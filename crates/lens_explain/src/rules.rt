@@ -113,7 +113,10 @@ fn add_rates(alloc: Global, text: &mut Vec<u8>, input: &[u8]) -> Result<(), NoMe
     let secondary = setting(alloc, input, b"/settings", b"/secondaryRate", 10)?;
     let primary = setting(alloc, input, b"/settings", b"/primaryRate", 100)?;
     if secondary <= primary {
-        return Ok(());
+        return add(
+            text,
+            b"\"queue\":\"again\" needs \"judge\":\"pass\", and \"inRelease\":\"acts\" a release other than \"stop\".\n",
+        );
     }
     add(text, b"secondaryRate is at most primaryRate: ")?;
     add_number(text, secondary)?;

@@ -4,7 +4,7 @@ ghost use Rattle.lens_explain.specs.Places.{IsPlace, IsShownOf};
 
 use crate::broken::{hint, stop_of};
 use crate::keys::{Key, key_beside};
-use crate::known::{allowed_at, first_keys_in, keys_in};
+use crate::known::{allowed_at, first_keys_in, keys_in, second_keys_in};
 use crate::nearest::nearest;
 use crate::place::{Shown, shown_at};
 use crate::rules::{add_order, add_rule};
@@ -89,7 +89,7 @@ fn odd_spot<'t>(alloc: Global, input: &'t [u8], path: &[u8]) -> Result<Spot<'t>,
     }
 }
 
-/// The first key of the object at this place that no version knows there, or else that version 1 doesn't.
+/// The first key of the object at this place that no version knows there, or else that version 3 doesn't, or else that version 1 doesn't.
 fn odd_key<'t>(
     alloc: Global,
     input: &'t [u8],
@@ -100,7 +100,10 @@ fn odd_key<'t>(
     let part = part_of(path);
     match key_beside(alloc, input, place, keys_in(part, kind))? {
         Some(key) => Ok(Some(key)),
-        None => key_beside(alloc, input, place, first_keys_in(part, kind)),
+        None => match key_beside(alloc, input, place, second_keys_in(part, kind))? {
+            Some(key) => Ok(Some(key)),
+            None => key_beside(alloc, input, place, first_keys_in(part, kind)),
+        },
     }
 }
 
@@ -158,13 +161,11 @@ fn add_key(
             b"This looks like what kubectl get -o json writes: tools/from-cluster makes a document of a list.\n",
         );
     }
-    let known = keys_in(part_of(path), kind_at(alloc, input, path)?);
+    let kind = kind_at(alloc, input, path)?;
+    let known = keys_in(part_of(path), kind);
     match nearest(alloc, key, known)? {
         Some(near) if near.as_bytes() == key => {
-            add(
-                text,
-                b"It is one of version 2 and later: write \"version\": 2.\n",
-            )
+            add_version(text, key, second_keys_in(part_of(path), kind))
         }
         Some(near) => {
             add(text, b"The nearest one that is: ")?;
@@ -173,6 +174,19 @@ fn add_key(
         }
         None => add_known(text, known),
     }
+}
+
+/// Adds from which version on a key is known, by those of versions 2 and 3.
+fn add_version(text: &mut Vec<u8>, key: &[u8], second: &[&str]) -> Result<(), NoMemory> {
+    for known in second {
+        if known.as_bytes() == key {
+            return add(
+                text,
+                b"It is one of version 2 and later: write \"version\": 2.\n",
+            );
+        }
+    }
+    add(text, b"It is one of version 4, and nothing runs it yet.\n")
 }
 
 /// Whether a key is one that each manifest and each list has.

@@ -5,7 +5,7 @@ pub(crate) fn sentence(code: u32) -> &'static str {
     match code {
         1 =>
             "A document is JSON in UTF-8: one value that ends where the input ends, nested at most 127 deep.",
-        2 => "A document is one JSON object, whose version is 1, 2 or 3.",
+        2 => "A document is one JSON object, whose version is 1, 2, 3 or 4.",
         3 => "This object has a key that isn't known.",
         4 => "A key is missing that has to be there.",
         5 =>
@@ -52,6 +52,7 @@ fn last_sentence(code: u32) -> &'static str {
             "There are too many here: at most 16 controllers, 1000 kubelets, 100000 events, 1000 Nodes, 2000 Leases, 30000 Pods, and 100 taints or tolerations of each.",
         33 => "The input has more than 16777216 bytes.",
         34 => "The beat is after the document's end.",
+        99 => "It is known, but not built yet: nothing runs a document that has it. Leave it out.",
         _ => "The document is refused.",
     }
 }

@@ -4,9 +4,11 @@ use Rattle.kube_objects.specs.declared.script.Proc.{Proc}
 use Rattle.kube_objects.specs.Clocks.{rate, last_rate}
 use Rattle.kube_objects.specs.Document.{Doc, end_beat, field, process_at, beat_micros, of_seconds, of_millis}
 use Rattle.kube_objects.specs.Newest.{or_else}
+use Rattle.kube_objects.specs.Rules.{own_rules}
 use Rattle.history.specs.Premise.{less, more, longest, least_rate, greatest_rate, greatest_below}
 use Rattle.lens_margin.specs.Laws.{outlasted, leased_by, with_lease, leased, is_long_with}
 use Rattle.lens_margin.specs.Margins.{fastest, slowest}
+use Rattle.lens_margin.proofs.Tested.{test-of}
 
 -- a field that isn't the lease
 field-same : (f : Proc → ℕ) (seconds : ℕ) → ((c : Proc) → f (leased_by seconds c) ≡ f c) → (controllers kubelets : List Proc) (p q : ℕ)
@@ -52,9 +54,10 @@ module _ (doc : Doc) (p seconds : ℕ) where
   fastest-same : fastest other ≡ fastest doc
   fastest-same = ap (λ c. greatest_below other c) (count-same seconds doc.controllers p) ∙ below-same (length doc.controllers)
 
-  pub leased-is : p < length doc.controllers → is_long_with doc p seconds ≡ nat_lt (outlasted doc p (longest doc p)) (of_seconds seconds * slowest doc p)
-  leased-is inside =
-      λ i.
+  pub leased-is : doc.settings.rules ≡ own_rules → p < length doc.controllers → is_long_with doc p seconds ≡ nat_lt (outlasted doc p (longest doc p)) (of_seconds seconds * slowest doc p)
+  leased-is rules inside =
+      test-of other rules p
+      ∙ λ i.
       nat_lt
       (longest doc p * (beat_micros doc * fastest-same i) * least-same p (end_beat doc) i
       + (of_millis (at-same (λ x. x.timeout_millis) (λ c. refl) p i) + of_millis (at-same (λ x. x.retry_millis) (λ c. refl) p i) + of_millis (at-same (λ x. x.renew_millis) (λ c. refl) p i)) * fastest-same i)

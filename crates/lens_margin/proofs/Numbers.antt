@@ -8,10 +8,12 @@ use Rattle.std.proofs.lemmas.Grind.{div_ceil_times}
 use Rattle.std.proofs.lemmas.Nat.{div-add-mod', mod_below, le-div}
 use Rattle.kube_objects.specs.declared.script.Proc.{Proc}
 use Rattle.kube_objects.specs.Document.{Doc, field, process_at, lease_seconds, of_seconds, of_millis}
+use Rattle.kube_objects.specs.Rules.{own_rules}
 use Rattle.history.specs.Premise.{more, longest, is_long}
 use Rattle.script_reader.specs.Lawful.{IsLawfulDoc}
 use Rattle.lens_margin.specs.Laws.{IsLeast, IsLeastLease, IsLongestStall, IsMargin, outlasted, is_long_with}
 use Rattle.lens_margin.specs.Margins.{acting, fastest, slowest, numbers, margin_of}
+use Rattle.lens_margin.proofs.Tested.{test-of}
 use Rattle.lens_margin.proofs.Positive.{slowest-some, fastest-some}
 use Rattle.lens_margin.proofs.Leased.{leased-is}
 use Rattle.lens_margin.proofs.Paused.{counts, bears-is}
@@ -115,7 +117,7 @@ module _ (doc : Doc) (p : ℕ) where
   passed : (pauses seconds : ℕ) → nat_lt (outlasted doc p pauses) (of_seconds seconds * slowest doc p) ≡ true → pauses * one + acting doc p < seconds * 1000 * unit
   passed pauses seconds is = ltb-true _ _ (sym (test-is pauses seconds) ∙ is)
 
-  module _ (inside : p < length doc.controllers) (slow : 0 < slowest doc p) where
+  module _ (rules : doc.settings.rules ≡ own_rules) (inside : p < length doc.controllers) (slow : 0 < slowest doc p) where
     must-least : IsLeast (λ n. outlasted doc p (longest doc p) ≤ of_millis n * slowest doc p) (div_ceil need unit)
     must-least = record {
       holds = omega (arith, outlasted-is (longest doc p), milli-is (div_ceil need unit), (div_ceil_times need unit (omega arith)).0);
@@ -127,8 +129,8 @@ module _ (doc : Doc) (p : ℕ) where
 
     seconds-least : IsLeast (λ s. is_long_with doc p s ≡ true) (need / second + 1)
     seconds-least = record {
-      holds = leased-is doc p (need / second + 1) inside ∙ passes (longest doc p) (need / second + 1) (omega (arith, unit-above need second (omega arith)));
-      least = λ s long. unit-least need second (omega arith) s (omega (arith, passed (longest doc p) s (sym (leased-is doc p s inside) ∙ long)));
+      holds = leased-is doc p (need / second + 1) rules inside ∙ passes (longest doc p) (need / second + 1) (omega (arith, unit-above need second (omega arith)));
+      least = λ s long. unit-least need second (omega arith) s (omega (arith, passed (longest doc p) s (sym (leased-is doc p s rules inside) ∙ long)));
     }
 
     least-by : (b : Bool) → nat_lt (need / second) 86400 ≡ b → IsLeastLease doc p (cond b (Some (need / second + 1)) None)
@@ -143,36 +145,36 @@ module _ (doc : Doc) (p : ℕ) where
             beats,
             refl,
             record {
-              holds = bears-is doc p beats ∙ passes (more (longest doc p) (counts beats)) (lease_seconds doc p) (stall-fits lease (acting doc p) one (longest doc p) some now beats refl);
-              greatest = λ n bears. stall-most lease (acting doc p) one (longest doc p) some now n (passed (more (longest doc p) (counts n)) (lease_seconds doc p) (sym (bears-is doc p n) ∙ bears));
+              holds = bears-is doc rules p beats ∙ passes (more (longest doc p) (counts beats)) (lease_seconds doc p) (stall-fits lease (acting doc p) one (longest doc p) some now beats refl);
+              greatest = λ n bears. stall-most lease (acting doc p) one (longest doc p) some now n (passed (more (longest doc p) (counts n)) (lease_seconds doc p) (sym (bears-is doc rules p n) ∙ bears));
             },
           )
-      stall-by false is = λ long. let never : false ≡ true = sym is ∙ sym (test-is (longest doc p) (lease_seconds doc p)) ∙ long in cc
+      stall-by false is = λ long. let never : false ≡ true = sym is ∙ sym (test-is (longest doc p) (lease_seconds doc p)) ∙ sym (test-of doc rules p) ∙ long in cc
 
 product-some : (a b : ℕ) → 0 < a → 0 < b → 0 < a * b
 product-some zero b one two = absurd (omega arith)
 product-some (suc a) b one two = omega (arith, two)
 
-pub margin-law-of : (doc : Doc) (p : ℕ) → p < length doc.controllers → 0 < slowest doc p → 0 < fastest doc → 0 < doc.settings.beat_millis → IsMargin doc p (margin_of doc p)
-margin-law-of doc p inside slow fast beat =
+pub margin-law-of : (doc : Doc) → doc.settings.rules ≡ own_rules → (p : ℕ) → p < length doc.controllers → 0 < slowest doc p → 0 < fastest doc → 0 < doc.settings.beat_millis → IsMargin doc p (margin_of doc p)
+margin-law-of doc rules p inside slow fast beat =
     let some : 0 < one doc p = product-some (doc.settings.beat_millis * 1000 * fastest doc) (slowest doc p) (product-some (doc.settings.beat_millis * 1000) (fastest doc) (omega (arith, beat)) fast) slow in
     record {
       lease = refl;
-      must_exceed = must-least doc p inside slow;
-      least_seconds = least-by doc p inside slow _ refl;
-      longest_stall = stall-by doc p inside slow some _ refl;
+      must_exceed = must-least doc p rules inside slow;
+      least_seconds = least-by doc p rules inside slow _ refl;
+      longest_stall = stall-by doc p rules inside slow some _ refl;
     }
 
 pub margin-law : (doc : Doc) → IsLawfulDoc doc → (p : ℕ) → p < length doc.controllers → IsMargin doc p (margin_of doc p)
-margin-law doc lawful p inside = margin-law-of doc p inside (slowest-some doc lawful p inside) (fastest-some doc lawful) (omega (arith, lawful.settings.beat_least))
+margin-law doc lawful p inside = margin-law-of doc lawful.settings.rules p inside (slowest-some doc lawful p inside) (fastest-some doc lawful) (omega (arith, lawful.settings.beat_least))
 
 some-when : (b : Bool) (n : ℕ) → is_some (cond b (Some n) None) ≡ b
 some-when true n = refl
 some-when false n = refl
 
 -- where a stall is borne, if only of no beat, the lease is long enough
-pub stall-tells : (doc : Doc) (p : ℕ) → is_some (margin_of doc p).longest_stall ≡ is_long doc (fastest doc) p
-stall-tells doc p = some-when (nat_lt (need doc p) (lease doc p)) _ ∙ sym (test-is doc p (longest doc p) (lease_seconds doc p))
+pub stall-tells : (doc : Doc) → doc.settings.rules ≡ own_rules → (p : ℕ) → is_some (margin_of doc p).longest_stall ≡ is_long doc (fastest doc) p
+stall-tells doc rules p = some-when (nat_lt (need doc p) (lease doc p)) _ ∙ sym (test-is doc p (longest doc p) (lease_seconds doc p)) ∙ sym (test-of doc rules p)
 
 -- ---- what the code counts with
 

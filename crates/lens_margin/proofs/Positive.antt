@@ -5,7 +5,7 @@ use Rattle.std.proofs.lemmas.List.Elements.{All-head, All-tail}
 use Rattle.kube_objects.specs.declared.script.Event.{Event}
 use Rattle.kube_objects.specs.declared.script.Proc.{Proc}
 use Rattle.kube_objects.specs.declared.script.What.{What}
-use Rattle.kube_objects.specs.declared.script.What.TheVariants.{Rate, Delay, Loss, Crash, Start, Stop, Watch, Ready, Pause, Put, Remove}
+use Rattle.kube_objects.specs.declared.script.What.TheVariants.{Rate, Delay, Loss, Crash, Start, Stop, Watch, Ready, Pause, Stall, Put, Remove}
 use Rattle.kube_objects.specs.Clocks.{rate, rate_of, last_rate}
 use Rattle.kube_objects.specs.Document.{Doc, end_beat, field, first_rate}
 use Rattle.kube_objects.specs.Newest.{when, only_if, or_else}
@@ -40,6 +40,7 @@ runs-what doc p (Stop id) lawful = tt
 runs-what doc p (Watch id on) lawful = tt
 runs-what doc p (Ready id status) lawful = tt
 runs-what doc p (Pause id beats) lawful = tt
+runs-what doc p (Stall beats) lawful = tt
 runs-what doc p (Put key object) lawful = tt
 runs-what doc p (Remove key) lawful = tt
 

@@ -46,6 +46,7 @@ leased doc p seconds = record {
   settings = doc.settings;
   controllers = with_lease p seconds doc.controllers;
   kubelets = doc.kubelets;
+  waits = doc.waits;
   objects = doc.objects;
   events = doc.events;
 }
@@ -61,6 +62,7 @@ paused doc p (suc n) = record {
   settings = doc.settings;
   controllers = doc.controllers;
   kubelets = doc.kubelets;
+  waits = doc.waits;
   objects = doc.objects;
   events = record { beat = record { 0 = 0 }; what = Pause (record { 0 = p }) (suc n) } ∷ doc.events;
 }

@@ -89,7 +89,7 @@ module _ (flags : Flags) where
 module _ (flags : Flags) where
   lease-test : (s : ℕ) → is_long_with (described flags) 0 s ≡ holds (with_lease flags s)
   lease-test s =
-      leased-is (described flags) 0 s (omega arith)
+      leased-is (described flags) 0 s refl (omega arith)
       ∙ ap (λ high. nat_lt (outlasted flags high (slow flags)) (of_seconds s * slow flags)) (fastest-is flags)
       ∙ scaled _ _ _ _ (acts-finer flags (fast flags) (slow flags)) (lease-finer flags s (slow flags))
       ∙ sym (premise-is (with_lease flags s))
@@ -133,7 +133,7 @@ module _ (flags : Flags) where
 
 pub numbers-law : (flags : Flags) → AreInRange flags → AreNumbers flags
 numbers-law flags ranges =
-    let law = margin-law-of (described flags) 0 (omega arith) (omega (arith, ranges.skew)) (let is = fastest-is flags in omega (arith, is)) (omega (arith, ranges.beat_least)) in
+    let law = margin-law-of (described flags) refl 0 (omega arith) (omega (arith, ranges.skew)) (let is = fastest-is flags in omega (arith, is)) (omega (arith, ranges.beat_least)) in
     record {
       margin = law;
       least_lease = least-from flags _ law.least_seconds;

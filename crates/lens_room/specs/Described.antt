@@ -6,6 +6,7 @@ use Rattle.kube_objects.specs.declared.script.Proc.{Proc}
 use Rattle.kube_objects.specs.declared.settings.RatePolicy.TheVariants.{Standard}
 use Rattle.kube_objects.specs.declared.settings.Settings.{Settings}
 use Rattle.kube_objects.specs.Document.{Doc}
+use Rattle.kube_objects.specs.Rules.{own_rules, own_waits}
 use Rattle.lens_room.specs.declared.by_flags.flags.Flags.{Flags}
 use Rattle.lens_room.specs.Flags.{timeout_of}
 
@@ -50,6 +51,7 @@ settings_of flags = record {
   unhealthy_percent = 55;
   fast_renew = true;
   rate_policy = Standard;
+  rules = own_rules;
 }
 
 abbrev pub described : Flags → Doc
@@ -57,6 +59,7 @@ described flags = record {
   settings = settings_of flags;
   controllers = controller flags 0 (slow flags) ∷ controller flags 1 (fast flags) ∷ [];
   kubelets = [];
+  waits = own_waits ∷ own_waits ∷ [];
   objects = [];
   events = [];
 }

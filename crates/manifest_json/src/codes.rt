@@ -71,3 +71,6 @@ pub const DUPLICATE: u32 = 31;
 
 /// An array or a kind with too many members.
 pub const TOO_MANY: u32 = 32;
+
+/// A form of a document that is named, and that nothing runs yet.
+pub const NOT_BUILT: u32 = 99;

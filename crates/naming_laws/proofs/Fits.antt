@@ -17,7 +17,7 @@ use Rattle.kube_objects.specs.declared.object.Object.TheVariants as object
 use Rattle.kube_objects.specs.declared.script.What.{What}
 use Rattle.kube_objects.specs.declared.script.What.TheVariants.{Put, Remove, Ready}
 use Rattle.kube_objects.specs.Answers.{as_kind, node_in}
-use Rattle.kube_objects.specs.Entry.{Entry, Identity, Fact, First, Event as Happens, Starts, Crashes, Stops, Stalls, Ends, Sends, Answers, Delivers, Expires, Leads, Ticks, Tick, Sync}
+use Rattle.kube_objects.specs.Entry.{Entry, Identity, Fact, First, Event as Happens, Starts, Crashes, Stops, Stalls, Ends, ReleaseBegins, ReleaseEnds, StepsDown, ReleaseStops, Sends, Answers, Delivers, Expires, Leads, Ticks, Tick, Sync}
 use Rattle.kube_objects.specs.Identities.{is_by}
 use Rattle.kube_objects.specs.Keys.{key_eq}
 use Rattle.kube_objects.specs.Newest.{newest, when, only_if, join}
@@ -147,6 +147,10 @@ module _ (names : Texts) (known : List ℕ) where
       cases below who Stops wrote is = below is
       cases below who (Stalls beats) wrote is = below is
       cases below who Ends wrote is = below is
+      cases below who (ReleaseBegins at_deadline) wrote is = below is
+      cases below who ReleaseEnds wrote is = below is
+      cases below who StepsDown wrote is = below is
+      cases below who ReleaseStops wrote is = below is
       cases below who (Sends call arrives) wrote is = below is
       cases below who (Answers call reply comes written) wrote is = below is
       cases below who (Delivers call reply counted) wrote is = below is

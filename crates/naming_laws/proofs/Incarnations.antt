@@ -8,7 +8,7 @@ use Rattle.kube_objects.specs.declared.key.Key.{Key}
 use Rattle.kube_objects.specs.declared.object.Object.{Object}
 use Rattle.kube_objects.specs.Clocks.{store_wall, whole_second}
 use Rattle.kube_objects.specs.Document.{Doc, processes, end_beat}
-use Rattle.kube_objects.specs.Entry.{Entry, Fact, First, Event as Happens, Starts, Crashes, Stops, Stalls, Ends, Sends, Answers, Delivers, Expires, Leads, Ticks, actor_of, script_entry}
+use Rattle.kube_objects.specs.Entry.{Entry, Fact, First, Event as Happens, Starts, Crashes, Stops, Stalls, Ends, ReleaseBegins, ReleaseEnds, StepsDown, ReleaseStops, Sends, Answers, Delivers, Expires, Leads, Ticks, actor_of, script_entry}
 use Rattle.kube_objects.specs.Identities.{identity, of_process}
 use Rattle.kube_objects.specs.Newest.{added, has, when}
 use Rattle.kube_objects.specs.Process.{starts, is_start}
@@ -17,7 +17,7 @@ use Rattle.kube_objects.specs.Writable.{IsOneOf}
 use Rattle.history.specs.History.{put_all, history}
 use Rattle.history_laws.proofs.Starts.{starts_are_few}
 use Rattle.history_laws.proofs.Plainly.{added_more}
-use Rattle.history_laws.proofs.Walk.{StartIsNext, Keeps, all_kinds, walk_history}
+use Rattle.history_laws.proofs.Walk.{StartIsNext, Keeps, all_kinds, all_release, walk_history}
 use Rattle.script_reader.specs.Lawful.{IsLawfulDoc}
 use Rattle.naming_laws.specs.WellFormed.{IsIncarnation}
 use Rattle.naming_laws.proofs.Starting.{StartsAreOfOne, IsStartOfOne, starts_are_of_one}
@@ -52,7 +52,7 @@ counted_keeps : (doc : Doc) → Keeps doc (λ k step h. AreCounted h)
 counted_keeps doc = all_kinds doc (λ k step h. AreCounted h) (λ k step h s. s) (λ k h s. s) (λ x h next s. (next.0, s))
 
 starts_counted : (doc : Doc) (k : ℕ) → AreCounted (history doc k)
-starts_counted doc k = walk_history doc (λ k step h. AreCounted h) (counted_keeps doc) (put_counted doc doc.objects [] tt) k
+starts_counted doc k = walk_history doc (λ k step h. AreCounted h) (counted_keeps doc) (all_release doc (λ k step h. AreCounted h) (λ x h next s. (next.0, s))) (put_counted doc doc.objects [] tt) k
 
 -- ---- so it has 32 bits, where there are no more starts
 
@@ -79,6 +79,10 @@ member n e h within next few = cases e.fact refl within next
     cases Stops at within next = tt
     cases (Stalls beats) at within next = tt
     cases Ends at within next = tt
+    cases (ReleaseBegins at_deadline) at within next = tt
+    cases ReleaseEnds at within next = tt
+    cases StepsDown at within next = tt
+    cases ReleaseStops at within next = tt
     cases (First key object) at within next = tt
     cases (Happens event version) at within next = tt
     cases (Sends call arrives) at within next = tt

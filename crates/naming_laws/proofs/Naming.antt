@@ -1,5 +1,5 @@
 -- Every entry of a lawful and well-named document's history can be written.
-use Rattle.std.proofs.Common.{◌≡◌, ℕ, ◌+◌, ◌<◌, ◌≤◌, ◌==◌, Bool, true, false, List, [], ◌∷◌, ◌++◌, length, Option, Some, None, refl, sym, ◌∙◌, subst, inl, inr, ⊎_elim, arith}
+use Rattle.std.proofs.Common.{◌≡◌, ℕ, ◌+◌, ◌<◌, ◌≤◌, ◌==◌, Bool, true, false, List, [], ◌∷◌, ◌++◌, length, Option, Some, None, refl, sym, ap, ◌∙◌, subst, inl, inr, ⊎_elim, arith}
 use Rattle.std.proofs.lemmas.Bool.{eqb-true, ltb-true}
 use Rattle.std.proofs.lemmas.List.{length-map, length-append}
 use Rattle.std.proofs.lemmas.List.Elements.{recursion_from_All}
@@ -17,7 +17,7 @@ use Rattle.kube_objects.specs.declared.script.What.{What}
 use Rattle.kube_objects.specs.declared.script.What.TheVariants as what
 use Rattle.kube_objects.specs.Clocks.{store_wall, whole_second}
 use Rattle.kube_objects.specs.Document.{Doc, processes, process_at, field, is_controller, end_beat, lease_seconds}
-use Rattle.kube_objects.specs.Entry.{Entry, Identity, Call, Fact, First, Event as Happens, Starts, Crashes, Stops, Stalls, Ends, Sends, Answers, Delivers, Expires, Leads, Ticks, actor_of, entry, script_entry}
+use Rattle.kube_objects.specs.Entry.{Entry, Identity, Call, Fact, First, Event as Happens, Starts, Crashes, Stops, Stalls, Ends, ReleaseBegins, ReleaseEnds, StepsDown, ReleaseStops, Sends, Answers, Delivers, Expires, Leads, Ticks, actor_of, entry, script_entry}
 use Rattle.kube_objects.specs.Identities.{identity, of_process, holder_of}
 use Rattle.kube_objects.specs.InForce.{first_status}
 use Rattle.kube_objects.specs.Kubelet.{node_of}
@@ -35,11 +35,12 @@ use Rattle.history_laws.specs.Tails.{In}
 use Rattle.history_laws.proofs.Counting.{counted_is}
 use Rattle.history_laws.proofs.Plainly.{upper, some_is, none_is}
 use Rattle.history_laws.proofs.Ticks.{walk_tick}
-use Rattle.history_laws.proofs.Walk.{Scripted, Arriving, Coming, stopped_at, after_reply, Ticking, KeepsTurn, Keeps, walk_history}
+use Rattle.history_laws.proofs.Walk.{Scripted, Arriving, Coming, stopped_at, after_reply, Ticking, KeepsTurn, Keeps, no_release, walk_history}
 use Rattle.manifest_json.specs.Fields.{Texts}
 use Rattle.manifest_json.specs.Readable.{IsNameNumber, IsReadableHolder, IsReadableItem}
 use Rattle.script_reader.specs.Lawful.{IsLawfulDoc, IsWellNamed}
 use Rattle.script_reader.specs.Walk.{numbers_of}
+use Rattle.script_reader.proofs.OwnDocuments.{own-document}
 use Rattle.naming_laws.specs.Items.{IsWritableItem}
 use Rattle.naming_laws.specs.Laws.{DeedsAreWritable, ItemsAreWellFormed, ItemsAreWritable}
 use Rattle.naming_laws.specs.WellFormed.{IsIncarnation, IsWellFormedItem}
@@ -88,6 +89,10 @@ sends_as who Crashes is = tt
 sends_as who Stops is = tt
 sends_as who (Stalls beats) is = tt
 sends_as who Ends is = tt
+sends_as who (ReleaseBegins at_deadline) is = tt
+sends_as who ReleaseEnds is = tt
+sends_as who StepsDown is = tt
+sends_as who ReleaseStops is = tt
 sends_as who (Delivers call reply counts) is = tt
 sends_as who (Expires call) is = tt
 sends_as who (Leads version) is = tt
@@ -125,6 +130,10 @@ up_within n p i (e ∷ h) are up = cases (λ up. up_within n p i h are.1 up) e.a
     cases below who Stops is up = ends below who up
     cases below who (Stalls beats) is up = below up
     cases below who Ends is up = ends below who up
+    cases below who (ReleaseBegins at_deadline) is up = below up
+    cases below who ReleaseEnds is up = ends below who up
+    cases below who StepsDown is up = below up
+    cases below who ReleaseStops is up = below up
     cases below who (First key object) is up = below up
     cases below who (Happens event version) is up = below up
     cases below who (Sends call arrives) is up = below up
@@ -154,6 +163,10 @@ sent_fit names known n who Crashes one is carries = tt
 sent_fit names known n who Stops one is carries = tt
 sent_fit names known n who (Stalls beats) one is carries = tt
 sent_fit names known n who Ends one is carries = tt
+sent_fit names known n who (ReleaseBegins at_deadline) one is carries = tt
+sent_fit names known n who ReleaseEnds one is carries = tt
+sent_fit names known n who StepsDown one is carries = tt
+sent_fit names known n who ReleaseStops one is carries = tt
 sent_fit names known n who (Answers call reply comes written) one is carries = tt
 sent_fit names known n who (Delivers call reply counts) one is carries = tt
 sent_fit names known n who (Expires call) one is carries = tt
@@ -170,6 +183,10 @@ back_fit names known n who Crashes one is carries = tt
 back_fit names known n who Stops one is carries = tt
 back_fit names known n who (Stalls beats) one is carries = tt
 back_fit names known n who Ends one is carries = tt
+back_fit names known n who (ReleaseBegins at_deadline) one is carries = tt
+back_fit names known n who ReleaseEnds one is carries = tt
+back_fit names known n who StepsDown one is carries = tt
+back_fit names known n who ReleaseStops one is carries = tt
 back_fit names known n who (Sends call arrives) one is carries = tt
 back_fit names known n who (Delivers call reply counts) one is carries = tt
 back_fit names known n who (Expires call) one is carries = tt
@@ -244,6 +261,7 @@ module _ (names : Texts) (doc : Doc) (fixed : HoldsFixed names) (lawful : IsLawf
   stamped_what k (what.Stop id) le fit = tt
   stamped_what k (what.Watch id on) le fit = tt
   stamped_what k (what.Pause id beats) le fit = tt
+  stamped_what k (what.Stall beats) le fit = tt
 
   event_fact : (w : What) (h : List Entry) → IsFitWhat names known w → IsFitFact names known actor.Script (Happens w (event_version w h))
   event_fact (what.Put key object) h fit = record { told = (record { form = refl; held = (space_held names fixed key fit.named, (fit.named.0.0, tt)); timely = tt }, refl); wrote = fit; carries = fit }
@@ -261,6 +279,7 @@ module _ (names : Texts) (doc : Doc) (fixed : HoldsFixed names) (lawful : IsLawf
   event_fact (what.Stop id) h fit = record { told = tt; wrote = tt; carries = tt }
   event_fact (what.Watch id on) h fit = record { told = tt; wrote = tt; carries = tt }
   event_fact (what.Pause id beats) h fit = record { told = tt; wrote = tt; carries = tt }
+  event_fact (what.Stall beats) h fit = record { told = (record { form = refl; held = tt; timely = tt }, refl); wrote = tt; carries = tt }
 
   event_at : (k : ℕ) (w : What) (h : List Entry) → Scripted doc k w → k ≤ end_beat doc + 1 → IsFitFact names known actor.Script (Happens (stamp doc k w) (event_version w h))
   event_at k w h scripted le = subst (λ v. IsFitFact names known actor.Script (Happens (stamp doc k w) v)) (same w) (event_fact (stamp doc k w) h (stamped_what k w le (scripted_fit names doc fixed lawful named k w scripted)))
@@ -277,6 +296,7 @@ module _ (names : Texts) (doc : Doc) (fixed : HoldsFixed names) (lawful : IsLawf
       same (what.Stop id) = refl
       same (what.Watch id on) = refl
       same (what.Pause id beats) = refl
+      same (what.Stall beats) = refl
 
   -- ---- simple facts of processes
 
@@ -327,7 +347,7 @@ module _ (names : Texts) (doc : Doc) (fixed : HoldsFixed names) (lawful : IsLawf
       let before : StartsAreOfMembers n h = walk_tick doc k q (λ g. StartsAreOfMembers n g → StartsAreOfMembers n h) (λ t g made s good. s good.1) h (λ good. good) good in
       let well = s le before in
       record {
-        fit = keeps_tick names known fixed doc k q (early q.process k le) h well.fit;
+        fit = keeps_tick names known fixed doc (own-document doc lawful) k q (early q.process k le) h well.fit;
         actors = walk_tick doc k q (ActorsAre n) (λ t g made are. (controller_within q.process ticking.role, tt, are)) h well.actors;
       }
 
@@ -402,7 +422,7 @@ module _ (names : Texts) (doc : Doc) (fixed : HoldsFixed names) (lawful : IsLawf
       put = stamped_fit names known (whole_second (store_wall doc 0)) x.0 x.1 (second_whole (store_wall doc 0) (store_early doc lawful 0 (omega arith))) (item_fit names known x.0 x.1 all.0)
 
   pub history_well : (k : ℕ) → k ≤ end_beat doc + 1 → IsWell names (numbers_of doc.controllers) (processes doc) (history doc k)
-  history_well k le = walk_history doc Well keeps (λ le good. items_fit doc.objects named.objects.each [] (record { fit = tt; actors = tt })) k le (starts_are_of_members doc lawful k le)
+  history_well k le = walk_history doc Well keeps (no_release doc Well (ap (λ r. r.release) lawful.settings.rules)) (λ le good. items_fit doc.objects named.objects.each [] (record { fit = tt; actors = tt })) k le (starts_are_of_members doc lawful k le)
 
 -- ---- what is printed
 

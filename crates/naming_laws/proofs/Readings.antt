@@ -185,6 +185,7 @@ what_fit names doc known fixed (what.Start id) ok read = tt
 what_fit names doc known fixed (what.Stop id) ok read = tt
 what_fit names doc known fixed (what.Watch id on) ok read = tt
 what_fit names doc known fixed (what.Pause id beats) ok read = tt
+what_fit names doc known fixed (what.Stall beats) ok read = tt
 
 module _ (names : Texts) (doc : Doc) (fixed : HoldsFixed names) (lawful : IsLawfulDoc doc) (named : IsWellNamed names doc) where
   pub scripted_lawful : (k : ℕ) (w : What) → Scripted doc k w → IsLawfulWhat doc w

@@ -15,8 +15,8 @@ use Rattle.kube_objects.specs.declared.script.What.{What}
 use Rattle.kube_objects.specs.declared.script.What.TheVariants as what
 use Rattle.kube_objects.specs.Clocks.{local, wall}
 use Rattle.kube_objects.specs.Document.{Doc, lease_seconds}
-use Rattle.kube_objects.specs.Elector.{moment, Shown, Follow, Fails, Asks, told, shows, shown, observed_at, leads, one_more, created, renewed, taken, updated, given_up, follow_on, not_done, is_blocked, is_valid, attempt, attempt_from, release, release_from}
-use Rattle.kube_objects.specs.Entry.{Entry, Identity, Call, CallKind, Plain, Fast, Release, Fact, First, Event as Happens, Starts, Crashes, Stops, Stalls, Ends, Sends, Answers, Delivers, Expires, Leads, Ticks}
+use Rattle.kube_objects.specs.Elector.{moment, Shown, Follow, Fails, Asks, told, shows, shown, observed_at, leads, one_more, created, renewed, taken, updated, given_up, follow_on, not_done, is_blocked, respected, is_valid, attempt, attempt_from, release, release_from}
+use Rattle.kube_objects.specs.Entry.{Entry, Identity, Call, CallKind, Plain, Fast, Release, Look, Emptying, Fact, First, Event as Happens, Starts, Crashes, Stops, Stalls, Ends, ReleaseBegins, ReleaseEnds, StepsDown, ReleaseStops, Sends, Answers, Delivers, Expires, Leads, Ticks}
 use Rattle.kube_objects.specs.Identities.{holder_of, is_by, is_own}
 use Rattle.kube_objects.specs.InForce.{status_of, first_status}
 use Rattle.kube_objects.specs.Kubelet.{node_of, heartbeat_lease, next_request, post}
@@ -94,6 +94,10 @@ module _ (names : Texts) (known : List ℕ) (fixed : HoldsFixed names) where
       cases below who Stops carries is = below is
       cases below who (Stalls beats) carries is = below is
       cases below who Ends carries is = below is
+      cases below who (ReleaseBegins at_deadline) carries is = below is
+      cases below who ReleaseEnds carries is = below is
+      cases below who StepsDown carries is = below is
+      cases below who ReleaseStops carries is = below is
       cases below who (Sends call arrives) carries is = below is
       cases below who (Answers call reply comes written) carries is = below is
       cases below who (Expires call) carries is = below is
@@ -111,6 +115,8 @@ module _ (names : Texts) (known : List ℕ) (fixed : HoldsFixed names) where
       by_kind call asked Plain is = subst (λ (call : Call). IsFitRequest names known call.request) (some_is call x is) asked
       by_kind call asked Fast is = subst (λ (call : Call). IsFitRequest names known call.request) (some_is call x is) asked
       by_kind call asked Release is = absurd (none_is x is)
+      by_kind call asked (Look begun) is = subst (λ (call : Call). IsFitRequest names known call.request) (some_is call x is) asked
+      by_kind call asked (Emptying begun) is = subst (λ (call : Call). IsFitRequest names known call.request) (some_is call x is) asked
 
       sends : (call_in q h ≡ Some x → Fit) → (b : Bool) (call : Call) → IsFitRequest names known call.request → join (upper (when b (open_as call.kind call)) (last_call q h)) ≡ Some x → Fit
       sends below true call asked is = by_kind call asked call.kind is
@@ -131,6 +137,10 @@ module _ (names : Texts) (known : List ℕ) (fixed : HoldsFixed names) where
       cases below who Stops carries is = below is
       cases below who (Stalls beats) carries is = below is
       cases below who Ends carries is = below is
+      cases below who (ReleaseBegins at_deadline) carries is = closes below (is_by q who) is
+      cases below who ReleaseEnds carries is = below is
+      cases below who StepsDown carries is = below is
+      cases below who ReleaseStops carries is = below is
       cases below who (Answers call reply comes written) carries is = below is
       cases below who (Leads version) carries is = below is
       cases below who (Ticks t) carries is = below is
@@ -170,11 +180,13 @@ module _ (names : Texts) (known : List ℕ) (fixed : HoldsFixed names) where
         refused Plain = tt
         refused Fast = election_key
         refused Release = tt
+        refused (Look begun) = tt
+        refused (Emptying begun) = tt
 
         cases : (request : Request) (reply : Reply) → IsFitReply names known reply → AsksFit names known (follow_on doc q k kind request reply h)
         cases (Get key) Absent fit = (election_key, created_fit)
         cases (Get key) (Found version lease) fit =
-            by_test (is_blocked q (local doc q.process k) (observed_at doc q h) lease) (Update election version (updated q (moment doc q k) lease)) (election_key, updated_fit lease fit)
+            by_test (is_blocked q (local doc q.process k) (observed_at doc q h) (respected doc.settings.rules.respect (lease_seconds doc q.process) lease)) (Update election version (updated q (moment doc q k) lease)) (election_key, updated_fit lease fit)
         cases (Get key) (Done version) fit = tt
         cases (Get key) Exists fit = tt
         cases (Get key) (Conflict version) fit = tt
@@ -259,6 +271,7 @@ module _ (names : Texts) (known : List ℕ) (fixed : HoldsFixed names) where
         by_event below (what.Stop id) fit is = below is
         by_event below (what.Watch id on) fit is = below is
         by_event below (what.Pause id beats) fit is = below is
+        by_event below (what.Stall beats) fit is = below is
         by_event below (what.Put key object) fit is = below is
         by_event below (what.Remove key) fit is = below is
 
@@ -270,6 +283,10 @@ module _ (names : Texts) (known : List ℕ) (fixed : HoldsFixed names) where
         cases below Stops carries is = below is
         cases below (Stalls beats) carries is = below is
         cases below Ends carries is = below is
+        cases below (ReleaseBegins at_deadline) carries is = below is
+        cases below ReleaseEnds carries is = below is
+        cases below StepsDown carries is = below is
+        cases below ReleaseStops carries is = below is
         cases below (Sends call arrives) carries is = below is
         cases below (Answers call reply comes written) carries is = below is
         cases below (Delivers call reply counted) carries is = below is

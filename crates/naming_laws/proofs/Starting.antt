@@ -15,20 +15,24 @@ use Rattle.kube_objects.specs.declared.script.What.TheVariants as what
 use Rattle.kube_objects.specs.Clocks.{local, store_wall, whole_second}
 use Rattle.kube_objects.specs.Document.{Doc, processes, is_controller, is_up_first}
 use Rattle.kube_objects.specs.Elector.{Follow, Fails, Asks, Succeeds, follow_on, leads, deadline, timer, release, acts}
-use Rattle.kube_objects.specs.Entry.{Entry, Identity, Call, Fact, First, Event as Happens, Starts, Stops, Delivers, entry, script_entry, Expires, Ends}
+use Rattle.kube_objects.specs.Entry.{Entry, Identity, Call, Fact, First, Event as Happens, Starts, Stops, Delivers, entry, script_entry}
 use Rattle.kube_objects.specs.Identities.{identity}
 use Rattle.kube_objects.specs.Kubelet.{next_request, send_next, is_post_call, round_if, is_round_due, round}
 use Rattle.kube_objects.specs.Newest.{only_if, has}
+use Rattle.kube_objects.specs.Own.{IsOwn}
+use Rattle.kube_objects.proofs.Own.{expire_as-own, end_term-own}
+use Rattle.history.proofs.Own.{stop-own, react-own, ticks-own}
 use Rattle.kube_objects.specs.Pauses.{is_paused}
-use Rattle.kube_objects.specs.Process.{alive, call_in, counted, ended, is_late, is_restart_due}
+use Rattle.kube_objects.specs.Process.{alive, call_in, counted, ended, is_late, is_restart_due, release_begun}
 use Rattle.kube_objects.specs.Stamps.{stamped}
-use Rattle.kube_objects.specs.Turns.{react, expire_call, end_term, just_expired, is_fast_call, attempt_if, try}
+use Rattle.kube_objects.specs.Turns.{react, expire_as, expire_call, end_as, end_term, just_expired, is_fast_call, attempt_if, try}
 use Rattle.kube_objects.specs.Wire.{Sent, Back, sent_of, back_of}
 use Rattle.kube_objects.specs.Writable.{IsOneOf}
 use Rattle.history.specs.History.{put_all, three_steps, history}
 use Rattle.history.specs.Steps.{start_first, starts_below, first_starts, start_if_down, crash, stall, released, stop, effect, stamp, event_version, happen_all, step_one, step_two, react_as, deliver_as, if_up, restart_if, restart, expire, finish, attempts, turns, happens, answered, delivered, start, controller_turn, kubelet_turn, unpaused_turn}
 use Rattle.history_laws.proofs.Ticks.{walk_tick}
 use Rattle.script_reader.specs.Lawful.{IsLawfulWhat, AreLawfulFrom, IsLawfulDoc}
+use Rattle.script_reader.proofs.OwnDocuments.{own-document}
 
 abbrev pub IsStartOfOne : ℕ → Actor → Fact → Type 0
 IsStartOfOne n who Starts = IsOneOf n who
@@ -39,6 +43,9 @@ StartsAreOfOne n [] = Unit {0}
 StartsAreOfOne n (e ∷ h) = IsStartOfOne n e.actor e.fact × StartsAreOfOne n h
 
 module _ (doc : Doc) (lawful : IsLawfulDoc doc) where
+  own : IsOwn doc
+  own = own-document doc lawful
+
   abbrev Good : List Entry → Type 0
   Good h = StartsAreOfOne (processes doc) h
 
@@ -56,7 +63,7 @@ module _ (doc : Doc) (lawful : IsLawfulDoc doc) where
   good_starts zero h s = good_below (processes doc) h (omega arith) s
   good_starts (suc k) h s = s
 
-  good_released : (k : ℕ) (q : Identity) (o : Option Request) (h : List Entry) → Good h → Good (released k q o h)
+  good_released : (k : ℕ) (q : Identity) (o : Option Request) (h : List Entry) → Good h → Good (released doc k q o h)
   good_released k q None h s = s
   good_released k q (Some request) h s = (tt, s)
 
@@ -75,12 +82,15 @@ module _ (doc : Doc) (lawful : IsLawfulDoc doc) where
     where
       by : (o : Option ℕ) → Good (stop doc k id.0 o before h)
       by None = s
-      by (Some i) = good_released k (identity id.0 i) (release doc (identity id.0 i) k before) (entry k 1 (identity id.0 i) Stops ∷ h) (tt, s)
+      by (Some i) =
+          subst Good (sym (stop-own doc own k (identity id.0 i) before h))
+          (good_released k (identity id.0 i) (release doc (identity id.0 i) k before) (entry k 1 (identity id.0 i) Stops ∷ h) (tt, s))
   good_effect k (what.Pause id beats) ok before h s = by (alive id.0 before)
     where
       by : (o : Option ℕ) → Good (stall k id.0 beats o h)
       by None = s
       by (Some i) = (tt, s)
+  good_effect k (what.Stall beats) ok before h s = s
   good_effect k (what.Rate id ppm) ok before h s = s
   good_effect k (what.Delay id requests replies) ok before h s = s
   good_effect k (what.Loss id requests replies) ok before h s = s
@@ -111,18 +121,18 @@ module _ (doc : Doc) (lawful : IsLawfulDoc doc) where
       by true = (tt, s)
       by false = s
 
-  good_react : (k : ℕ) (q : Identity) (led : Bool) (f : Follow) (h : List Entry) → Good h → Good (react k q led f h)
+  good_react : (k : ℕ) (q : Identity) (led : Bool) (f : Follow) (h : List Entry) → Good h → Good (react doc k q led f h)
   good_react k q led Fails h s = s
   good_react k q led (Asks request) h s = (tt, s)
   good_react k q true (Succeeds version) h s = s
   good_react k q false (Succeeds version) h s = (tt, s)
 
-  good_next : (k : ℕ) (q : Identity) (o : Option Request) (h : List Entry) → Good h → Good (send_next k q o h)
+  good_next : (k : ℕ) (q : Identity) (o : Option Request) (h : List Entry) → Good h → Good (send_next doc k q o h)
   good_next k q None h s = s
   good_next k q (Some request) h s = (tt, s)
 
   good_react_as : (k : ℕ) (q : Identity) (x : Call) (reply : Reply) (b : Bool) (h : List Entry) → Good h → Good (react_as doc k q x reply b h)
-  good_react_as k q x reply true h s = good_react k q (leads q h) (follow_on doc q k x.kind x.request reply h) h s
+  good_react_as k q x reply true h s = subst Good (sym (react-own doc own k q x reply h)) (good_react k q (leads q h) (follow_on doc q k x.kind x.request reply h) h s)
   good_react_as k q x reply false h s = good_next k q (next_request doc q k x.request reply) h s
 
   good_deliver_as : (k : ℕ) (q : Identity) (x : Call) (reply : Reply) (o : Option Call) (h : List Entry) → Good h → Good (deliver_as doc k q x reply o h)
@@ -155,17 +165,17 @@ module _ (doc : Doc) (lawful : IsLawfulDoc doc) where
   good_expire k q None h s = s
   good_expire k q (Some x) h s = by (is_late doc q k x)
     where
-      by : (b : Bool) → Good (if b then entry k 4 q (Expires x) ∷ h else h)
-      by true = (tt, s)
+      by : (b : Bool) → Good (if b then expire_as doc k q x (release_begun doc.settings.rules.release x.kind) h else h)
+      by true = subst Good (sym (expire_as-own doc own k q x h)) (tt, s)
       by false = s
 
   good_end : (k : ℕ) (q : Identity) (o : Option ℕ) (h : List Entry) → Good h → Good (end_term doc k q o h)
   good_end k q None h s = s
   good_end k q (Some at) h s = by (nat_lt (local doc q.process k) at)
     where
-      by : (b : Bool) → Good (if b then h else entry k 4 q Ends ∷ h)
+      by : (b : Bool) → Good (if b then h else end_as doc.settings.rules.release doc k q h)
       by true = s
-      by false = (tt, s)
+      by false = subst Good (sym (end_term-own doc own k q h)) (tt, s)
 
   good_try : (k : ℕ) (q : Identity) (h : List Entry) → Good h → Good (try doc k q h)
   good_try k q h s = by (is_fast_call (just_expired q k h)) (not (has (call_in q h)) && not (nat_lt (local doc q.process k) (timer doc q h)))
@@ -199,7 +209,7 @@ module _ (doc : Doc) (lawful : IsLawfulDoc doc) where
       let s2 : Good h2 = good_expiry k p h1 (good_restart k p below (alive p h) h s) in
       let s3 : Good h3 = good_up p (λ q T. end_term doc k q (deadline doc q T) T) (λ q T s. good_end k q (deadline doc q T) T s) (alive p h2) h2 s2 in
       let s4 : Good h4 = good_up p (try doc k) (good_try k) (alive p h3) h3 s3 in
-      good_up p (λ q T. (if (acts doc q k T) then tick doc k q T else T)) (λ q T s. good_tick k q (acts doc q k T) T s) (alive p h4) h4 s4
+      subst Good (sym (ticks-own doc own k p h4)) (good_up p (λ q T. (if (acts doc q k T) then tick doc k q T else T)) (λ q T s. good_tick k q (acts doc q k T) T s) (alive p h4) h4 s4)
   good_turn k p below false h s =
       let h1 = expire doc k p h in
       good_up p (round doc k) (good_round k) (alive p h1) h1 (good_expiry k p h s)

@@ -29,10 +29,12 @@ use Rattle.kube_objects.specs.Health.{is_pass_due, is_unknown, is_silent, marked
 use Rattle.kube_objects.specs.InForce.{watches}
 use Rattle.kube_objects.specs.Modes.{is_in, and_node, nodes_among, nodes, place_of, place_cmp, places, state_in, rate_in, all_full, mode}
 use Rattle.kube_objects.specs.Newest.{when, only_if}
+use Rattle.kube_objects.specs.Own.{IsOwn}
+use Rattle.kube_objects.proofs.Own.{cleaned-own, tainted-own, evict-own, evicted-own}
 use Rattle.kube_objects.specs.Seen.{seen, pod_in, seen_node, seen_pod, is_fresh, is_synced, is_stale, node_names, is_pod, pod_keys}
 use Rattle.kube_objects.specs.Stored.{Held, node_key, stored, next_version, node_write, try_write, tick_write}
 use Rattle.kube_objects.specs.Tainting.{Wants, Nothing, Wanted, Whatever, wants_by, wants_ready, wants, is_condition, has_condition, is_wanted, is_opposite, wanted_key, lacks, lacks_in, waits, Queued, head_of}
-use Rattle.kube_objects.specs.Tick.{add, for_each, sync, mark_as, mark_seen, mark, is_same_mode, mode_as, set_mode, zone_as, zone, set_zones, marks, pass, new_taint, with_taints, untainted, and_taint, swapped, clean_as, clean_seen, clean, cleaned, tainted_with, taint_as, taint_head, taint, tainted, evict, tick, whole_pass, add_untaint, add_swap, taint_first, phases}
+use Rattle.kube_objects.specs.Tick.{add, for_each, has_settled, is_stripped, sync, mark_as, mark_seen, mark, is_same_mode, mode_as, set_mode, zone_as, zone, set_zones, marks, pass, new_taint, with_taints, untainted, and_taint, swapped, clean_as, clean_seen, clean, cleaned, tainted_with, taint_as, taint_head, taint, tainted, evict, tick, whole_pass, add_untaint, add_swap, taint_first, phases}
 use Rattle.kube_objects.specs.Tokens.{rated, is_rated, has_token}
 use Rattle.kube_objects.specs.Tries.{as_answer, tried, try_node, try_delete}
 use Rattle.kube_objects.specs.Wire.{loses_requests}
@@ -40,7 +42,7 @@ use Rattle.kube_objects.specs.Writable.{answers_write, is_condition_key}
 use Rattle.history.specs.Printed.{map_answer, tick_act}
 use Rattle.history_laws.proofs.Counting.{only_test, only_value}
 use Rattle.history_laws.proofs.Plainly.{some_is, none_is, false_is, and_both, not_true}
-use Rattle.history_laws.proofs.Ticks.{IsPodKey, IsDelete, Each, pods_only, evict_step}
+use Rattle.history_laws.proofs.Ticks.{IsPodKey, IsDelete, Each, pods_only, evict_added}
 use Rattle.manifest_json.specs.Fields.{Texts}
 use Rattle.manifest_json.specs.Readable.{IsHeld, IsFilled, IsNameNumber, IsWholeSecond, IsReadableTaint, IsReadableReady, taints_differ}
 use Rattle.naming_laws.specs.WellFormed.{IsWellFormedNode}
@@ -128,7 +130,7 @@ bare_fit on place (Some y) x wanted at is =
 
 -- ---- the tick
 
-module _ (names : Texts) (known : List ℕ) (fixed : HoldsFixed names) (doc : Doc) (k : ℕ) (q : Identity) (early : IsEarly doc q.process k) where
+module _ (names : Texts) (known : List ℕ) (fixed : HoldsFixed names) (doc : Doc) (own : IsOwn doc) (k : ℕ) (q : Identity) (early : IsEarly doc q.process k) where
   abbrev Fit : List Entry → Type 0
   Fit h = AreFit names known h
 
@@ -307,7 +309,7 @@ module _ (names : Texts) (known : List ℕ) (fixed : HoldsFixed names) (doc : Do
   silent t h told wrote fit = (record { told = told; wrote = wrote; carries = tt }, fit)
 
   keeps_sync : (h : List Entry) → Fit h → Fit (sync doc k q h)
-  keeps_sync h fit = by_test (watches doc q.process h && not (is_fresh q h))
+  keeps_sync h fit = by_test (has_settled doc k q h && (watches doc q.process h && not (is_fresh q h)))
     where
       by_test : (b : Bool) → Fit (if b then add k q Sync h else h)
       by_test true = silent Sync h tt tt fit
@@ -378,7 +380,7 @@ module _ (names : Texts) (known : List ℕ) (fixed : HoldsFixed names) (doc : Do
       by_stale : (b : Bool) (o : Option (Version × Node)) → seen_node q name h ≡ o → Fit (clean_seen doc k q name b o h)
       by_stale true o is = fit
       by_stale false None is = fit
-      by_stale false (Some x) is = by_wants x (node_seen_fit names known q h fit name x is) (wants (mode q h) x.1) (wanted_fit (mode q h) x.1)
+      by_stale false (Some x) is = by_wants x (node_seen_fit names known q h fit name x is) (wants (is_stripped doc.settings.rules.first_sight k q name h || mode q h) x.1) (wanted_fit (is_stripped doc.settings.rules.first_sight k q name h || mode q h) x.1)
 
   keeps_taint : (place : Place) (h : List Entry) → Fit h → Fit (taint doc k q place h)
   keeps_taint place h fit = by_token (has_token doc q k place h)
@@ -398,7 +400,8 @@ module _ (names : Texts) (known : List ℕ) (fixed : HoldsFixed names) (doc : Do
       by_token true = by_head (head_of q place (node_names h) h)
 
   keeps_evict : (pod : Key) (h : List Entry) → IsPodKey pod → Fit h → Fit (evict doc k q pod h)
-  keeps_evict pod h kind fit = evict_step doc k q (AreFit names known) pod h kind fit (λ given node_given at a made. (delete_fact pod given node_given at a h fit made, fit))
+  keeps_evict pod h kind fit =
+      subst Fit (sym (evict-own doc own k q pod h)) (evict_added doc k q (AreFit names known) pod h kind fit (λ given node_given at a made. (delete_fact pod given node_given at a h fit made, fit)))
 
   evicts : (keys : List Key) (h : List Entry) → Each IsPodKey keys → Fit h → Fit (for_each (evict doc k q) keys h)
   evicts [] h all fit = fit
@@ -414,4 +417,7 @@ module _ (names : Texts) (known : List ℕ) (fixed : HoldsFixed names) (doc : Do
           let b = pass doc k q a in
           let d = cleaned doc k q b in
           let e = tainted doc k q d in
-          evicts (pod_keys e) e (pods_only e) (every (taint doc k q) keeps_taint (places (nodes q d)) d (every (clean doc k q) keeps_clean (node_names b) b (keeps_pass a (keeps_sync h fit))))
+          let fit_b : Fit b = keeps_pass a (keeps_sync h fit) in
+          let fit_d : Fit d = subst Fit (sym (cleaned-own doc own k q b)) (every (clean doc k q) keeps_clean (node_names b) b fit_b) in
+          let fit_e : Fit e = subst Fit (sym (tainted-own doc own k q d)) (every (taint doc k q) keeps_taint (places (nodes q d)) d fit_d) in
+          subst Fit (sym (evicted-own doc own k q e)) (evicts (pod_keys e) e (pods_only e) fit_e)

@@ -52,6 +52,7 @@ module _ (doc : Doc) (lawful : IsLawfulDoc doc) where
   what_rate p (what.Stop id) ok = tt
   what_rate p (what.Watch id on) ok = tt
   what_rate p (what.Pause id beats) ok = tt
+  what_rate p (what.Stall beats) ok = tt
   what_rate p (what.Ready id status) ok = tt
   what_rate p (what.Put key object) ok = tt
   what_rate p (what.Remove key) ok = tt

@@ -8,6 +8,8 @@ use Rattle.kube_objects.specs.Entry.{Fact, Entry, Identity, Mode, Pass, Ticks}
 use Rattle.kube_objects.specs.Health.{at_pass, grace_of, hears, heartbeat, is_found, is_known, is_probe, is_unknown, keeps, kept_heartbeat, kept_renewal, mark_of, probe, renewal, with_mark}
 use Rattle.kube_objects.specs.Identities.{is_by}
 use Rattle.kube_objects.specs.Newest.{join, only_if, or_else, or_zero, when}
+use Rattle.kube_objects.specs.Own.{IsOwn}
+use Rattle.kube_objects.proofs.Own.{heard-own}
 use Rattle.node_health.specs.declared.health.Health.{Health}
 use Rattle.node_health.specs.declared.known.Known.{Known}
 use Rattle.node_health.specs.Kept.{kept}
@@ -51,10 +53,10 @@ pub health-same : (doc : Doc) (q : Identity) (h g : List Entry) (x : Health) →
 health-same doc q h g x same s name = node-same doc q h g name (kept x name) same (s name)
 
 -- a node is to be marked as before
-pub mark-same : (doc : Doc) (q : Identity) (h g : List Entry) (k name : ℕ) (node : Node) → SaysSame q h g → mark_of doc q k name node g ≡ mark_of doc q k name node h
-mark-same doc q h g k name node same =
+pub mark-same : (doc : Doc) → IsOwn doc → (q : Identity) (h g : List Entry) (k name : ℕ) (node : Node) → SaysSame q h g → mark_of doc q k name node g ≡ mark_of doc q k name node h
+mark-same doc own q h g k name node same =
     ap (λ at. when (not (is_unknown node.ready) && nat_lt (local doc q.process at + grace_of doc node.ready) (local doc q.process k)) (with_mark (whole_second (wall doc q.process k)) node))
-    (same.probe name)
+    (heard-own doc own q name g ∙ same.probe name ∙ sym (heard-own doc own q name h))
 
 -- ---- entries after which each node is known as before
 

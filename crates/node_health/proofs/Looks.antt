@@ -11,6 +11,7 @@ use Rattle.kube_objects.specs.Health.{at_pass, grace_of, hears, heartbeat, is_fo
 use Rattle.kube_objects.specs.Identities.{is_by}
 use Rattle.kube_objects.specs.Newest.{has, join, newest, only_if, or_else, or_zero, when}
 use Rattle.kube_objects.specs.Tick.{add}
+use Rattle.kube_objects.proofs.Own.{heard-own}
 use Rattle.node_health.specs.declared.grace.Grace.{Grace}
 use Rattle.node_health.specs.declared.health.Health.{Health}
 use Rattle.node_health.specs.declared.known.Known.{Known}
@@ -177,7 +178,9 @@ look-marks doc k q h looked old node seen renewed now grace s fresh look =
     probe_is = probe-looked doc k q h node (kept old node) (ready_heartbeat seen.ready) renewed now here (ap node_heartbeat look.shown) look.lease look.reading
 
     silent_is : nat_lt (probe_after (kept old node) (ready_heartbeat seen.ready) renewed now + grace_for grace seen.ready) now ≡ is_silent doc q k node seen.ready (add k q Pass h)
-    silent_is = λ i. nat_lt (probe_is i + grace-is doc grace seen.ready look.graces i) (look.reading i)
+    silent_is =
+        (λ i. nat_lt (probe_is i + grace-is doc grace seen.ready look.graces i) (look.reading i))
+        ∙ ap (λ at. nat_lt (local doc q.process at + grace_of doc seen.ready) (local doc q.process k)) (sym (heard-own doc look.graces.own q node (add k q Pass h)))
 
 -- ---- the end of the all-Full mode
 

@@ -8,6 +8,7 @@ use Rattle.kube_objects.specs.Document.{Doc, of_millis}
 use Rattle.kube_objects.specs.Entry.{Entry, Identity, Fact, Ticks, Pass, Mode}
 use Rattle.kube_objects.specs.Health.{is_known, kept_heartbeat, kept_renewal, probe, renewal}
 use Rattle.kube_objects.specs.Newest.{has}
+use Rattle.kube_objects.specs.Own.{IsOwn}
 use Rattle.kube_objects.specs.Seen.{seen_node}
 use Rattle.kube_objects.specs.Tick.{add}
 use Rattle.node_health.specs.declared.grace.Grace.{Grace}
@@ -40,10 +41,11 @@ PassStands doc k q h looked health = (name : ℕ) → NodeStands doc q (passed k
 abbrev pub and_looked : ℕ → (ℕ → Bool) → ℕ → Bool
 and_looked node looked name = (node == name) || looked name
 
--- the graces are the document's
+-- the graces are the document's, which goes by the project's own rules
 pub record IsGraceOf (doc : Doc) (graces : Grace) : Type 0 where
   pub grace : graces.grace ≡ of_millis doc.settings.grace_period_millis
   pub startup : graces.startup ≡ of_millis doc.settings.startup_grace_millis
+  pub own : IsOwn doc
 
 -- what a pass over this history shows of a node, and when
 pub record IsLook (doc : Doc) (k : ℕ) (q : Identity) (h : List Entry) (name : ℕ) (node : Node) (renewed : Option Wall) (now : ℕ)

@@ -11,8 +11,9 @@ use Rattle.kube_objects.specs.Document.{Doc, of_seconds}
 use Rattle.kube_objects.specs.Entry.{Entry, Identity, actor_of}
 use Rattle.kube_objects.specs.Tick.{new_taint}
 use Rattle.kube_objects.specs.Tolerations.{first_tolerating, due_within, due_by, taint_due, earlier, least_due, due}
-use Rattle.history.specs.Evictions.{due_on, due_of, pod_due, IsDue, NotEarlyAt, NotEarlyIn, after_turn}
-use Rattle.history.specs.History.{history}
+use Rattle.kube_objects.proofs.Own.{is_stalled-own, has_settled-own}
+use Rattle.history.specs.Evictions.{due_on, due_of, pod_due, stored_due, due_for, IsDue, NoneDueWithin, NotEarlyAt, NotEarlyIn, after_turn}
+use Rattle.history.specs.History.{history, at_turn}
 use Rattle.history_laws.specs.Tails.{IsTail}
 use Rattle.history_laws.proofs.Plainly.{some_is, none_is}
 use Rattle.history_laws.proofs.Tailed.{tail_of_empty, same_head, same_rest}
@@ -76,12 +77,18 @@ pod_at doc q t seconds key h d = ap (λ o. due_of o h) d.has_pod ∙ ap (due_on 
 -- ---- gone
 
 pub pods_go : PodsGo
-pods_go doc q t k seconds slow enough dated attended runs is le key kind d =
-    prompt doc q k attended.0 attended.1 attended.2 key kind
+pods_go doc own q t k seconds slow enough dated attended runs is le key kind d =
+    none_due
     (subst (IsDue (wall doc q.process k)) (sym (pod_at doc q t seconds key (after_turn doc q.process k) d))
     (among_due (wall doc q.process k) (taint_due d.pod.1.tolerations) (new_taint doc t q d.wanted) d.node.1.taints d.tainted
     (subst (IsDue (wall doc q.process k)) (sym (taint_at doc q t seconds key (after_turn doc q.process k) d)) over)))
   where
+    none_due : IsDue (wall doc q.process k) (pod_due key (after_turn doc q.process k)) → ⊥
+    none_due =
+        subst (λ r. IsDue (wall doc q.process k) (stored_due r doc q key (after_turn doc q.process k)) → ⊥) (ap (λ r. r.evict_from) own.rules)
+        (subst (λ n. NoneDueWithin n doc q k (after_turn doc q.process k)) (ap (λ r. r.evict_burst) own.rules)
+        (prompt doc own q k attended.0 (is_stalled-own doc own k) (has_settled-own doc own k q (at_turn doc q.process k)) attended.1 attended.2) key kind)
+
     over : whole_second (wall doc q.process t) + seconds * 1000000 ≤ wall doc q.process k
     over = omega (
       arith,
@@ -96,11 +103,13 @@ early_at doc (x ∷ h) all e before (inl is) =
 early_at doc (x ∷ h) all e before (inr at) = early_at doc h all.1 e before at
 
 pub pods_stay : PodsStay
-pods_stay doc q t seconds end e before at after key given node_given version due_at by is d alone fast needed runs need =
+pods_stay doc own q t seconds end e before at after key given node_given version due_at by is d alone fast needed runs need =
     readings_last doc q.process t e.beat fast (of_seconds seconds + 1) needed runs need t e.beat (omega arith) after (omega arith) (reading_later doc q.process t e.beat seconds over)
   where
     timely : IsDue (wall doc q.process e.beat) (pod_due key before)
-    timely = subst (λ fact. NotEarlyAt doc e.beat (actor_of q) fact before) is (subst (λ who. NotEarlyAt doc e.beat who e.fact before) by (early_at doc (history doc end) (never_early doc end) e before at))
+    timely =
+        subst (λ r. IsDue (wall doc q.process e.beat) (due_for r doc q key before)) (ap (λ r. r.evict_from) own.rules)
+        (subst (λ fact. NotEarlyAt doc e.beat (actor_of q) fact before) is (subst (λ who. NotEarlyAt doc e.beat who e.fact before) by (early_at doc (history doc end) (never_early doc end) e before at)))
 
     over : whole_second (wall doc q.process t) + suc seconds * 1000000 ≤ wall doc q.process e.beat
     over = subst (IsDue (wall doc q.process e.beat)) (taint_at doc q t (suc seconds) key before d)

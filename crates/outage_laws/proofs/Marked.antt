@@ -12,16 +12,18 @@ use Rattle.kube_objects.specs.declared.node.Ready.{Ready}
 use Rattle.kube_objects.specs.Answers.{versioned, as_kind, node_in, answer_update}
 use Rattle.kube_objects.specs.Clocks.{local, wall, whole_second}
 use Rattle.kube_objects.specs.Document.{Doc}
-use Rattle.kube_objects.specs.Entry.{Entry, Identity, Fact, Ticks, Tick, Sync, Pass, Mark, Mode, Zone, Untaint, Swap, Head, Delete, actor_of, entry}
+use Rattle.kube_objects.specs.Entry.{Entry, Identity, Fact, Ticks, Tick, Sync, Pass, Mark, Mode, Zone, Untaint, Swap, Head, Delete, Skip, actor_of, entry}
 use Rattle.kube_objects.specs.Health.{at_pass, is_found, is_known, hears, is_probe, probe, is_unknown, is_silent, with_mark, mark_of}
 use Rattle.kube_objects.specs.Identities.{is_by}
 use Rattle.kube_objects.specs.Keys.{key_eq}
 use Rattle.kube_objects.specs.Newest.{newest, when, only_if, join, or_else, or_zero}
+use Rattle.kube_objects.specs.Own.{IsOwn}
 use Rattle.kube_objects.specs.Seen.{seen_node}
 use Rattle.kube_objects.specs.Stored.{Held, node_key, node_write, holds, last_write, stored, next_version}
 use Rattle.kube_objects.specs.Tick.{add, for_each, mark_as, mark_seen, mark}
 use Rattle.kube_objects.specs.Tries.{as_answer, try_node}
 use Rattle.kube_objects.specs.Wire.{loses_requests}
+use Rattle.kube_objects.proofs.Own.{heard-own}
 use Rattle.history_laws.specs.Tails.{IsTail}
 use Rattle.history_laws.proofs.Plainly.{upper, same_self, true_is}
 use Rattle.eviction_laws.proofs.Cache.{Mirrors, mirrors_more}
@@ -76,6 +78,7 @@ own_heard q name a k (Untaint n given written tried) h other on s = record { pro
 own_heard q name a k (Swap n wanted given written tried) h other on s = record { probe = s.probe; known = s.known }
 own_heard q name a k (Head place n wanted given written tried) h other on s = record { probe = s.probe; known = s.known }
 own_heard q name a k (Delete pod given node_given due tried) h other on s = record { probe = s.probe; known = s.known }
+own_heard q name a k (Skip place n) h other on s = record { probe = s.probe; known = s.known }
 
 -- a pass that finds it
 pub passed : (q : Identity) (name a k : ℕ) (h : List Entry) → is_found q name h ≡ true → (b : Bool) → hears q name h ≡ b → ((b ≡ true → k ≡ a) × (b ≡ false → Heard q name a h)) → Heard q name a (add k q Pass h)
@@ -128,7 +131,7 @@ mark_elsewhere x name k q given written tried h differs = by_answer tried
     by_answer (Some answer.Exists) = refl
     by_answer (Some (answer.Conflict v)) = refl
 
-module _ (doc : Doc) (q : Identity) (name a m : ℕ) (held : Held) (node : Node) (posted : IsReadyKnown node.ready) (over : local doc q.process a + (grace_period doc + 1) ≤ local doc q.process m) where
+module _ (doc : Doc) (own : IsOwn doc) (q : Identity) (name a m : ℕ) (held : Held) (node : Node) (posted : IsReadyKnown node.ready) (over : local doc q.process a + (grace_period doc + 1) ≤ local doc q.process m) where
   -- the mark of another node
   others : (x : ℕ) (h : List Entry) → (x ≡ name → ⊥) → Markable q name a held node h → Markable q name a held node (mark doc m q x h)
   others x h differs s = by_seen (seen_node q x h)
@@ -160,7 +163,7 @@ module _ (doc : Doc) (q : Identity) (name a m : ℕ) (held : Held) (node : Node)
   marks_it h s = by_ready node.ready refl posted
     where
       silent : (r : Ready) → is_silent doc q m name (Some r) h ≡ true
-      silent r = ap (λ n. nat_lt (local doc q.process n + grace_period doc) (local doc q.process m)) s.heard.probe ∙ lt-ltb (local doc q.process a + grace_period doc) (local doc q.process m) (omega (arith, over))
+      silent r = ap (λ n. nat_lt (local doc q.process n + grace_period doc) (local doc q.process m)) (heard-own doc own q name h ∙ s.heard.probe) ∙ lt-ltb (local doc q.process a + grace_period doc) (local doc q.process m) (omega (arith, over))
 
       by_ready : (o : Option Ready) → node.ready ≡ o → IsReadyKnown o → mark_of doc q m name node h ≡ Some (with_mark (whole_second (wall doc q.process m)) node)
       by_ready None is known = absurd known

@@ -1,4 +1,4 @@
--- Passes come a monitor period apart.
+-- Passes come a monitor period apart, under the project's own rules.
 use Rattle.std.proofs.Common.{◌≡◌, ◌⊎◌, ◌≤◌, ◌<◌, ℕ, zero, suc, ◌+◌, ◌-◌, ◌&&◌, not, nat_le, Bool, true, false, List, ◌∷◌, Option, Some, None, refl, sym, ap, ◌∙◌, subst, inl, inr, ⊎_elim, arith, if◌then◌else◌}
 use Rattle.std.specs.Prelude.{if◌then◌else◌}
 use Rattle.std.proofs.lemmas.Bool.{leb-true, le-leb, cases_lt, cases_eq}
@@ -6,11 +6,14 @@ use Rattle.kube_objects.specs.declared.deed.Actor.{Actor}
 use Rattle.kube_objects.specs.Clocks.{local}
 use Rattle.kube_objects.specs.Document.{Doc}
 use Rattle.kube_objects.specs.Entry.{Entry, Identity, Fact, Ticks, Tick, Sync, Pass}
-use Rattle.kube_objects.specs.Health.{pass_says, last_pass, is_after_pass}
+use Rattle.kube_objects.specs.Health.{pass_says, last_pass, pass_period, is_after_pass}
 use Rattle.kube_objects.specs.Identities.{is_by}
+use Rattle.kube_objects.specs.InForce.{watches}
 use Rattle.kube_objects.specs.Newest.{newest, when, or_else}
+use Rattle.kube_objects.specs.Own.{IsOwn}
 use Rattle.kube_objects.specs.Seen.{is_fresh, synced_says, is_synced}
 use Rattle.kube_objects.specs.Tick.{add, whole_pass, phases, evicted, tainted, cleaned}
+use Rattle.kube_objects.proofs.Own.{has_settled-own, pass_period-own}
 use Rattle.history.specs.Evictions.{after_turn}
 use Rattle.history.specs.History.{at_turn}
 use Rattle.history.specs.Steps.{elector_turn}
@@ -47,12 +50,15 @@ own_pass q k t other h = refl
 abbrev LastPass : Identity → Option ℕ → List Entry → Type 0
 LastPass q o h = last_pass q h ≡ o
 
-module _ (doc : Doc) (q : Identity) (k : ℕ) (attended : IsAttended doc q k) where
+module _ (doc : Doc) (own : IsOwn doc) (q : Identity) (k : ℕ) (attended : IsAttended doc q k) where
   begun : List Entry
   begun = elector_turn doc k q.process (at_turn doc q.process k)
 
   synced : is_synced q (synced_at doc q k) ≡ true
-  synced = ap (λ b. is_synced q (if (b && not (is_fresh q h)) then add k q Sync h else h)) (ready doc q k attended).watching ∙ by_test (is_fresh q h) refl
+  synced =
+      ap (λ b. is_synced q (if (b && (watches doc q.process h && not (is_fresh q h))) then add k q Sync h else h)) (has_settled-own doc own k q h)
+      ∙ ap (λ b. is_synced q (if (b && not (is_fresh q h)) then add k q Sync h else h)) (ready doc own q k attended).watching
+      ∙ by_test (is_fresh q h) refl
     where
       h : List Entry
       h = elector_turn doc k q.process (at_turn doc q.process k)
@@ -63,31 +69,33 @@ module _ (doc : Doc) (q : Identity) (k : ℕ) (attended : IsAttended doc q k) wh
 
   -- the turn is what follows the sync
   pub turn_phases : after_turn doc q.process k ≡ phases doc k q (synced_at doc q k)
-  turn_phases = turn_is doc q k attended ∙ ap (λ b. if b then phases doc k q (synced_at doc q k) else synced_at doc q k) synced
+  turn_phases = turn_is doc own q k attended ∙ ap (λ b. if b then phases doc k q (synced_at doc q k) else synced_at doc q k) synced
 
   after_pass : has_pass doc q k ≡ true → LastPass q (Some k) (after_turn doc q.process k)
   after_pass due =
       let h = synced_at doc q k in
       ap (last_pass q) (turn_phases ∙ ap (λ b. evicted doc k q (tainted doc k q (cleaned doc k q (if b then whole_pass doc k q h else h)))) due)
-      ∙ keep_passed doc k q (LastPass q (Some k)) (λ t other g s. own_pass q k t other g ∙ s) (add k q Pass h) (ap (λ b. upper (when b k) (last_pass q h)) (same_self q))
+      ∙ keep_passed doc own k q (LastPass q (Some k)) (λ t other g s. own_pass q k t other g ∙ s) (add k q Pass h) (ap (λ b. upper (when b k) (last_pass q h)) (same_self q))
 
   after_none : (r : ℕ) → has_pass doc q k ≡ false → LastPass q (Some r) (synced_at doc q k) → LastPass q (Some r) (after_turn doc q.process k)
   after_none r none last =
       let h = synced_at doc q k in
       ap (last_pass q) (turn_phases ∙ ap (λ b. evicted doc k q (tainted doc k q (cleaned doc k q (if b then whole_pass doc k q h else h)))) none)
-      ∙ keep_later doc k q (LastPass q (Some r)) (λ t other g s. own_pass q k t other g ∙ s) h last
+      ∙ keep_later doc own k q (LastPass q (Some r)) (λ t other g s. own_pass q k t other g ∙ s) h last
 
   at_sync : (r : ℕ) → LastPass q (Some r) (at_turn doc q.process k) → LastPass q (Some r) (synced_at doc q k)
   at_sync r last =
-      keep_sync doc k q (LastPass q (Some r)) (λ t other g s. own_pass q k t other g ∙ s) (elector_turn doc k q.process (at_turn doc q.process k))
-      (to_tick doc q (LastPass q (Some r)) (λ x h other s. foreign_pass q x h other ∙ s) k attended last)
+      keep_sync doc own k q (LastPass q (Some r)) (λ t other g s. own_pass q k t other g ∙ s) (elector_turn doc k q.process (at_turn doc q.process k))
+      (to_tick doc own q (LastPass q (Some r)) (λ x h other s. foreign_pass q x h other ∙ s) k attended last)
 
   on : (r : ℕ) → LastPass q (Some r) (after_turn doc q.process k) → LastPass q (Some r) (at_turn doc q.process (suc k))
-  on r last = next_turn doc q (LastPass q (Some r)) (λ x h other s. foreign_pass q x h other ∙ s) k (below_processes doc q k attended) last
+  on r last = next_turn doc own q (LastPass q (Some r)) (λ x h other s. foreign_pass q x h other ∙ s) k (below_processes doc q k attended) last
 
   -- it is due once the monitor period is over
   due_is : (r : ℕ) → LastPass q (Some r) (at_turn doc q.process k) → has_pass doc q k ≡ nat_le (local doc q.process r + monitor_period doc) (local doc q.process k)
-  due_is r last = ap (is_after_pass doc k q) (at_sync r last)
+  due_is r last =
+      ap (is_after_pass doc k q (pass_period doc q (synced_at doc q k))) (at_sync r last)
+      ∙ ap (λ n. nat_le (local doc q.process r + n) (local doc q.process k)) (pass_period-own doc own q (synced_at doc q k))
 
 -- ---- the next pass
 
@@ -107,7 +115,7 @@ none_more f r k missing none j after before = by_case (cases_eq j k)
     by_case (inl same) = subst (λ j. f j ≡ false) (sym same) missing
     by_case (inr other) = none j after (omega (arith, before, other))
 
-module _ (doc : Doc) (q : Identity) (a e : ℕ) (attends : Attends doc q a e) (slow far : ℕ) (runs : RunsAtLeast doc q.process a e slow) (enough_far : IsEnough slow (monitor_period doc) far) where
+module _ (doc : Doc) (own : IsOwn doc) (q : Identity) (a e : ℕ) (attends : Attends doc q a e) (slow far : ℕ) (runs : RunsAtLeast doc q.process a e slow) (enough_far : IsEnough slow (monitor_period doc) far) where
   abbrev NoneYet : ℕ → ℕ → Type 0
   NoneYet r k = (j : ℕ) → r < j → j < k → has_pass doc q j ≡ false
 
@@ -120,7 +128,7 @@ module _ (doc : Doc) (q : Identity) (a e : ℕ) (attends : Attends doc q a e) (s
     after = lt;
     most = le;
     pass = due;
-    over = leb-true (local doc q.process r + monitor_period doc) (local doc q.process k) (sym (due_is doc q k here r last) ∙ due);
+    over = leb-true (local doc q.process r + monitor_period doc) (local doc q.process k) (sym (due_is doc own q k here r last) ∙ due);
     none = none;
   }
 
@@ -137,7 +145,7 @@ module _ (doc : Doc) (q : Identity) (a e : ℕ) (attends : Attends doc q a e) (s
       by_pass true due = found r k here lt (omega (arith, is)) last none due
       by_pass false missing =
           let time : local doc q.process r + monitor_period doc ≤ local doc q.process k = readings_grow doc q.process a e slow (monitor_period doc) far runs enough_far r k from (omega (arith, is)) (omega (arith, is, within)) in
-          absurd (true_is (sym (le-leb (local doc q.process r + monitor_period doc) (local doc q.process k) time) ∙ sym (due_is doc q k here r last) ∙ missing))
+          absurd (true_is (sym (le-leb (local doc q.process r + monitor_period doc) (local doc q.process k) time) ∙ sym (due_is doc own q k here r last) ∙ missing))
   search (suc n) r k from within is lt last none = by_pass (λ next missing. search n r (suc k) from within (omega (arith, is)) (omega (arith, lt)) next missing) (has_pass doc q k) refl
     where
       here : IsAttended doc q k
@@ -145,17 +153,17 @@ module _ (doc : Doc) (q : Identity) (a e : ℕ) (attends : Attends doc q a e) (s
 
       by_pass : (LastPass q (Some r) (at_turn doc q.process (suc k)) → NoneYet r (suc k) → Next doc q r far) → (b : Bool) → has_pass doc q k ≡ b → Next doc q r far
       by_pass go true due = found r k here lt (omega (arith, is)) last none due
-      by_pass go false missing = go (on doc q k here r (after_none doc q k here r missing (at_sync doc q k here r last))) (one_more r k missing none)
+      by_pass go false missing = go (on doc own q k here r (after_none doc own q k here r missing (at_sync doc own q k here r last))) (one_more r k missing none)
 
   pub next_pass : (r : ℕ) → a ≤ r → 1 ≤ far → r + far ≤ e → has_pass doc q r ≡ true → Next doc q r far
   next_pass r from some within due =
       let here = attends r from (omega (arith, within)) in
-      search (far - 1) r (suc r) from within (omega (arith, some)) (omega arith) (on doc q r here r (after_pass doc q r here due)) (λ j after before. absurd (omega (arith, after, before)))
+      search (far - 1) r (suc r) from within (omega (arith, some)) (omega arith) (on doc own q r here r (after_pass doc own q r here due)) (λ j after before. absurd (omega (arith, after, before)))
 
 -- ---- the pass that finds a time over
 
 pub passes_find : PassesFind
-passes_find doc q a e attends first slow fast near far slowly fastly near_needed far_enough some time enough needed most one is need greatest within =
+passes_find doc own q a e attends first slow fast near far slowly fastly near_needed far_enough some time enough needed most one is need greatest within =
     find (enough + far + 1) 0 a (first_look near far a) (first_most near far enough a) first (λ k after before pass. absurd (omega (arith, after, before))) (omega arith)
   where
     Result : Type 0
@@ -190,7 +198,7 @@ passes_find doc q a e attends first slow fast near far slowly fastly near_needed
         next go missed =
             let soon : r < a + enough = not_over doc q.process a e slow time enough slowly is a r (omega arith) end missed in
             let reach : IsAtMost near far enough ((r + far) - a) = next_most near far enough a i r (r + far) look soon (omega arith) (omega arith) in
-            let p = next_pass doc q a e attends slow far slowly far_enough r from some (omega (arith, greatest ((r + far) - a) reach, within, from)) due in
+            let p = next_pass doc own q a e attends slow far slowly far_enough r from some (omega (arith, greatest ((r + far) - a) reach, within, from)) due in
             let stop : p.at ≤ e = omega (arith, p.most, greatest ((r + far) - a) reach, within, from) in
             go p.at
             (next_look near far a i r p.at look (readings_last doc q.process a e fast (monitor_period doc) near fastly near_needed r p.at from (omega (arith, p.after)) stop p.over) p.most)

@@ -1,5 +1,5 @@
--- What each entry of a tick but its pass keeps.
-use Rattle.std.proofs.Common.{◌≡◌, ◌&&◌, not, ℕ, Bool, true, false, List, [], ◌∷◌, Option, Some, None, refl, if◌then◌else◌}
+-- What each entry of a tick but its pass keeps, under the project's own rules.
+use Rattle.std.proofs.Common.{◌≡◌, ◌&&◌, ◌||◌, not, ℕ, Bool, true, false, List, [], ◌∷◌, Option, Some, None, refl, sym, subst, if◌then◌else◌}
 use Rattle.std.specs.Prelude.{if◌then◌else◌, nat_le}
 use Rattle.std.specs.List.{list_any}
 use Rattle.kube_base.specs.declared.numbers.Version.{Version}
@@ -15,24 +15,26 @@ use Rattle.kube_objects.specs.Entry.{Entry, Identity, Place, Tick, Sync, Pass, M
 use Rattle.kube_objects.specs.Health.{mark_of}
 use Rattle.kube_objects.specs.InForce.{watches}
 use Rattle.kube_objects.specs.Modes.{nodes, places, state_in, rate_in, all_full, mode}
+use Rattle.kube_objects.specs.Own.{IsOwn}
 use Rattle.kube_objects.specs.Seen.{seen_node, seen_pod, is_fresh, is_stale, node_names, pod_keys}
 use Rattle.kube_objects.specs.Stored.{node_key}
 use Rattle.kube_objects.specs.Tainting.{Wants, Nothing, Wanted, Whatever, wants, has_condition, is_opposite, waits, Queued, head_of}
-use Rattle.kube_objects.specs.Tick.{add, for_each, sync, mark_as, mark_seen, mark, is_same_mode, mode_as, set_mode, zone_as, zone, set_zones, marks, clean_as, clean_seen, clean, cleaned, taint_as, taint_head, taint, tainted, evict_due, evict_on, evict_seen, evict, evicted, add_untaint, add_swap, taint_first, add_delete}
+use Rattle.kube_objects.specs.Tick.{add, for_each, has_settled, is_stripped, sync, mark_as, mark_seen, mark, is_same_mode, mode_as, set_mode, zone_as, zone, set_zones, marks, clean_as, clean_seen, clean, cleaned, taint_as, taint_head, taint, tainted, evict_due, evict_on, evict_seen, evict, evicted, add_untaint, add_swap, taint_first, add_delete}
 use Rattle.kube_objects.specs.Tokens.{rated, is_rated, has_token}
 use Rattle.kube_objects.specs.Tolerations.{due}
+use Rattle.kube_objects.proofs.Own.{cleaned-own, tainted-own, evict-own, evicted-own}
 
 abbrev pub is_pass : Tick → Bool
 is_pass Pass = true
 is_pass _ = false
 
-module _ (doc : Doc) (k : ℕ) (q : Identity) (P : List Entry → Type 0) (more : (t : Tick) → is_pass t ≡ false → (h : List Entry) → P h → P (add k q t h)) where
+module _ (doc : Doc) (own : IsOwn doc) (k : ℕ) (q : Identity) (P : List Entry → Type 0) (more : (t : Tick) → is_pass t ≡ false → (h : List Entry) → P h → P (add k q t h)) where
   every : {A : Type 0} (f : A → List Entry → List Entry) → ((a : A) (h : List Entry) → P h → P (f a h)) → (xs : List A) (h : List Entry) → P h → P (for_each f xs h)
   every f keeps [] h p = p
   every f keeps (x ∷ xs) h p = every f keeps xs (f x h) (keeps x h p)
 
   pub keep_sync : (h : List Entry) → P h → P (sync doc k q h)
-  keep_sync h p = by_test (watches doc q.process h && not (is_fresh q h))
+  keep_sync h p = by_test (has_settled doc k q h && (watches doc q.process h && not (is_fresh q h)))
     where
       by_test : (b : Bool) → P (if b then add k q Sync h else h)
       by_test true = more Sync refl h p
@@ -94,7 +96,7 @@ module _ (doc : Doc) (k : ℕ) (q : Identity) (P : List Entry → Type 0) (more 
       by_stale : (b : Bool) (o : Option (Version × Node)) → P (clean_seen doc k q name b o h)
       by_stale true o = p
       by_stale false None = p
-      by_stale false (Some x) = by_wants x (wants (mode q h) x.1)
+      by_stale false (Some x) = by_wants x (wants (is_stripped doc.settings.rules.first_sight k q name h || mode q h) x.1)
 
   keep_taint : (place : Place) (h : List Entry) → P h → P (taint doc k q place h)
   keep_taint place h p = by_token (has_token doc q k place h)
@@ -113,7 +115,7 @@ module _ (doc : Doc) (k : ℕ) (q : Identity) (P : List Entry → Type 0) (more 
       by_token true = by_head (head_of q place (node_names h) h)
 
   keep_evict : (pod : Key) (h : List Entry) → P h → P (evict doc k q pod h)
-  keep_evict pod h p = by_stale (is_stale q pod h) (seen_pod q pod h)
+  keep_evict pod h p = subst P (sym (evict-own doc own k q pod h)) (by_stale (is_stale q pod h) (seen_pod q pod h))
     where
       by_time : (x : Version × Pod) (y : Version × Node) (at : ℕ) (b : Bool) → P (if b then add_delete k q pod x.0 x.1.node y.0 at h else h)
       by_time x y at false = p
@@ -137,7 +139,9 @@ module _ (doc : Doc) (k : ℕ) (q : Identity) (P : List Entry → Type 0) (more 
   keep_later h p =
       let a = cleaned doc k q h in
       let b = tainted doc k q a in
-      every (evict doc k q) keep_evict (pod_keys b) b (every (taint doc k q) keep_taint (places (nodes q a)) a (every (clean doc k q) keep_clean (node_names h) h p))
+      let cleans : P a = subst P (sym (cleaned-own doc own k q h)) (every (clean doc k q) keep_clean (node_names h) h p) in
+      let taints : P b = subst P (sym (tainted-own doc own k q a)) (every (taint doc k q) keep_taint (places (nodes q a)) a cleans) in
+      subst P (sym (evicted-own doc own k q b)) (every (evict doc k q) keep_evict (pod_keys b) b taints)
 
   -- what follows the entry of a pass
   pub keep_passed : (h : List Entry) → P h → P (evicted doc k q (tainted doc k q (cleaned doc k q (set_zones doc k q (set_mode doc k q (marks doc k q h))))))

@@ -1,4 +1,4 @@
--- From the last pass that hears of a node to its mark.
+-- From the last pass that hears of a node to its mark, under the project's own rules.
 use Rattle.std.proofs.Common.{◌≡◌, ◌≤◌, ◌<◌, ℕ, zero, suc, ◌+◌, ◌-◌, ◌&&◌, not, Bool, true, false, List, ◌∷◌, Option, Some, None, refl, sym, ap, ◌∙◌, subst, inr, ⊎_elim, arith, if◌then◌else◌}
 use Rattle.std.specs.Prelude.{if◌then◌else◌}
 use Rattle.std.proofs.lemmas.Bool.{cases_eq}
@@ -12,10 +12,12 @@ use Rattle.kube_objects.specs.Entry.{Entry, Identity, Ticks, Tick, Sync, Pass, M
 use Rattle.kube_objects.specs.Health.{is_found, hears}
 use Rattle.kube_objects.specs.InForce.{watches}
 use Rattle.kube_objects.specs.Newest.{has}
+use Rattle.kube_objects.specs.Own.{IsOwn}
 use Rattle.kube_objects.specs.Seen.{is_fresh, node_names}
 use Rattle.kube_objects.specs.Stored.{Held, node_key, stored}
-use Rattle.kube_objects.specs.Tick.{add, marks, set_mode, set_zones, whole_pass, evicted, tainted, cleaned}
+use Rattle.kube_objects.specs.Tick.{add, has_settled, marks, set_mode, set_zones, whole_pass, evicted, tainted, cleaned}
 use Rattle.kube_objects.specs.Wire.{loses_requests}
+use Rattle.kube_objects.proofs.Own.{has_settled-own}
 use Rattle.history.specs.Evictions.{after_turn, stored_node}
 use Rattle.history.specs.History.{history, at_turn}
 use Rattle.history.specs.Steps.{elector_turn}
@@ -38,22 +40,24 @@ record Synced (q : Identity) (h : List Entry) : Type 0 where
   mirrors : Mirrors q h
   passes : loses_requests q.process h ≡ false
 
-module _ (doc : Doc) (q : Identity) (k : ℕ) (attended : IsAttended doc q k) where
+module _ (doc : Doc) (own : IsOwn doc) (q : Identity) (k : ℕ) (attended : IsAttended doc q k) where
   abbrev begun : List Entry
   begun = elector_turn doc k q.process (at_turn doc q.process k)
 
   synced : Synced q (synced_at doc q k)
-  synced = subst (λ b. Synced q (if (b && not (is_fresh q begun)) then add k q Sync begun else begun)) (sym (ready doc q k attended).watching) (by_test (is_fresh q begun) refl)
+  synced =
+      subst (λ b. Synced q (if (b && (watches doc q.process begun && not (is_fresh q begun))) then add k q Sync begun else begun)) (sym (has_settled-own doc own k q begun))
+      (subst (λ b. Synced q (if (b && not (is_fresh q begun)) then add k q Sync begun else begun)) (sym (ready doc own q k attended).watching) (by_test (is_fresh q begun) refl))
     where
       by_test : (b : Bool) → is_fresh q begun ≡ b → Synced q (if (not b) then add k q Sync begun else begun)
-      by_test true is = record { mirrors = fresh q begun is; passes = (ready doc q k attended).passing }
-      by_test false is = record { mirrors = mirrors_sync q begun k; passes = (ready doc q k attended).passing }
+      by_test true is = record { mirrors = fresh q begun is; passes = (ready doc own q k attended).passing }
+      by_test false is = record { mirrors = mirrors_sync q begun k; passes = (ready doc own q k attended).passing }
 
   heard_sync : (name a : ℕ) → Heard q name a (at_turn doc q.process k) → Heard q name a (synced_at doc q k)
-  heard_sync name a s = by_test (watches doc q.process begun && not (is_fresh q begun))
+  heard_sync name a s = by_test (has_settled doc k q begun && (watches doc q.process begun && not (is_fresh q begun)))
     where
       at_tick : Heard q name a begun
-      at_tick = to_tick doc q (Heard q name a) (foreign_heard q name a) k attended s
+      at_tick = to_tick doc own q (Heard q name a) (foreign_heard q name a) k attended s
 
       by_test : (b : Bool) → Heard q name a (if b then add k q Sync begun else begun)
       by_test true = record { probe = at_tick.probe; known = at_tick.known }
@@ -84,14 +88,14 @@ module _ (doc : Doc) (q : Identity) (k : ℕ) (attended : IsAttended doc q k) wh
     with_pass : has_pass doc q k ≡ true → Heard q name a (add k q Pass (synced_at doc q k)) → Heard q name a (after_turn doc q.process k)
     with_pass due heard =
         let h = synced_at doc q k in
-        let e = turn_phases doc q k attended ∙ ap (λ b. evicted doc k q (tainted doc k q (cleaned doc k q (if b then whole_pass doc k q h else h)))) due in
-        subst (Heard q name a) (sym e) (keep_passed doc k q InBeat one (add k q Pass h) (λ at. heard) (subst (λ g. IsTail g (history doc (suc k))) e in_history))
+        let e = turn_phases doc own q k attended ∙ ap (λ b. evicted doc k q (tainted doc k q (cleaned doc k q (if b then whole_pass doc k q h else h)))) due in
+        subst (Heard q name a) (sym e) (keep_passed doc own k q InBeat one (add k q Pass h) (λ at. heard) (subst (λ g. IsTail g (history doc (suc k))) e in_history))
 
     without_pass : has_pass doc q k ≡ false → Heard q name a (synced_at doc q k) → Heard q name a (after_turn doc q.process k)
     without_pass missing heard =
         let h = synced_at doc q k in
-        let e = turn_phases doc q k attended ∙ ap (λ b. evicted doc k q (tainted doc k q (cleaned doc k q (if b then whole_pass doc k q h else h)))) missing in
-        subst (Heard q name a) (sym e) (keep_later doc k q InBeat one h (λ at. heard) (subst (λ g. IsTail g (history doc (suc k))) e in_history))
+        let e = turn_phases doc own q k attended ∙ ap (λ b. evicted doc k q (tainted doc k q (cleaned doc k q (if b then whole_pass doc k q h else h)))) missing in
+        subst (Heard q name a) (sym e) (keep_later doc own k q InBeat one h (λ at. heard) (subst (λ g. IsTail g (history doc (suc k))) e in_history))
 
     -- with the entry of the pass
     at_pass : has_pass doc q k ≡ true → IsPosted (stored_node name (synced_at doc q k)) → (a < k → Heard q name a (synced_at doc q k)) → Heard q name a (add k q Pass (synced_at doc q k))
@@ -105,7 +109,7 @@ module _ (doc : Doc) (q : Identity) (k : ℕ) (attended : IsAttended doc q k) wh
             passed q name a k (synced_at doc q k) (found name posted) false (s.silent k lt to due) (λ b. absurd (false_is b), λ b. old lt)
 
     after : IsPosted (stored_node name (synced_at doc q k)) → (a < k → Heard q name a (at_turn doc q.process k)) → Heard q name a (at_turn doc q.process (suc k))
-    after posted old = next_turn doc q (Heard q name a) (foreign_heard q name a) k (below_processes doc q k attended) (by_pass (has_pass doc q k) refl)
+    after posted old = next_turn doc own q (Heard q name a) (foreign_heard q name a) k (below_processes doc q k attended) (by_pass (has_pass doc q k) refl)
       where
         by_pass : (b : Bool) → has_pass doc q k ≡ b → Heard q name a (after_turn doc q.process k)
         by_pass true due = with_pass due (at_pass due posted (λ lt. heard_sync name a (old lt)))
@@ -124,15 +128,15 @@ module _ (doc : Doc) (q : Identity) (k : ℕ) (attended : IsAttended doc q k) wh
             let b = set_mode doc k q (marks doc k q g) in
             let more = λ (t : Tick) (other : is_pass t ≡ false) (f : List Entry) (s : Stands q name k f). stands_more q name k (entry k 4 q (Ticks t)) f s in
             let done : Stands q name k (evicted doc k q (tainted doc k q (cleaned doc k q (set_zones doc k q b)))) =
-            keep_later doc k q (Stands q name k) more (set_zones doc k q b) (keep_zones doc k q (Stands q name k) more b (keep_mode doc k q (Stands q name k) more (marks doc k q g) m)) in
-            let e = turn_phases doc q k attended ∙ ap (λ b. evicted doc k q (tainted doc k q (cleaned doc k q (if b then whole_pass doc k q (synced_at doc q k) else synced_at doc q k)))) due in
+            keep_later doc own k q (Stands q name k) more (set_zones doc k q b) (keep_zones doc own k q (Stands q name k) more b (keep_mode doc own k q (Stands q name k) more (marks doc k q g) m)) in
+            let e = turn_phases doc own q k attended ∙ ap (λ b. evicted doc k q (tainted doc k q (cleaned doc k q (if b then whole_pass doc k q (synced_at doc q k) else synced_at doc q k)))) due in
             let all = subst (Stands q name k) (sym e) done in
             record { given = all.given; written = all.written; version = all.version; before = all.before; stands = tail_trans (entry k 4 q (Ticks (Mark name all.given all.written (Some (answer.Done all.version)))) ∷ all.before) (after_turn doc q.process k) (history doc (suc k)) all.stands in_history }
 
         by_node : (held : Held) → stored (node_key name) (synced_at doc q k) ≡ Some held → (o : Option Node) → node_in held.object ≡ o → IsPosted (versioned held.version o) → IsMarked doc q name k
         by_node held here None is known = absurd known
         by_node held here (Some node) is known =
-            finish (reach doc q name a k held node known over (node_names (add k q Pass (synced_at doc q k))) (add k q Pass (synced_at doc q k)) (named_node name (add k q Pass (synced_at doc q k)) held here)
+            finish (reach doc own q name a k held node known over (node_names (add k q Pass (synced_at doc q k))) (add k q Pass (synced_at doc q k)) (named_node name (add k q Pass (synced_at doc q k)) held here)
             (record { heard = heard; mirrors = mirrors_more q (synced_at doc q k) k Pass synced.mirrors; passes = synced.passes; here = here; is = is }))
 
         by_held : (o : Option Held) → stored (node_key name) (synced_at doc q k) ≡ o → IsPosted (as_kind node_in o) → IsMarked doc q name k
@@ -141,25 +145,25 @@ module _ (doc : Doc) (q : Identity) (k : ℕ) (attended : IsAttended doc q k) wh
 
 -- ---- beat by beat
 
-heard_at : (doc : Doc) (q : Identity) (name a e m : ℕ) → Attends doc q a e → IsLastHeard doc q name a e → m ≤ e → StaysPosted doc q name a m → (n : ℕ) → a + n < m → Heard q name a (at_turn doc q.process (suc (a + n)))
-heard_at doc q name a e m attends s end posted zero lt =
+heard_at : (doc : Doc) → IsOwn doc → (q : Identity) (name a e m : ℕ) → Attends doc q a e → IsLastHeard doc q name a e → m ≤ e → StaysPosted doc q name a m → (n : ℕ) → a + n < m → Heard q name a (at_turn doc q.process (suc (a + n)))
+heard_at doc own q name a e m attends s end posted zero lt =
     let same : a + 0 ≡ a = omega arith in
     subst (λ k. Heard q name a (at_turn doc q.process (suc k))) (sym same)
-    (after doc q a (attends a (omega arith) (omega (arith, lt, end))) name a e (omega arith) (omega (arith, lt, end)) s (posted a (omega arith) (omega (arith, lt))) (λ less. absurd (omega (arith, less))))
-heard_at doc q name a e m attends s end posted (suc n) lt =
+    (after doc own q a (attends a (omega arith) (omega (arith, lt, end))) name a e (omega arith) (omega (arith, lt, end)) s (posted a (omega arith) (omega (arith, lt))) (λ less. absurd (omega (arith, less))))
+heard_at doc own q name a e m attends s end posted (suc n) lt =
     let same : a + suc n ≡ suc (a + n) = omega arith in
-    let old = heard_at doc q name a e m attends s end posted n (omega (arith, lt)) in
+    let old = heard_at doc own q name a e m attends s end posted n (omega (arith, lt)) in
     subst (λ k. Heard q name a (at_turn doc q.process (suc k))) (sym same)
-    (after doc q (suc (a + n)) (attends (suc (a + n)) (omega arith) (omega (arith, lt, end))) name a e (omega arith) (omega (arith, lt, end)) s (posted (suc (a + n)) (omega arith) (omega (arith, lt))) (λ less. old))
+    (after doc own q (suc (a + n)) (attends (suc (a + n)) (omega arith) (omega (arith, lt, end))) name a e (omega arith) (omega (arith, lt, end)) s (posted (suc (a + n)) (omega arith) (omega (arith, lt))) (λ less. old))
 
 pub nodes_are_marked : NodesAreMarked
-nodes_are_marked doc q name a e attends s slow fast near far slowly fastly near_needed far_enough some enough needed most is need greatest within =
-    let p = passes_find doc q a e attends s.pass slow fast near far slowly fastly near_needed far_enough some (grace_period doc + 1) enough needed most (omega arith) is need greatest within in
+nodes_are_marked doc own q name a e attends s slow fast near far slowly fastly near_needed far_enough some enough needed most is need greatest within =
+    let p = passes_find doc own q a e attends s.pass slow fast near far slowly fastly near_needed far_enough some (grace_period doc + 1) enough needed most (omega arith) is need greatest within in
     (p.0, p.3, p.4, p.1.after, λ posted. at p.0 p.1.after p.2 p.1.pass p.1.over posted)
   where
     at : (m : ℕ) → a < m → m ≤ e → has_pass doc q m ≡ true → local doc q.process a + (grace_period doc + 1) ≤ local doc q.process m → StaysPosted doc q name a m → IsMarked doc q name m
     at zero lt end due over posted = absurd (omega (arith, lt))
     at (suc m) lt end due over posted =
         let same : a + (m - a) ≡ m = omega (arith, lt) in
-        let old : Heard q name a (at_turn doc q.process (suc m)) = subst (λ k. Heard q name a (at_turn doc q.process (suc k))) same (heard_at doc q name a e (suc m) attends s end posted (m - a) (omega (arith, lt))) in
-        marks_now doc q (suc m) (attends (suc m) (omega (arith, lt)) end) name a e (omega (arith, lt)) end s due lt (posted (suc m) (omega (arith, lt)) (omega arith)) old over
+        let old : Heard q name a (at_turn doc q.process (suc m)) = subst (λ k. Heard q name a (at_turn doc q.process (suc k))) same (heard_at doc own q name a e (suc m) attends s end posted (m - a) (omega (arith, lt))) in
+        marks_now doc own q (suc m) (attends (suc m) (omega (arith, lt)) end) name a e (omega (arith, lt)) end s due lt (posted (suc m) (omega (arith, lt)) (omega arith)) old over

@@ -1,4 +1,4 @@
--- From one tick of an attended leader to the next one.
+-- From one tick of an attended leader to the next one, under the project's own rules.
 use Rattle.std.proofs.Common.{◌≡◌, ◌≤◌, ◌<◌, ℕ, zero, suc, ◌+◌, ◌-◌, ◌&&◌, ◌==◌, Bool, true, false, List, ◌∷◌, length, length-append, refl, sym, ap, ◌∙◌, subst, arith}
 use Rattle.std.specs.Prelude.{if◌then◌else◌}
 use Rattle.std.proofs.lemmas.Bool.{eqb-true, ltb-true}
@@ -6,24 +6,26 @@ use Rattle.kube_objects.specs.Document.{Doc, processes}
 use Rattle.kube_objects.specs.Elector.{acts}
 use Rattle.kube_objects.specs.Entry.{Entry, Identity, Ticks, actor_of, entry}
 use Rattle.kube_objects.specs.Identities.{identity, is_by}
+use Rattle.kube_objects.specs.Own.{IsOwn}
 use Rattle.kube_objects.specs.Tick.{tick}
+use Rattle.kube_objects.proofs.Own.{is_stalled-own}
 use Rattle.history.specs.Evictions.{after_turn}
 use Rattle.history.specs.History.{three_steps, history, at_turn}
-use Rattle.history.specs.Steps.{step_one, step_two, if_up, restart, expire, finish, attempts, elector_turn, controller_turn, kubelet_turn, unpaused_turn, turn, turns}
+use Rattle.history.specs.Steps.{step_one, step_two, if_up, restart, expire, finish, elector_turn, ticks_while, controller_turn, kubelet_turn, unpaused_turn, turn, turns}
 use Rattle.history_laws.proofs.Ticks.{walk_tick}
-use Rattle.history_laws.proofs.Walk.{Ticking, KeepsTurn, Keeps, all_turns, walk_to_tick, walk_turn, walk_one, walk_two, walk_three}
+use Rattle.history_laws.proofs.Walk.{Ticking, KeepsTurn, Keeps, IsStop, no_release, no_release_turn, all_turns, walk_to_tick, walk_turn, walk_one, walk_two, walk_three}
 use Rattle.row_laws.specs.Keys.{is_ticking}
 use Rattle.outage_laws.specs.Attended.{IsAttended}
 use Rattle.eviction_laws.proofs.Turns.{Ready, ready_at, still, ready_restart, ready_expire, ready_finish, ready_attempts}
 
-module _ (doc : Doc) (q : Identity) (k : ℕ) where
+module _ (doc : Doc) (own : IsOwn doc) (q : Identity) (k : ℕ) where
   pub ready : IsAttended doc q k → Ready doc q k (elector_turn doc k q.process (at_turn doc q.process k))
   ready (acting, watching, passing) =
       let h0 = at_turn doc q.process k in
       let h1 = restart doc k q.process h0 in
       let h2 = expire doc k q.process h1 in
       let h3 = finish doc k q.process h2 in
-      ready_attempts doc q k h3 (ready_finish doc q k h2 (ready_expire doc q k h1 (ready_restart doc q k h0 (ready_at doc q k h0 acting.1 watching passing))))
+      ready_attempts doc own q k h3 (ready_finish doc own q k h2 (ready_expire doc own q k h1 (ready_restart doc own q k h0 (ready_at doc own q k h0 acting.1 watching passing))))
 
   -- its turn is that of its elector, and the tick
   pub turn_is : IsAttended doc q k → after_turn doc q.process k ≡ tick doc k q (elector_turn doc k q.process (at_turn doc q.process k))
@@ -33,12 +35,16 @@ module _ (doc : Doc) (q : Identity) (k : ℕ) where
       let s = ready attended in
       ap (λ b. if b then h0 else unpaused_turn doc k q.process h0) s.awake
       ∙ ap (λ b. if b then controller_turn doc k q.process h0 else kubelet_turn doc k q.process h0) attended.0.0
+      ∙ ap (λ b. ticks_while b doc k q.process h) (is_stalled-own doc own k)
       ∙ ap (λ o. if_up q.process (λ q T. if (acts doc q k T) then tick doc k q T else T) o h) s.up
-      ∙ ap (λ b. if b then tick doc k q h else h) (still doc q k h s)
+      ∙ ap (λ b. if b then tick doc k q h else h) (still doc own q k h s)
 
 -- ---- what no entry of the leader's ticks keeps
 
-module _ (doc : Doc) (q : Identity) (P : List Entry → Type 0) (foreign : (x : Entry) (h : List Entry) → is_ticking q x.actor x.fact ≡ false → P h → P (x ∷ h)) where
+module _ (doc : Doc) (own : IsOwn doc) (q : Identity) (P : List Entry → Type 0) (foreign : (x : Entry) (h : List Entry) → is_ticking q x.actor x.fact ≡ false → P h → P (x ∷ h)) where
+  stop : IsStop doc
+  stop = ap (λ r. r.release) own.rules
+
   abbrev Another : Identity → ℕ → Type 0
   Another r k = is_by q (actor_of r) ≡ false
 
@@ -56,10 +62,10 @@ module _ (doc : Doc) (q : Identity) (P : List Entry → Type 0) (foreign : (x : 
 
   -- from its turn on to its tick
   pub to_tick : (k : ℕ) → IsAttended doc q k → P (at_turn doc q.process k) → P (elector_turn doc k q.process (at_turn doc q.process k))
-  to_tick k attended s = walk_to_tick doc Another (λ k h. P h) foreign_turn k q.process attended.0.0 (ready doc q k attended).awake (at_turn doc q.process k) s
+  to_tick k attended s = walk_to_tick doc Another (λ k h. P h) foreign_turn (no_release_turn doc (λ k h. P h) stop) k q.process attended.0.0 (ready doc own q k attended).awake (at_turn doc q.process k) s
 
   other_turn : (k c : ℕ) (h : List Entry) → (c ≡ q.process → ⊥) → P h → P (turn doc k c h)
-  other_turn k c h differs s = walk_turn doc Another (λ k h. P h) foreign_turn k c h (λ i role up acting. another i (c == q.process) refl) s
+  other_turn k c h differs s = walk_turn doc Another (λ k h. P h) foreign_turn (no_release_turn doc (λ k h. P h) stop) k c h (λ i role up acting. another i (c == q.process) refl) s
     where
       another : (i : ℕ) (b : Bool) → (c == q.process) ≡ b → is_by q (actor_of (identity c i)) ≡ false
       another i true is = absurd (differs (eqb-true c q.process is))
@@ -99,11 +105,12 @@ module _ (doc : Doc) (q : Identity) (P : List Entry → Type 0) (foreign : (x : 
   three_keep k given =
       let keeps = steps_keep k given in
       let Q = λ (m step : ℕ) (h : List Entry). m ≡ k → step ≤ 3 → P h in
+      let release = no_release doc Q stop in
       let h1 = step_one doc k (history doc k) in
       let h2 = step_two doc k h1 in
-      let s1 : k ≡ k → 1 ≤ 3 → P h1 = walk_one doc Q keeps k (history doc k) (λ is le. given) in
-      let s2 : k ≡ k → 2 ≤ 3 → P h2 = walk_two doc Q keeps k h1 (λ is le. s1 is (omega arith)) in
-      walk_three doc Q keeps k h2 (λ is le. s2 is (omega arith)) refl (omega arith)
+      let s1 : k ≡ k → 1 ≤ 3 → P h1 = walk_one doc Q keeps release k (history doc k) (λ is le. given) in
+      let s2 : k ≡ k → 2 ≤ 3 → P h2 = walk_two doc Q keeps release k h1 (λ is le. s1 is (omega arith)) in
+      walk_three doc Q keeps release k h2 (λ is le. s2 is (omega arith)) refl (omega arith)
 
   -- from its turn in one beat to its turn in the next one
   pub next_turn : (k : ℕ) → q.process < processes doc → P (after_turn doc q.process k) → P (at_turn doc q.process (suc k))

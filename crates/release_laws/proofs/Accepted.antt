@@ -114,7 +114,7 @@ module _ (doc : Doc) (near far b e : ℕ) (q : Identity) (l : LeadsUntil doc nea
       same = parting.the_release doc near far b e q l s stop rel x place.before place.position own (sooner b x.fact writes)
 
       sent_now : rel.call.sent ≡ b
-      sent_now = sent_at doc (suc e) q (entry b 1 q (Sends rel.call (Some rel.at))) F rel.call (Some rel.at) F_e refl refl
+      sent_now = sent_at doc s.sound.2 (suc e) q (entry b 1 q (Sends rel.call (Some rel.at))) F rel.call (Some rel.at) F_e refl refl
 
   -- ---- what the release leaves
 
@@ -122,13 +122,13 @@ module _ (doc : Doc) (near far b e : ℕ) (q : Identity) (l : LeadsUntil doc nea
   released = entry rel.at 2 q (Answers rel.call (Done rel.version) rel.comes (Some rel.object)) ∷ R
 
   frees : Frees rel.call.request
-  frees = releases_free doc (suc e) (entry b 1 q (Sends rel.call (Some rel.at))) F q rel.call (Some rel.at) F_e refl refl rel.kind
+  frees = releases_free doc s.sound.2 (suc e) (entry b 1 q (Sends rel.call (Some rel.at))) F q rel.call (Some rel.at) F_e refl refl rel.kind
 
   left : IsFreed rel.object
   left = freed rel.call.request R rel.object frees (made.written_is ∙ ap (λ (c : Call). written c.request R) (sym made.call_is))
     where
       made : MadeAnswer doc rel.at 2 (actor_of q) rel.call (Done rel.version) rel.comes (Some rel.object) R
-      made = are_made doc (suc e) (entry rel.at 2 q (Answers rel.call (Done rel.version) rel.comes (Some rel.object))) R R_e
+      made = are_made doc s.sound.2 (suc e) (entry rel.at 2 q (Answers rel.call (Done rel.version) rel.comes (Some rel.object))) R R_e
 
   -- nobody holds what is stored then
   pub record IsFree (h : List Entry) : Type 0 where
@@ -217,7 +217,7 @@ module _ (doc : Doc) (near far b e : ℕ) (q : Identity) (l : LeadsUntil doc nea
 
         foreign : (w.who.process ≡ q.process → ⊥) → ⊥
         foreign other =
-            writer_acts doc near far 0 e n w.who w.role (l.others w.who.process w.role other) (s.calls w.who.process w.role) within s.one (λ k from to. idle w.who w.role other k to) x T at w.actor
+            writer_acts doc s.sound.2 near far 0 e n w.who w.role (l.others w.who.process w.role other) (s.calls w.who.process w.role) within s.one (λ k from to. idle w.who w.role other k to) x T at w.actor
             (subst (WritesElection 0) (sym w.fact) (omega arith, wrote)) late
 
         back : Back

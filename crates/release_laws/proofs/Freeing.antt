@@ -9,6 +9,7 @@ use Rattle.kube_objects.specs.Elector.{Shown, shown, is_valid, leads, moment, ob
 use Rattle.kube_objects.specs.Entry.{Entry, Identity, CallKind, Plain, Fast, Release, Sends, Call, actor_of}
 use Rattle.kube_objects.specs.Identities.{is_own}
 use Rattle.kube_objects.specs.Stored.{election}
+use Rattle.kube_objects.specs.Own.{IsOwn}
 use Rattle.history.specs.History.{history}
 use Rattle.history_laws.specs.Tails.{IsTail}
 use Rattle.history_laws.proofs.Counting.{only_value, when_value}
@@ -52,8 +53,8 @@ release_frees doc q k h request is = by_shown (shown q h) (only_value (leads q h
         let freeing : Request = Update election x.0 (given_up (wall doc q.process k) x.1) in subst Frees (when_value (is_own q x.1.holder) freeing request some) refl
 
 -- so each request of a release does
-pub releases_free : (doc : Doc) (k : ℕ) (x : Entry) (before : List Entry) (q : Identity) (call : Call) (arrives : Option ℕ) → IsTail (x ∷ before) (history doc k) → x.actor ≡ actor_of q → x.fact ≡ Sends call arrives → call.kind ≡ Release → Frees call.request
-releases_free doc k x before q call arrives at by fact kind = cases (sends_for doc k x before q call arrives at by fact)
+pub releases_free : (doc : Doc) → IsOwn doc → (k : ℕ) (x : Entry) (before : List Entry) (q : Identity) (call : Call) (arrives : Option ℕ) → IsTail (x ∷ before) (history doc k) → x.actor ≡ actor_of q → x.fact ≡ Sends call arrives → call.kind ≡ Release → Frees call.request
+releases_free doc rules k x before q call arrives at by fact kind = cases (sends_for doc rules k x before q call arrives at by fact)
   where
     cases : SentFor doc x q call before → Frees call.request
     cases (inl released) = release_frees doc q x.beat released.2 call.request released.3

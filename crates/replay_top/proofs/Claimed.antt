@@ -15,7 +15,7 @@ claims-hold words left safe generated timely =
       exclusive = λ d replays premise. safe.exclusive replays.bytes d replays.read premise;
       spacing = λ d replays premise. safe.spacing replays.bytes d replays.read premise;
       not_early = λ d replays. safe.not_early d;
-      prompt = λ d replays. safe.prompt d;
+      prompt = λ d replays. safe.prompt replays.bytes d replays.read;
       timely = λ d replays. safe.timely replays.bytes d replays.read;
       safe = generated;
       timely_generated = timely;
@@ -24,7 +24,7 @@ claims-hold words left safe generated timely =
         exclusive = safe.exclusive shows.bytes d shows.read premise;
         spacing = safe.spacing shows.bytes d shows.read premise;
         not_early = safe.not_early d;
-        prompt = safe.prompt d;
+        prompt = safe.prompt shows.bytes d shows.read;
       };
       timely_state = λ d beat shows. safe.timely shows.bytes d shows.read;
     }

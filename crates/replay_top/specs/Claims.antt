@@ -25,13 +25,13 @@ pub record IsSafe (doc : Doc) : Type 0 where
   pub not_early : NotEarly doc
   pub prompt : Prompt doc
 
--- of every document that can be read, where its lease premise holds; the last three without it
+-- of every document that can be read, where its lease premise holds; the last three without it, of which the first needs no reading
 pub record AreSafe : Type 0 where
   pub holder : WhereReadUnderPremise Holder
   pub exclusive : WhereReadUnderPremise Exclusive
   pub spacing : WhereReadUnderPremise Spacing
   pub not_early : (d : Document) → NotEarly (doc_of d)
-  pub prompt : (d : Document) → Prompt (doc_of d)
+  pub prompt : WhereRead Prompt
   pub timely : WhereRead IsTimely
 
 -- of the history of the document that these words replay, show a state of, or generate, with these bytes in the source

@@ -1,6 +1,8 @@
 // The line on a document.
 ghost use Rattle.std.specs.Prelude.{◌≡◌, IfOk};
 ghost use Rattle.run_edge.specs.Outcome.{reply_of};
+ghost use Rattle.script_reader.specs.Documents.{doc_of};
+ghost use Rattle.script_reader.specs.Lawful.{IsLawfulDoc};
 ghost use Rattle.script_reader.specs.Walk.{document_walk};
 ghost use Rattle.replay_top.specs.Replies.{done, on_document};
 ghost use Rattle.replay_top.specs.Summary.{summary};
@@ -31,6 +33,7 @@ pub(crate) fn checked(alloc: Global, input: &[u8]) -> Result<Answer, NoMemory>
 
 /// The line on a document, which is dropped.
 fn summarized(alloc: Global, document: Document) -> Result<Answer, NoMemory>
+    requires { IsLawfulDoc (doc_of document) }
     ensures { IfOk result (λ answer. reply_of answer ≡ done (summary document)) }
 {
     let mut text = Vec::new(alloc);

@@ -1,6 +1,7 @@
 // The line on a document that was read.
 ghost use Rattle.std.specs.Prelude.{◌≡◌, ◌++◌, OnOk, decimal, length};
 ghost use Rattle.script_reader.specs.Documents.{doc_of};
+ghost use Rattle.script_reader.specs.Lawful.{IsLawfulDoc};
 ghost use Rattle.replay_top.specs.Summary.{count_of as how_many, objects_text, processes_text, events_text, summary};
 
 use kube_base::NoMemory;
@@ -13,6 +14,7 @@ use trace_writer::{add, add_number, premise_end};
 /// holds.
 #[tactic(auto, unfolding(crate::specs::Summary::summary))]
 pub(crate) fn add_summary(text: &mut Vec<u8>, document: &Document) -> Result<(), NoMemory>
+    requires { IsLawfulDoc (doc_of document.now) }
     ensures { OnOk result (text.new.items ≡ text.old.items ++ summary document.now) }
 {
     add(text, b"ok ")?;

@@ -13,7 +13,7 @@ ghost use Rattle.script_reader.specs.Documents.{doc_of};
 ghost use Rattle.script_reader.specs.Lawful.{AreLawfulFrom, IsLawfulDoc, IsWellNamed};
 ghost use Rattle.trace_writer.specs.Lines.{lines_of};
 ghost use Rattle.world_core.specs.Waits.{beat_of};
-ghost use Rattle.world_core.specs.Worlds.{at_of, end_of, names_of, IsOwn, IsReady, WorldStands};
+ghost use Rattle.world_core.specs.Worlds.{at_of, end_of, names_of, IsReady, WasRead, WorldStands};
 ghost use Rattle.replay_top.specs.Traces.{trace, trace_of, trace_before, first_of};
 ghost use Rattle.replay_top.specs.Names.{process_names as names_in_order};
 ghost use Rattle.replay_top.specs.Runs.{Runs, StandsForNext};
@@ -91,6 +91,7 @@ fn start(
 /// Adds the first line.
 #[tactic(auto, unfolding(crate::specs::Traces::first_of))]
 fn add_first(alloc: Global, buffer: &mut Buffer, document: &Document) -> Result<(), NoMemory>
+    requires { IsLawfulDoc (doc_of document.now) }
     ensures { OnOk result (buffer.new.text.items ≡ buffer.old.text.items ++ first_of (doc_of document.now)) }
 {
     let settings = FirstLine {
@@ -197,7 +198,7 @@ pub(crate) fn beat_at<L>(
         → IsNextBeat doc (at_of world.old) (Some beat.0)
         → IfOk result (λ deeds. StandsForNext doc world.new
         × (printed (history doc (at_of world.old)) ++ deeds ≡ printed (history doc (at_of world.new)))) }
-    ensures writable { (doc : Doc) → IsOwn doc world.old → StandsForNext doc world.old → end_of world.old ≡ end_beat doc
+    ensures writable { (doc : Doc) → WasRead doc world.old → StandsForNext doc world.old → end_of world.old ≡ end_beat doc
         → IsNextBeat doc (at_of world.old) (Some beat.0)
         → IfOk result (AllByRecursion (IsWritable (names_of world.old) (process_count doc))) }
     ensures counted { steps.new ≡ counted steps.old 1 }

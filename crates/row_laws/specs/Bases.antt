@@ -2,7 +2,7 @@
 -- its rate limited queues; profile.
 use Rattle.std.specs.Prelude.{◌≡◌, ℕ, ◌&&◌, Bool, false, List, ◌∷◌, Some, option_map}
 use Rattle.kube_objects.specs.declared.deed.Actor.{Actor}
-use Rattle.kube_objects.specs.Entry.{Entry, Identity, Place, Fact, Ticks, Head}
+use Rattle.kube_objects.specs.Entry.{Entry, Identity, Place, Fact, Ticks, Head, Skip}
 use Rattle.kube_objects.specs.Identities.{is_by}
 use Rattle.kube_objects.specs.Modes.{place_eq}
 use Rattle.kube_objects.specs.Tokens.{Rated, rated_says, rated, has_rate, base}
@@ -12,9 +12,10 @@ use Rattle.row_laws.specs.Rows.{Says, Row, IsLatest}
 abbrev pub rates : Identity → Place → ℕ → Says
 rates q place rate e h = option_map (has_rate rate) (rated_says q place e.actor e.fact h)
 
--- a queued taint of the zone that is tried, whatever its answer
+-- a queued node of the zone has its turn: a taint is tried, whatever its answer, or nothing written
 abbrev pub is_head_of : Identity → Place → Actor → Fact → Bool
 is_head_of q place who (Ticks (Head at node wanted given written tried)) = place_eq at place && is_by q who
+is_head_of q place who (Ticks (Skip at node)) = place_eq at place && is_by q who
 is_head_of q place who _ = false
 
 -- a zone's base is the beat of the first one of the longest row of such entries up to now that all give it its present rate, so of its first

@@ -7,6 +7,7 @@ doc_of d = record {
   settings = d.settings;
   controllers = d.controllers;
   kubelets = d.kubelets;
+  waits = d.waits;
   objects = d.objects.items;
   events = d.events;
 }

@@ -2,7 +2,7 @@
 use Rattle.std.specs.Prelude.{ℕ, ◌&&◌, nat_le, nat_lt, Bool, List, ◌++◌, codes, Option, Some, None, option_and_then, Result, Ok}
 use Rattle.std.specs.Prelude.{ℤ, int_le, if◌then◌else◌}
 use Rattle.std.specs.Str.{bytes_eq}
-use Rattle.serde_json.specs.Data.{Data, Items, Members}
+use Rattle.serde_json.specs.Data.{Data, Items, Members, no_items, item}
 use Rattle.serde_json.specs.Find.{get, as_bool, as_number, as_str, as_array, as_object, as_u64, as_i64}
 use Rattle.kube_base.specs.Times.{time_of}
 use Rattle.kube_base.specs.declared.numbers.Wall.{Wall}
@@ -165,3 +165,8 @@ unfoldable pub array_in : ℕ → List ℕ → Data → Result Items Refusal
 array_in most path d = do
   items ← items_in path d
   at_most most path items
+
+-- at least one member
+abbrev pub not_empty : List ℕ → Items → Result Items Refusal
+not_empty path no_items = refuse OUT_OF_RANGE path
+not_empty path (item d rest) = Ok (item d rest)

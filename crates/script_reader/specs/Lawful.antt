@@ -10,11 +10,12 @@ use Rattle.kube_objects.specs.declared.node.ReadyStatus.TheVariants as status
 use Rattle.kube_objects.specs.declared.script.Event.{Event}
 use Rattle.kube_objects.specs.declared.script.Proc.{Proc}
 use Rattle.kube_objects.specs.declared.script.What.{What}
-use Rattle.kube_objects.specs.declared.script.What.TheVariants.{Rate, Delay, Loss, Crash, Start, Stop, Watch, Ready, Pause, Put, Remove}
+use Rattle.kube_objects.specs.declared.script.What.TheVariants.{Rate, Delay, Loss, Crash, Start, Stop, Watch, Ready, Pause, Stall, Put, Remove}
 use Rattle.kube_objects.specs.declared.settings.Settings.{Settings}
-use Rattle.kube_objects.specs.Document.{Doc, is_controller, processes, end_beat}
+use Rattle.kube_objects.specs.Document.{Doc, own_waits_each, is_controller, processes, end_beat}
 use Rattle.kube_objects.specs.Keys.{key_eq}
 use Rattle.kube_objects.specs.Kinds.{IsOfKind}
+use Rattle.kube_objects.specs.Rules.{own_rules}
 use Rattle.kube_objects.specs.Stored.{election}
 use Rattle.history.specs.Sound.{AreApart}
 use Rattle.manifest_json.specs.Fields.{Texts}
@@ -51,6 +52,8 @@ pub record AreLawful (s : Settings) : Type 0 where
   pub secondary : s.secondary_rate ≤ s.primary_rate
   pub large_zone : s.large_zone ≤ 1000000
   pub percent : s.unhealthy_percent ≤ 100
+  -- any other rule is refused as not built
+  pub rules : s.rules ≡ own_rules
   pub renew_within_lease : s.renew_deadline_millis < s.lease_duration_seconds * 1000
   pub retry_within_renew : 6 * s.retry_period_millis < 5 * s.renew_deadline_millis
 
@@ -82,7 +85,8 @@ pub record IsLawful (p : Proc) : Type 0 where
 abbrev pub AreNamedApart : List Proc → Type 0
 AreNamedApart procs = IsDistinct (λ a b. a == b) (numbers_of procs)
 
--- an event names processes of the document of the right sort, has its ranges, and leaves the election Lease alone
+-- an event names processes of the document of the right sort, has its ranges, and leaves the election Lease alone; none stops the store,
+-- since that is refused as not built
 abbrev pub IsLawfulWhat : Doc → What → Type 0
 IsLawfulWhat doc (Rate id ppm) = (id.0 < processes doc) × (500000 ≤ ppm) × (ppm ≤ 2000000)
 IsLawfulWhat doc (Delay id requests replies) =
@@ -94,6 +98,7 @@ IsLawfulWhat doc (Stop id) = is_controller doc id.0 ≡ true
 IsLawfulWhat doc (Watch id on) = is_controller doc id.0 ≡ true
 IsLawfulWhat doc (Ready id status) = (is_controller doc id.0 ≡ false) × (id.0 < processes doc) × IsPosted status
 IsLawfulWhat doc (Pause id beats) = (id.0 < processes doc) × (1 ≤ beats) × (beats ≤ 604800000)
+IsLawfulWhat doc (Stall beats) = ⊥
 IsLawfulWhat doc (Put key object) = (key_eq key election ≡ false) × IsOfKind key object
 IsLawfulWhat doc (Remove key) = key_eq key election ≡ false
 
@@ -109,6 +114,8 @@ pub record IsLawfulDoc (doc : Doc) : Type 0 where
   pub some : 1 ≤ length doc.controllers
   pub few : length doc.controllers ≤ 16
   pub controllers_apart : AreNamedApart doc.controllers
+  -- any others are refused as not built
+  pub waits : doc.waits ≡ own_waits_each doc.controllers
   pub kubelets : All IsLawful doc.kubelets
   pub few_kubelets : length doc.kubelets ≤ 1000
   pub kubelets_apart : AreNamedApart doc.kubelets

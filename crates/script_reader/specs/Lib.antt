@@ -1,8 +1,12 @@
+pub mod Built
 pub mod Cast
+pub mod Choices
 pub mod ClockRates
 pub mod Documents
 pub mod Fields
 pub mod Lawful
+pub mod Rules
 pub mod Scripts
 pub mod Tables
+pub mod Waits
 pub mod Walk

@@ -18,16 +18,27 @@ abbrev pub is_from_two : Version → Bool
 is_from_two versions.One = false
 is_from_two versions.Two = true
 is_from_two versions.Three = true
+is_from_two versions.Four = true
 
-abbrev pub is_three : Version → Bool
-is_three versions.One = false
-is_three versions.Two = false
-is_three versions.Three = true
+-- version 3 or a later one
+abbrev pub is_from_three : Version → Bool
+is_from_three versions.One = false
+is_from_three versions.Two = false
+is_from_three versions.Three = true
+is_from_three versions.Four = true
 
-abbrev pub is_top_key : List ℕ → Bool
-is_top_key key =
+abbrev pub is_four : Version → Bool
+is_four versions.One = false
+is_four versions.Two = false
+is_four versions.Three = false
+is_four versions.Four = true
+
+-- the top, which has sets of pods or not
+abbrev pub is_top_key : Bool → List ℕ → Bool
+is_top_key sets key =
     bytes_eq key (codes "version") || bytes_eq key (codes "settings") || bytes_eq key (codes "controllers")
     || bytes_eq key (codes "kubelets") || bytes_eq key (codes "objects") || bytes_eq key (codes "events")
+    || (sets && bytes_eq key (codes "podSets"))
 
 abbrev pub is_beats_key : List ℕ → Bool
 is_beats_key key = bytes_eq key (codes "beatMillis") || bytes_eq key (codes "endBeat") || bytes_eq key (codes "epoch")
@@ -47,10 +58,30 @@ is_rates_key key =
     bytes_eq key (codes "primaryRate") || bytes_eq key (codes "secondaryRate") || bytes_eq key (codes "largeZone")
     || bytes_eq key (codes "unhealthyPercent")
 
+abbrev pub is_judging_key : List ℕ → Bool
+is_judging_key key =
+    bytes_eq key (codes "rules") || bytes_eq key (codes "retries") || bytes_eq key (codes "respect")
+    || bytes_eq key (codes "firstSyncMillis") || bytes_eq key (codes "probe") || bytes_eq key (codes "judge")
+    || bytes_eq key (codes "firstSight")
+
+abbrev pub is_tainting_key : List ℕ → Bool
+is_tainting_key key =
+    bytes_eq key (codes "queue") || bytes_eq key (codes "bucket") || bytes_eq key (codes "evictFrom")
+    || bytes_eq key (codes "evictBurst") || bytes_eq key (codes "evictRate")
+
+abbrev pub is_ending_key : List ℕ → Bool
+is_ending_key key =
+    bytes_eq key (codes "release") || bytes_eq key (codes "inRelease") || bytes_eq key (codes "readyMillis")
+    || bytes_eq key (codes "readyBurst")
+
+-- where upstream Kubernetes does otherwise
+abbrev pub is_rules_key : List ℕ → Bool
+is_rules_key key = is_judging_key key || is_tainting_key key || is_ending_key key
+
 abbrev pub is_settings_key : Version → List ℕ → Bool
 is_settings_key version key =
     is_beats_key key || is_timings_key key || is_periods_key key || is_rates_key key || bytes_eq key (codes "fastRenew")
-    || (is_from_two version && bytes_eq key (codes "ratePolicy"))
+    || (is_from_two version && bytes_eq key (codes "ratePolicy")) || (is_four version && is_rules_key key)
 
 abbrev pub is_clock_key : List ℕ → Bool
 is_clock_key key = bytes_eq key (codes "ratePpm") || bytes_eq key (codes "offsetMillis") || bytes_eq key (codes "up")
@@ -58,6 +89,7 @@ is_clock_key key = bytes_eq key (codes "ratePpm") || bytes_eq key (codes "offset
 abbrev pub is_controller_key : Version → List ℕ → Bool
 is_controller_key version key =
     bytes_eq key (codes "name") || is_clock_key key || bytes_eq key (codes "watch") || (is_from_two version && is_timings_key key)
+    || (is_four version && bytes_eq key (codes "waits"))
 
 abbrev pub is_kubelet_key : List ℕ → Bool
 is_kubelet_key key = bytes_eq key (codes "node") || is_clock_key key || bytes_eq key (codes "ready")
@@ -73,11 +105,12 @@ is_type_key types.Stop key = bytes_eq key (codes "process")
 is_type_key types.Watch key = bytes_eq key (codes "process") || bytes_eq key (codes "on")
 is_type_key types.Ready key = bytes_eq key (codes "process") || bytes_eq key (codes "status")
 is_type_key types.Pause key = bytes_eq key (codes "process") || bytes_eq key (codes "beats")
+is_type_key types.Stall key = bytes_eq key (codes "beats")
 is_type_key types.Put key = bytes_eq key (codes "object")
 is_type_key types.Remove key = bytes_eq key (codes "kind") || bytes_eq key (codes "namespace") || bytes_eq key (codes "name")
 
 abbrev pub is_key_of : Table → List ℕ → Bool
-is_key_of tables.Top key = is_top_key key
+is_key_of (tables.Top sets) key = is_top_key sets key
 is_key_of (tables.Settings version) key = is_settings_key version key
 is_key_of (tables.Controller version) key = is_controller_key version key
 is_key_of tables.Kubelet key = is_kubelet_key key

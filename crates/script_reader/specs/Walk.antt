@@ -25,8 +25,9 @@ use Rattle.kube_objects.specs.declared.script.Proc.{Proc}
 use Rattle.kube_objects.specs.declared.script.What.{What}
 use Rattle.kube_objects.specs.declared.script.What.TheVariants as whats
 use Rattle.kube_objects.specs.declared.settings.RatePolicy.{RatePolicy}
+use Rattle.kube_objects.specs.declared.rules.Rules.{Rules}
 use Rattle.kube_objects.specs.declared.settings.Settings.{Settings}
-use Rattle.manifest_json.specs.declared.codes.TheConstants.{BAD_JSON, BAD_SETTINGS, DUPLICATE, ELECTION_LEASE_EDIT, EVENT_ORDER}
+use Rattle.manifest_json.specs.declared.codes.TheConstants.{BAD_JSON, BAD_SETTINGS, DUPLICATE, ELECTION_LEASE_EDIT, EVENT_ORDER, NOT_BUILT}
 use Rattle.manifest_json.specs.declared.codes.TheConstants.{OUT_OF_RANGE, TOP_SHAPE, UNKNOWN_PROCESS, WRONG_TYPE}
 use Rattle.manifest_json.specs.declared.fault.Refusal.{Refusal}
 use Rattle.manifest_json.specs.declared.list.Objects.{Objects}
@@ -50,8 +51,12 @@ use Rattle.script_reader.specs.declared.cast.Sort.{Sort}
 use Rattle.script_reader.specs.declared.cast.Sort.TheVariants as sorts
 use Rattle.script_reader.specs.Fields.{under, default_of, required, whole_at, needed_whole, signed_at, flag_at, needed_flag}
 use Rattle.script_reader.specs.Fields.{needed_text, needed_name, name_at, posted_at, needed_posted, policy_at, epoch_at}
-use Rattle.script_reader.specs.Fields.{object_at, array_in}
-use Rattle.script_reader.specs.Tables.{known_in, is_three}
+use Rattle.script_reader.specs.Built.{unless_there, rules_built}
+use Rattle.script_reader.specs.Choices.{preset_at}
+use Rattle.script_reader.specs.Fields.{object_at, array_in, not_empty}
+use Rattle.script_reader.specs.Rules.{rules_at, agree}
+use Rattle.script_reader.specs.Tables.{known_in, is_from_three, is_four}
+use Rattle.script_reader.specs.Waits.{waits_at}
 
 -- an object with no key that its table doesn't have
 unfoldable pub object_in : Table → List ℕ → Data → Result Data Refusal
@@ -113,8 +118,8 @@ rates_at path d = do
 abbrev pub is_sound : Timings → Bool
 is_sound t = nat_lt t.renew_millis (t.lease_seconds * 1_000) && nat_lt (6 * t.retry_millis) (5 * t.renew_millis)
 
-abbrev pub settings_of : Beats → Timings → Periods → Rates → Bool → RatePolicy → Settings
-settings_of b t p r fast policy = record {
+abbrev pub settings_of : Beats → Timings → Periods → Rates → Bool → RatePolicy → Rules → Settings
+settings_of b t p r fast policy rules = record {
   beat_millis = b.millis;
   end_beat = b.end;
   epoch = b.epoch;
@@ -133,13 +138,15 @@ settings_of b t p r fast policy = record {
   unhealthy_percent = r.unhealthy_percent;
   fast_renew = fast;
   rate_policy = policy;
+  rules = rules;
 }
 
 -- the own rule of settings
 abbrev pub if_sound : List ℕ → Timings → Rates → Settings → Result Settings Refusal
-if_sound path t r settings = if is_sound t && nat_le r.secondary r.primary then Ok settings else refuse BAD_SETTINGS path
+if_sound path t r settings =
+    if is_sound t && nat_le r.secondary r.primary && agree settings.rules then Ok settings else refuse BAD_SETTINGS path
 
--- settings; in version 1 `ratePolicy` is an unknown key, so it has its default there
+-- settings; in version 1 `ratePolicy` is an unknown key, so it has its default there, and up to version 3 the rules are
 unfoldable pub settings_at : Version → List ℕ → Data → Result Settings Refusal
 settings_at version path value = do
   d ← object_in (tables.Settings version) path value
@@ -149,7 +156,11 @@ settings_at version path value = do
   rates ← rates_at path d
   fast ← flag_at false path (codes "fastRenew") d
   policy ← policy_at path (codes "ratePolicy") d
-  if_sound path timings rates (settings_of beats timings periods rates fast policy)
+  preset ← preset_at path d
+  rules ← rules_at preset path d
+  settings ← if_sound path timings rates (settings_of beats timings periods rates fast policy rules)
+  built ← rules_built preset path d
+  Ok settings
 
 -- ---- processes
 
@@ -202,32 +213,35 @@ if_controller path earlier name t controller names =
     if has_name name earlier then refuse DUPLICATE (under path (codes "name"))
     else (if is_sound t then Ok (controller, names) else refuse BAD_SETTINGS path)
 
--- a controller; in version 1 the keys of its timings are unknown, so they are those of the settings
-unfoldable pub controller_at : Version → Settings → Texts → List ℕ → List Proc → Data → Result (Proc × Texts) Refusal
+-- a controller with its waits; in version 1 the keys of its timings are unknown, so they are those of the settings
+unfoldable pub controller_at : Version → Settings → Texts → List ℕ → List Proc → Data → Result ((Proc × List ℕ) × Texts) Refusal
 controller_at version settings names path earlier value = do
   d ← object_in (tables.Controller version) path value
   name ← named_at names path (codes "name") d
   clock ← clock_at path d
   watch ← flag_at true path (codes "watch") d
   timings ← timings_at (timings_of settings) path d
-  if_controller path earlier name.0 timings (controller_of name.0 clock watch timings) name.1
+  waits ← waits_at path d
+  controller ← if_controller path earlier name.0 timings (controller_of name.0 clock watch timings) name.1
+  built ← unless_there path (codes "waits") d
+  Ok ((controller.0, waits), controller.1)
+
+-- controllers, and the waits of each
+abbrev pub Team : Type 0
+Team = List Proc × List (List ℕ)
 
 -- the controllers from a place on, behind earlier ones
-unfoldable pub controllers_from : Version → Settings → Texts → ℕ → List Proc → Items → Result (List Proc × Texts) Refusal
-controllers_from version settings names place earlier no_items = Ok (earlier, names)
-controllers_from version settings names place earlier (item d rest) = do
+unfoldable pub controllers_from : Version → Settings → Texts → ℕ → List Proc → List (List ℕ) → Items → Result (Team × Texts) Refusal
+controllers_from version settings names place earlier waits no_items = Ok ((earlier, waits), names)
+controllers_from version settings names place earlier waits (item d rest) = do
   next ← controller_at version settings names (member_path [] (codes "/controllers/") place) earlier d
-  controllers_from version settings next.1 (place + 1) (earlier ++ next.0 ∷ []) rest
+  controllers_from version settings next.1 (place + 1) (earlier ++ next.0.0 ∷ []) (waits ++ next.0.1 ∷ []) rest
 
-abbrev pub not_empty : List ℕ → Items → Result Items Refusal
-not_empty path no_items = refuse OUT_OF_RANGE path
-not_empty path (item d rest) = Ok (item d rest)
-
-unfoldable pub controllers_in : Version → Settings → Texts → Data → Result (List Proc × Texts) Refusal
+unfoldable pub controllers_in : Version → Settings → Texts → Data → Result (Team × Texts) Refusal
 controllers_in version settings names d = do
   all ← array_in 16 (codes "/controllers") d
   some ← not_empty (codes "/controllers") all
-  controllers_from version settings names 0 [] some
+  controllers_from version settings names 0 [] [] some
 
 abbrev pub kubelet_of : ℕ → Clock → ReadyStatus → Timings → Proc
 kubelet_of name c ready t = proc_of name c true ready t
@@ -366,6 +380,12 @@ pause_at cast names path d = do
   beats ← needed_whole 1 604_800_000 path (codes "beats") d
   Ok (whats.Pause who beats)
 
+-- a stall of the store is refused at its type, once its keys are those of one
+unfoldable pub stall_at : List ℕ → Data → Result What Refusal
+stall_at path d = do
+  beats ← needed_whole 1 604_800_000 path (codes "beats") d
+  refuse NOT_BUILT (under path (codes "type"))
+
 unfoldable pub put_at : Cast → Texts → List ℕ → Data → Result (What × Texts) Refusal
 put_at cast names path d = do
   found ← object_under cast names path d
@@ -410,10 +430,11 @@ what_at cast names path types.Stop d = beside names (stop_at cast names path d)
 what_at cast names path types.Watch d = beside names (watch_at cast names path d)
 what_at cast names path types.Ready d = beside names (ready_at cast names path d)
 what_at cast names path types.Pause d = beside names (pause_at cast names path d)
+what_at cast names path types.Stall d = beside names (stall_at path d)
 what_at cast names path types.Put d = put_at cast names path d
 what_at cast names path types.Remove d = remove_at names path d
 
--- a type of events; a pause is one from version 3 on
+-- a type of events; a pause is one from version 3 on, a stall of the store from version 4 on
 abbrev pub type_of : Version → List ℕ → Option EventType
 type_of version text =
     if bytes_eq text (codes "rate") then Some types.Rate
@@ -424,9 +445,10 @@ type_of version text =
     else (if bytes_eq text (codes "stop") then Some types.Stop
     else (if bytes_eq text (codes "watch") then Some types.Watch
     else (if bytes_eq text (codes "ready") then Some types.Ready
-    else (if bytes_eq text (codes "pause") && is_three version then Some types.Pause
+    else (if bytes_eq text (codes "pause") && is_from_three version then Some types.Pause
+    else (if bytes_eq text (codes "stall") && is_four version then Some types.Stall
     else (if bytes_eq text (codes "put") then Some types.Put
-    else (if bytes_eq text (codes "remove") then Some types.Remove else None))))))))))
+    else (if bytes_eq text (codes "remove") then Some types.Remove else None)))))))))))
 
 unfoldable pub type_at : Version → List ℕ → Data → Result EventType Refusal
 type_at version path d = do
@@ -447,6 +469,7 @@ edits_election (whats.Stop who) = false
 edits_election (whats.Watch who on) = false
 edits_election (whats.Ready who status) = false
 edits_election (whats.Pause who beats) = false
+edits_election (whats.Stall beats) = false
 edits_election (whats.Put key object) = is_election key
 edits_election (whats.Remove key) = is_election key
 
@@ -504,7 +527,8 @@ abbrev pub version_of : ℕ → Result Version Refusal
 version_of n =
     if n == 1 then Ok versions.One
     else (if n == 2 then Ok versions.Two
-    else (if n == 3 then Ok versions.Three else refuse TOP_SHAPE (codes "/version")))
+    else (if n == 3 then Ok versions.Three
+    else (if n == 4 then Ok versions.Four else refuse TOP_SHAPE (codes "/version"))))
 
 abbrev pub version_unless : Option ℤ → Result Version Refusal
 version_unless None = refuse WRONG_TYPE (codes "/version")
@@ -514,7 +538,7 @@ abbrev pub version_or : Option ℕ → Option ℤ → Result Version Refusal
 version_or None signed = version_unless signed
 version_or (Some n) signed = version_of n
 
--- the whole number 1, 2 or 3
+-- a whole number from 1 to 4
 abbrev pub version_in : Data → Result Version Refusal
 version_in d = version_or (option_and_then as_u64 (as_number d)) (option_and_then as_i64 (as_number d))
 
@@ -531,11 +555,26 @@ scope_of version s = record { version = version; end = s.end_beat }
 abbrev pub no_objects : Objects
 no_objects = record { items = []; skipped = 0 }
 
--- the value is an object with no unknown key
+-- the version is the whole number 4
+abbrev pub is_number_four : Option ℕ → Bool
+is_number_four None = false
+is_number_four (Some n) = n == 4
+
+abbrev pub says_four : Option Data → Bool
+says_four None = false
+says_four (Some d) = is_number_four (option_and_then as_u64 (as_number d))
+
+-- the value is an object with no unknown key; sets of pods are known where the version is 4
 unfoldable pub top_in : Data → Result Data Refusal
 top_in value = do
   d ← object_at TOP_SHAPE (codes "/") value
-  known_in tables.Top (codes "/") d
+  known_in (tables.Top (says_four (get (codes "version") d))) (codes "/") d
+
+-- the events of a document, which has no sets of pods
+unfoldable pub events_at : Scope → Cast → Texts → Data → Result (List Event × Texts) Refusal
+events_at scope cast names d = do
+  built ← unless_there [] (codes "podSets") d
+  default_of ([], names) (events_in scope cast names) (get (codes "events") d)
 
 unfoldable pub document_at : Data → Result Document Refusal
 document_at value = do
@@ -544,12 +583,13 @@ document_at value = do
   settings ← required (codes "/settings") (settings_at version (codes "/settings")) (get (codes "settings") d)
   controllers ← required (codes "/controllers") (controllers_in version settings fixed_names) (get (codes "controllers") d)
   kubelets ← default_of ([], controllers.1) (kubelets_in settings controllers.1) (get (codes "kubelets") d)
-  objects ← default_of (no_objects, kubelets.1) (objects_in kubelets.1 (numbers_of controllers.0)) (get (codes "objects") d)
-  events ← default_of ([], objects.1) (events_in (scope_of version settings) (cast_of controllers.0 kubelets.0) objects.1) (get (codes "events") d)
+  objects ← default_of (no_objects, kubelets.1) (objects_in kubelets.1 (numbers_of controllers.0.0)) (get (codes "objects") d)
+  events ← events_at (scope_of version settings) (cast_of controllers.0.0 kubelets.0) objects.1 d
   Ok (record {
     settings = settings;
-    controllers = controllers.0;
+    controllers = controllers.0.0;
     kubelets = kubelets.0;
+    waits = controllers.0.1;
     objects = objects.0;
     events = events.0;
     names = events.1;

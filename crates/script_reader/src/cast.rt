@@ -6,7 +6,7 @@ ghost use Rattle.manifest_json.specs.Walk as manifests;
 ghost use Rattle.script_reader.specs.Walk as walk;
 
 use kube_base::{Names, NoMemory, ProcId};
-use kube_objects::{NumberList, Proc, Procs};
+use kube_objects::{NumberList, Proc, Procs, WaitLists};
 use std::alloc::Global;
 use std::collections::BTreeMap;
 
@@ -16,6 +16,13 @@ pub(crate) struct Named {
     pub(crate) procs: Procs,
     numbers: NumberList,
     places: BTreeMap<u32, u32>,
+}
+
+/// The controllers, and the waits of each.
+#[derive(Drop)]
+pub(crate) struct Team {
+    pub(crate) named: Named,
+    pub(crate) waits: WaitLists,
 }
 
 /// The sorts of processes that an event may name.

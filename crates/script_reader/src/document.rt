@@ -1,6 +1,6 @@
 // The document as it was read.
 use kube_base::Names;
-use kube_objects::{Events, Procs, Settings};
+use kube_objects::{Events, Procs, Settings, WaitLists};
 use manifest_json::Objects;
 
 /// A document with its defaults, and the names that its numbers stand for.
@@ -11,6 +11,8 @@ pub struct Document {
     pub controllers: Procs,
     /// In the document's order.
     pub kubelets: Procs,
+    /// Those of each controller.
+    pub waits: WaitLists,
     pub objects: Objects,
     /// In the order of their beats.
     pub events: Events,

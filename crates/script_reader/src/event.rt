@@ -11,7 +11,7 @@ use crate::cast::Players;
 use crate::field::{array_in, member_of, needed_text, needed_whole, object_at, or_refuse, path_of};
 use crate::parts::Scope;
 use crate::script::Script;
-use crate::table::{EventType, Table, Version, is_three, known_in};
+use crate::table::{EventType, Table, Version, is_four, is_from_three, known_in};
 use crate::what::what_at;
 use kube_base::{Beat, KUBE_CONTROLLER_MANAGER, KUBE_SYSTEM, Names};
 use kube_objects::{Event, Events, Key, Kind, What};
@@ -108,7 +108,7 @@ fn type_at(version: Version, path: &Path, value: &Value) -> Result<EventType, Re
     or_refuse(type_of(version, text), OUT_OF_RANGE, path, "type")
 }
 
-/// A type of events. A pause is one from version 3 on.
+/// A type of events. A pause is one from version 3 on, a stall of the store from version 4 on.
 fn type_of(version: Version, text: &str) -> Option<EventType>
     ensures { result ≡ walk.type_of version text.now }
 {
@@ -128,8 +128,10 @@ fn type_of(version: Version, text: &str) -> Option<EventType>
         Some(EventType::Watch)
     } else if text == "ready" {
         Some(EventType::Ready)
-    } else if text == "pause" && is_three(version) {
+    } else if text == "pause" && is_from_three(version) {
         Some(EventType::Pause)
+    } else if text == "stall" && is_four(version) {
+        Some(EventType::Stall)
     } else if text == "put" {
         Some(EventType::Put)
     } else if text == "remove" {
@@ -155,6 +157,7 @@ fn edits_election(what: &What) -> bool
         What::Watch(_, _) => false,
         What::Ready(_, _) => false,
         What::Pause(_, _) => false,
+        What::Stall(_) => false,
     }
 }
 

@@ -406,3 +406,15 @@ fn at_most<'v>(most: usize, path: &Path, list: &'v [Value]) -> Result<&'v [Value
     }
     Ok(list)
 }
+
+/// An array of at least one member.
+pub(crate) fn not_empty<'v>(path: &Path, list: &'v [Value]) -> Result<&'v [Value], ReadFault>
+    ensures gives { Gives (λ some. items_view some.now) result
+        (spec.not_empty path.now (items_view list.now)) }
+    ensures same { IfOk result (λ some. some.now ≡ list.now) }
+{
+    match list.first() {
+        Some(_) => Ok(list),
+        None => Err(fault(OUT_OF_RANGE, path)),
+    }
+}

@@ -8,7 +8,9 @@
 //! - `x_of` takes what is left once the JSON type is right, a list, a text or a number, as `events_of` and `kind_of`.
 #![tactic(auto)]
 
+mod built;
 mod cast;
+mod choice;
 mod document;
 mod event;
 pub mod field;
@@ -16,9 +18,11 @@ pub mod parts;
 mod premise;
 mod process;
 mod reading;
+mod rules;
 mod script;
 mod settings;
 pub mod table;
+mod waits;
 mod what;
 
 pub use document::Document;

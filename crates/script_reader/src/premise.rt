@@ -4,6 +4,7 @@ ghost use Rattle.kube_objects.specs.Document.{end_beat, of_seconds, of_millis};
 ghost use Rattle.history.specs.Premise.{least_rate, greatest_rate, more, stands, longest, is_long, lease_premise};
 ghost use Rattle.script_reader.specs.Documents.{doc_of};
 ghost use Rattle.script_reader.specs.ClockRates.{Spans, with_earlier};
+ghost use Rattle.script_reader.specs.Lawful.{IsLawfulDoc};
 
 use crate::Document;
 use kube_base::Beat;
@@ -113,7 +114,8 @@ fn outlasts(process: Proc, longest: u64, beat_millis: u32, least: u32, greatest:
 
 // Whether a controller's lease is long enough for a greatest rate of any controller.
 fn is_long(document: &Document, controller: usize, greatest: u32) -> bool
-    requires { controller < length document.now.controllers }
+    requires lawful { IsLawfulDoc (doc_of document.now) }
+    requires controller { controller < length document.now.controllers }
     ensures { result ≡ is_long (doc_of document.now) greatest controller }
 {
     let process = document.controllers.as_slice()[controller];
@@ -129,6 +131,7 @@ fn is_long(document: &Document, controller: usize, greatest: u32) -> bool
 /// Whether every controller's lease outlasts what a leader may act on after its last sent success, at any clock rates of the document
 /// and in its longest pause. Takes no memory.
 pub fn lease_premise(document: &Document) -> bool
+    requires { IsLawfulDoc (doc_of document.now) }
     ensures { result ≡ lease_premise (doc_of document.now) }
 {
     let controllers = document.controllers.as_slice().len();

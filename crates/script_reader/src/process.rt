@@ -6,17 +6,19 @@ ghost use Rattle.manifest_json.specs.Walk.{member_path};
 ghost use Rattle.script_reader.specs.Cast.{Stands};
 ghost use Rattle.script_reader.specs.Walk as walk;
 
-use crate::cast::Named;
+use crate::built::unless_there;
+use crate::cast::{Named, Team};
 use crate::field::{
-    array_in, fault_under, flag_at, member_of, name_number_at, path_of, signed_at, status_at,
-    whole_at,
+    array_in, fault_under, flag_at, member_of, name_number_at, not_empty, path_of, signed_at,
+    status_at, whole_at,
 };
 use crate::parts::{Clock, Timings};
 use crate::settings::{is_sound, timings_at, timings_of};
 use crate::table::{Table, Version, object_in};
+use crate::waits::waits_at;
 use kube_base::Names;
-use kube_objects::{Proc, ReadyStatus, Settings};
-use manifest_json::codes::{BAD_SETTINGS, DUPLICATE, OUT_OF_RANGE};
+use kube_objects::{NumberList, Proc, ReadyStatus, Settings, WaitLists};
+use manifest_json::codes::{BAD_SETTINGS, DUPLICATE};
 use manifest_json::fault::fault;
 use manifest_json::{Path, ReadFault};
 use serde_json::Value;
@@ -51,26 +53,15 @@ pub(crate) fn controllers_in(
     settings: &Settings,
     names: &mut Names,
     value: &Value,
-) -> Result<Named, ReadFault>
-    ensures gives { Gives (λ named. (named.procs, names.new)) result
+) -> Result<Team, ReadFault>
+    ensures gives { Gives (λ team. ((team.named.procs, team.waits), names.new)) result
         (walk.controllers_in version settings.now names.old (view value.now)) }
-    ensures stands { IfOk result Stands }
+    ensures stands { IfOk result (λ team. Stands team.named) }
 {
     let path = path_of(alloc, "/controllers")?;
     let all = array_in(16, &path, value)?;
     let some = not_empty(&path, all)?;
     controllers_of(alloc, version, settings, names, some)
-}
-
-fn not_empty<'v>(path: &Path, list: &'v [Value]) -> Result<&'v [Value], ReadFault>
-    ensures gives { Gives (λ some. items_view some.now) result
-        (walk.not_empty path.now (items_view list.now)) }
-    ensures same { IfOk result (λ some. some.now ≡ list.now) }
-{
-    match list.first() {
-        Some(_) => Ok(list),
-        None => Err(fault(OUT_OF_RANGE, path)),
-    }
 }
 
 fn controllers_of(
@@ -79,20 +70,24 @@ fn controllers_of(
     settings: &Settings,
     names: &mut Names,
     list: &[Value],
-) -> Result<Named, ReadFault>
+) -> Result<Team, ReadFault>
     requires { length list.now ≤ 1000 }
-    ensures gives { Gives (λ named. (named.procs, names.new)) result
-        (walk.controllers_from version settings.now names.old 0 [] (items_view list.now)) }
-    ensures stands { IfOk result Stands }
+    ensures gives { Gives (λ team. ((team.named.procs, team.waits), names.new)) result
+        (walk.controllers_from version settings.now names.old 0 [] [] (items_view list.now)) }
+    ensures stands { IfOk result (λ team. Stands team.named) }
 {
     let mut named = Named::new(alloc);
+    let mut waits = WaitLists::new(alloc);
     for (place, value) in list.iter().enumerate() {
         match controller_in(alloc, version, settings, names, place, &named, value) {
-            Ok(controller) => named.push(controller)?,
+            Ok(controller) => {
+                named.push(controller.0)?;
+                waits.push(controller.1)?;
+            }
             Err(fault) => return Err(fault),
         }
     }
-    Ok(named)
+    Ok(Team { named, waits })
 }
 
 fn controller_in(
@@ -103,44 +98,48 @@ fn controller_in(
     place: usize,
     earlier: &Named,
     value: &Value,
-) -> Result<Proc, ReadFault>
+) -> Result<(Proc, NumberList), ReadFault>
     requires { Stands earlier.now }
-    ensures gives { Gives (λ proc. (proc, names.new)) result
+    ensures gives { Gives (λ controller. (controller, names.new)) result
         (walk.controller_at version settings.now names.old (member_path [] (codes "/controllers/") place)
         earlier.now.procs (view value.now)) }
-    ensures fresh { IfOk result (λ proc. walk.has_name proc.name earlier.now.procs ≡ false) }
+    ensures fresh { IfOk result (λ controller. walk.has_name controller.0.name earlier.now.procs ≡ false) }
 {
     let path = member_of(alloc, "/controllers/", place)?;
-    controller_at(version, settings, names, &path, earlier, value)
+    controller_at(alloc, version, settings, names, &path, earlier, value)
 }
 
-/// A controller behind earlier ones.
+/// A controller behind earlier ones, with its waits.
 #[tactic(auto, unfolding(crate::specs::Walk::controller_at))]
 fn controller_at(
+    alloc: Global,
     version: Version,
     settings: &Settings,
     names: &mut Names,
     path: &Path,
     earlier: &Named,
     value: &Value,
-) -> Result<Proc, ReadFault>
+) -> Result<(Proc, NumberList), ReadFault>
     requires { Stands earlier.now }
-    ensures gives { Gives (λ proc. (proc, names.new)) result
+    ensures gives { Gives (λ controller. (controller, names.new)) result
         (walk.controller_at version settings.now names.old path.now earlier.now.procs (view value.now)) }
-    ensures fresh { IfOk result (λ proc. walk.has_name proc.name earlier.now.procs ≡ false) }
+    ensures fresh { IfOk result (λ controller. walk.has_name controller.0.name earlier.now.procs ≡ false) }
 {
     object_in(Table::Controller(version), path, value)?;
     let name = name_number_at(names, path, "name", value)?;
     let clock = clock_at(path, value)?;
     let watch = flag_at(true, path, "watch", value)?;
     let timings = timings_at(timings_of(settings), path, value)?;
+    let waits = waits_at(alloc, path, value)?;
     if earlier.has(name) {
         return Err(fault_under(DUPLICATE, path, "name"));
     }
     if !is_sound(timings) {
         return Err(fault(BAD_SETTINGS, path));
     }
-    Ok(proc_of(name, clock, watch, ReadyStatus::True, timings))
+    unless_there(path, "waits", value)?;
+    let controller = proc_of(name, clock, watch, ReadyStatus::True, timings);
+    Ok((controller, waits))
 }
 
 fn proc_of(name: u32, clock: Clock, watch: bool, ready: ReadyStatus, timings: Timings) -> Proc

@@ -4,12 +4,14 @@ ghost use Rattle.serde_json.specs.Find.{get};
 ghost use Rattle.serde_json.specs.View.{view};
 ghost use Rattle.manifest_json.specs.Faults.{Gives};
 ghost use Rattle.script_reader.specs.Cast.{Stands, AreNamed, seen};
+ghost use Rattle.script_reader.specs.Built as unbuilt;
 ghost use Rattle.script_reader.specs.Fields as fields;
 ghost use Rattle.script_reader.specs.Walk as walk;
 ghost use Rattle.script_reader.specs.Walk.{document_walk};
 
 use crate::Document;
-use crate::cast::{Named, Players};
+use crate::built::unless_there;
+use crate::cast::{Named, Players, Team};
 use crate::event::events_in;
 use crate::field::{fault_at, object_at, path_of};
 use crate::parts::Scope;
@@ -19,7 +21,7 @@ use crate::table::{Table, Version, known_in};
 use kube_base::{NameHash, Names};
 use kube_objects::{Events, Items, Settings};
 use manifest_json::codes::{BAD_JSON, MISSING_KEY, TOP_SHAPE, WRONG_TYPE};
-use manifest_json::{Objects, ReadFault, read_list};
+use manifest_json::{Objects, Path, ReadFault, read_list};
 use serde_json::Value;
 use std::alloc::Global;
 
@@ -57,11 +59,12 @@ pub fn document_of(alloc: Global, hash: NameHash, value: &Value) -> Result<Docum
     let version = version(alloc, value)?;
     let settings = settings(alloc, version, value)?;
     let mut names = Names::keyed(alloc, hash)?;
-    let controllers = controllers(alloc, version, &settings, &mut names, value)?;
+    let team = controllers(alloc, version, &settings, &mut names, value)?;
     let kubelets = kubelets(alloc, &settings, &mut names, value)?;
-    let objects = objects(alloc, &mut names, controllers.known(), value)?;
+    let objects = objects(alloc, &mut names, team.named.known(), value)?;
+    let Team { named, waits } = team;
     let players = Players {
-        controllers,
+        controllers: named,
         kubelets,
     };
     let scope = Scope {
@@ -77,6 +80,7 @@ pub fn document_of(alloc: Global, hash: NameHash, value: &Value) -> Result<Docum
         settings,
         controllers: controllers.procs,
         kubelets: kubelets.procs,
+        waits,
         objects,
         events,
         names,
@@ -90,7 +94,20 @@ fn top_in(alloc: Global, value: &Value) -> Result<(), ReadFault>
 {
     let path = path_of(alloc, "/")?;
     object_at(TOP_SHAPE, &path, value)?;
-    known_in(Table::Top, &path, value)
+    known_in(Table::Top(says_four(value)), &path, value)
+}
+
+/// Whether the version is the whole number 4.
+fn says_four(value: &Value) -> bool
+    ensures { result ≡ walk.says_four (get (codes "version") (view value.now)) }
+{
+    match value.get("version") {
+        Some(found) => match found.as_u64() {
+            Some(n) => n == 4,
+            None => false,
+        },
+        None => false,
+    }
 }
 
 fn version(alloc: Global, value: &Value) -> Result<Version, ReadFault>
@@ -103,7 +120,7 @@ fn version(alloc: Global, value: &Value) -> Result<Version, ReadFault>
     }
 }
 
-/// The whole number 1, 2 or 3.
+/// A whole number from 1 to 4.
 fn version_in(alloc: Global, found: &Value) -> Result<Version, ReadFault>
     ensures { Gives (λ version. version) result (walk.version_in (view found.now)) }
 {
@@ -125,6 +142,8 @@ fn version_of(alloc: Global, n: u64) -> Result<Version, ReadFault>
         Ok(Version::Two)
     } else if n == 3 {
         Ok(Version::Three)
+    } else if n == 4 {
+        Ok(Version::Four)
     } else {
         Err(fault_at(alloc, TOP_SHAPE, "/version"))
     }
@@ -154,11 +173,11 @@ fn controllers(
     settings: &Settings,
     names: &mut Names,
     value: &Value,
-) -> Result<Named, ReadFault>
-    ensures gives { Gives (λ named. (named.procs, names.new)) result
+) -> Result<Team, ReadFault>
+    ensures gives { Gives (λ team. ((team.named.procs, team.waits), names.new)) result
         (fields.required (codes "/controllers") (walk.controllers_in version settings.now names.old)
         (get (codes "controllers") (view value.now))) }
-    ensures stands { IfOk result Stands }
+    ensures stands { IfOk result (λ team. Stands team.named) }
 {
     match value.get("controllers") {
         Some(found) => controllers_in(alloc, version, settings, names, found),
@@ -217,7 +236,30 @@ fn objects_in(
     Ok(objects)
 }
 
+/// The events. There are no sets of pods.
+#[tactic(auto, unfolding(crate::specs::Walk::events_at))]
 fn events(
+    alloc: Global,
+    players: &Players,
+    scope: Scope,
+    names: &mut Names,
+    value: &Value,
+) -> Result<Events, ReadFault>
+    requires { AreNamed players.now }
+    ensures { Gives (λ events. (events, names.new)) result
+        (walk.events_at scope (seen players.now) names.old (view value.now)) }
+{
+    no_sets(alloc, value)?;
+    listed_events(alloc, players, scope, names, value)
+}
+
+fn no_sets(alloc: Global, value: &Value) -> Result<(), ReadFault>
+    ensures { Gives (λ _. view value.now) result (unbuilt.unless_there [] (codes "podSets") (view value.now)) }
+{
+    unless_there(&Path::new(alloc), "podSets", value)
+}
+
+fn listed_events(
     alloc: Global,
     players: &Players,
     scope: Scope,

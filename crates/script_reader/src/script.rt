@@ -57,6 +57,7 @@ impl Script {
             What::Stop(_) => false,
             What::Watch(_, _) => false,
             What::Ready(_, _) => false,
+            What::Stall(_) => false,
             What::Put(_, _) => false,
             What::Remove(_) => false,
         }

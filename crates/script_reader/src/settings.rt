@@ -5,11 +5,14 @@ ghost use Rattle.manifest_json.specs.Faults.{Gives};
 ghost use Rattle.script_reader.specs.Fields as fields;
 ghost use Rattle.script_reader.specs.Walk as walk;
 
+use crate::built::rules_built;
+use crate::choice::preset_at;
 use crate::field::{epoch_at, fault_under, flag_at, needed_whole, policy_at, whole_at};
 use crate::parts::{Beats, Periods, Rates, Timings};
+use crate::rules::{agree, rules_at};
 use crate::table::{Table, Version, object_in};
 use kube_base::Beat;
-use kube_objects::{RatePolicy, Settings};
+use kube_objects::{RatePolicy, Rules, Settings};
 use manifest_json::codes::{BAD_SETTINGS, OUT_OF_RANGE};
 use manifest_json::fault::fault;
 use manifest_json::{Path, ReadFault};
@@ -32,8 +35,12 @@ pub(crate) fn settings_at(
     let rates = rates_at(path, value)?;
     let fast = flag_at(false, path, "fastRenew", value)?;
     let policy = policy_at(path, "ratePolicy", value)?;
-    let settings = settings_of(beats, timings, periods, rates, fast, policy);
-    if_sound(path, timings, rates, settings)
+    let preset = preset_at(path, value)?;
+    let rules = rules_at(preset, path, value)?;
+    let settings = settings_of(beats, timings, periods, rates, fast, policy, rules);
+    if_sound(path, timings, rates, &settings)?;
+    rules_built(preset, path, value)?;
+    Ok(settings)
 }
 
 #[tactic(auto, unfolding(crate::specs::Walk::beats_at))]
@@ -167,8 +174,9 @@ fn settings_of(
     rates: Rates,
     fast_renew: bool,
     rate_policy: RatePolicy,
+    rules: Rules,
 ) -> Settings
-    ensures { result ≡ walk.settings_of beats timings periods rates fast_renew rate_policy }
+    ensures { result ≡ walk.settings_of beats timings periods rates fast_renew rate_policy rules }
 {
     Settings {
         beat_millis: beats.millis,
@@ -189,6 +197,7 @@ fn settings_of(
         unhealthy_percent: rates.unhealthy_percent,
         fast_renew,
         rate_policy,
+        rules,
     }
 }
 
@@ -197,13 +206,13 @@ fn if_sound(
     path: &Path,
     timings: Timings,
     rates: Rates,
-    settings: Settings,
-) -> Result<Settings, ReadFault>
-    ensures { Gives (λ settings. settings) result
-        (walk.if_sound path.now timings rates settings) }
+    settings: &Settings,
+) -> Result<(), ReadFault>
+    ensures { Gives (λ _. settings.now) result
+        (walk.if_sound path.now timings rates settings.now) }
 {
-    if is_sound(timings) && rates.secondary <= rates.primary {
-        Ok(settings)
+    if is_sound(timings) && rates.secondary <= rates.primary && agree(settings.rules) {
+        Ok(())
     } else {
         Err(fault(BAD_SETTINGS, path))
     }

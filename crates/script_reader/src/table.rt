@@ -18,6 +18,7 @@ pub enum Version {
     One,
     Two,
     Three,
+    Four,
 }
 
 /// The types of events.
@@ -32,6 +33,8 @@ pub enum EventType {
     Watch,
     Ready,
     Pause,
+    /// The store stands still. It is refused as not built.
+    Stall,
     Put,
     Remove,
 }
@@ -39,7 +42,8 @@ pub enum EventType {
 /// The objects of a document.
 #[derive(Clone, Copy, Debug)]
 pub enum Table {
-    Top,
+    /// Whether it may have sets of pods.
+    Top(bool),
     Settings(Version),
     Controller(Version),
     Kubelet,
@@ -90,7 +94,7 @@ fn is_key_of(table: Table, key: &str) -> bool
     ensures { result ≡ spec.is_key_of table key.now }
 {
     match table {
-        Table::Top => is_top_key(key),
+        Table::Top(sets) => is_top_key(sets, key),
         Table::Settings(version) => is_settings_key(version, key),
         Table::Controller(version) => is_controller_key(version, key),
         Table::Kubelet => is_kubelet_key(key),
@@ -106,21 +110,35 @@ fn is_from_two(version: Version) -> bool
         Version::One => false,
         Version::Two => true,
         Version::Three => true,
+        Version::Four => true,
     }
 }
 
-pub(crate) fn is_three(version: Version) -> bool
-    ensures { result ≡ spec.is_three version }
+/// Whether the version is 3 or a later one.
+pub(crate) fn is_from_three(version: Version) -> bool
+    ensures { result ≡ spec.is_from_three version }
 {
     match version {
         Version::One => false,
         Version::Two => false,
         Version::Three => true,
+        Version::Four => true,
     }
 }
 
-fn is_top_key(key: &str) -> bool
-    ensures { result ≡ spec.is_top_key key.now }
+pub(crate) fn is_four(version: Version) -> bool
+    ensures { result ≡ spec.is_four version }
+{
+    match version {
+        Version::One => false,
+        Version::Two => false,
+        Version::Three => false,
+        Version::Four => true,
+    }
+}
+
+fn is_top_key(sets: bool, key: &str) -> bool
+    ensures { result ≡ spec.is_top_key sets key.now }
 {
     key == "version"
         || key == "settings"
@@ -128,6 +146,7 @@ fn is_top_key(key: &str) -> bool
         || key == "kubelets"
         || key == "objects"
         || key == "events"
+        || (sets && key == "podSets")
 }
 
 fn is_beats_key(key: &str) -> bool
@@ -164,6 +183,40 @@ fn is_rates_key(key: &str) -> bool
         || key == "unhealthyPercent"
 }
 
+fn is_judging_key(key: &str) -> bool
+    ensures { result ≡ spec.is_judging_key key.now }
+{
+    key == "rules"
+        || key == "retries"
+        || key == "respect"
+        || key == "firstSyncMillis"
+        || key == "probe"
+        || key == "judge"
+        || key == "firstSight"
+}
+
+fn is_tainting_key(key: &str) -> bool
+    ensures { result ≡ spec.is_tainting_key key.now }
+{
+    key == "queue"
+        || key == "bucket"
+        || key == "evictFrom"
+        || key == "evictBurst"
+        || key == "evictRate"
+}
+
+fn is_ending_key(key: &str) -> bool
+    ensures { result ≡ spec.is_ending_key key.now }
+{
+    key == "release" || key == "inRelease" || key == "readyMillis" || key == "readyBurst"
+}
+
+fn is_rules_key(key: &str) -> bool
+    ensures { result ≡ spec.is_rules_key key.now }
+{
+    is_judging_key(key) || is_tainting_key(key) || is_ending_key(key)
+}
+
 fn is_settings_key(version: Version, key: &str) -> bool
     ensures { result ≡ spec.is_settings_key version key.now }
 {
@@ -173,6 +226,7 @@ fn is_settings_key(version: Version, key: &str) -> bool
         || is_rates_key(key)
         || key == "fastRenew"
         || (is_from_two(version) && key == "ratePolicy")
+        || (is_four(version) && is_rules_key(key))
 }
 
 fn is_clock_key(key: &str) -> bool
@@ -188,6 +242,7 @@ fn is_controller_key(version: Version, key: &str) -> bool
         || is_clock_key(key)
         || key == "watch"
         || (is_from_two(version) && is_timings_key(key))
+        || (is_four(version) && key == "waits")
 }
 
 fn is_kubelet_key(key: &str) -> bool
@@ -210,6 +265,7 @@ fn is_type_key(kind: EventType, key: &str) -> bool
         EventType::Watch => key == "process" || key == "on",
         EventType::Ready => key == "process" || key == "status",
         EventType::Pause => key == "process" || key == "beats",
+        EventType::Stall => key == "beats",
         EventType::Put => key == "object",
         EventType::Remove => key == "kind" || key == "namespace" || key == "name",
     }

@@ -16,7 +16,7 @@ use crate::field::{
 use crate::table::EventType;
 use kube_base::{Names, ProcId};
 use kube_objects::{Key, Kind, Object, What};
-use manifest_json::codes::{MISSING_KEY, OUT_OF_RANGE, UNKNOWN_PROCESS};
+use manifest_json::codes::{MISSING_KEY, NOT_BUILT, OUT_OF_RANGE, UNKNOWN_PROCESS};
 use manifest_json::{Path, ReadFault, number, read_object};
 use serde_json::Value;
 use std::alloc::Global;
@@ -59,6 +59,7 @@ pub(crate) fn what_at(
             Ok(What::Ready(id, status))
         }
         EventType::Pause => Ok(pause_at(players, names, path, value)?),
+        EventType::Stall => Ok(stall_at(path, value)?),
         EventType::Put => put_at(alloc, players, names, path, value),
         EventType::Remove => remove_at(names, path, value),
     }
@@ -97,6 +98,15 @@ fn pause_at(players: &Players, names: &Names, path: &Path, value: &Value) -> Res
     let id = process_at(Sort::Any, players, names, path, value)?;
     let beats = needed_whole(1, 604_800_000, path, "beats", value)?;
     Ok(What::Pause(id, beats))
+}
+
+/// A stall of the store is refused at its type as not built, once its keys are those of one.
+#[tactic(auto, unfolding(crate::specs::Walk::stall_at))]
+fn stall_at(path: &Path, value: &Value) -> Result<What, ReadFault>
+    ensures { Gives (λ what. what) result (walk.stall_at path.now (view value.now)) }
+{
+    needed_whole(1, 604_800_000, path, "beats", value)?;
+    Err(fault_under(NOT_BUILT, path, "type"))
 }
 
 /// The process of an event, which is of this sort.

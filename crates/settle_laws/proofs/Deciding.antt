@@ -8,7 +8,8 @@ use Rattle.kube_objects.specs.declared.call.Request.TheVariants.{Get, Create, Up
 use Rattle.kube_objects.specs.declared.deed.Actor.{Actor}
 use Rattle.kube_objects.specs.Document.{Doc, is_controller}
 use Rattle.kube_objects.specs.Elector.{succeeds}
-use Rattle.kube_objects.specs.Entry.{Entry, Identity, Call, Fact, First, Event, Starts, Stops, Sends, Answers, Delivers, Expires, Leads, Ends, Crashes, Stalls, Ticks, actor_of, entry}
+use Rattle.kube_objects.specs.Entry.{Entry, Identity, Call, Fact, First, Event, Starts, Stops, Sends, Answers, Delivers, Expires, Leads, Ends, Crashes, Stalls, Ticks, actor_of, entry, StepsDown, ReleaseBegins, ReleaseEnds, ReleaseStops}
+use Rattle.kube_objects.specs.Own.{IsOwn}
 use Rattle.history.specs.History.{history}
 use Rattle.history_laws.specs.Tails.{IsTail}
 use Rattle.history_laws.proofs.Order.{entries_are_earlier}
@@ -42,7 +43,7 @@ done_succeeds (Create key lease) v u = refl
 done_succeeds (Update key given lease) v u = refl
 done_succeeds (PostStatus name status at) v u = refl
 
-module _ (doc : Doc) (near far a e n : ℕ) where
+module _ (doc : Doc) (rules : IsOwn doc) (near far a e n : ℕ) where
   -- an entry is no such success
   abbrev IsNone : Entry → Type 0
   IsNone x =
@@ -53,7 +54,7 @@ module _ (doc : Doc) (near far a e n : ℕ) where
   other x d fact never = inr (λ q call version role s actor is since so. never call version (sym fact ∙ is))
 
   at_entry : (x : Entry) (T : List Entry) → IsTail (x ∷ T) (history doc (suc n)) → SomebodySucceeds doc near far a e n ⊎ IsNone x
-  at_entry x T at = cases x.actor x.fact refl refl (are_made doc (suc n) x T at)
+  at_entry x T at = cases x.actor x.fact refl refl (are_made doc rules (suc n) x T at)
     where
       cases : (who : Actor) (d : Fact) → x.actor ≡ who → x.fact ≡ d → MadeAs doc x.beat x.step who d T → SomebodySucceeds doc near far a e n ⊎ IsNone x
       cases who (Delivers w (Done v) true) actor fact made = by_role (is_controller doc made.b.who.process) refl
@@ -116,6 +117,10 @@ module _ (doc : Doc) (near far a e n : ℕ) where
       cases who Crashes actor fact made = other x Crashes fact (λ call version is. cc)
       cases who Stops actor fact made = other x Stops fact (λ call version is. cc)
       cases who (Stalls beats) actor fact made = other x (Stalls beats) fact (λ call version is. cc)
+      cases who StepsDown actor fact made = absurd made
+      cases who (ReleaseBegins at_deadline) actor fact made = absurd made
+      cases who ReleaseEnds actor fact made = absurd made
+      cases who ReleaseStops actor fact made = absurd made
       cases who Ends actor fact made = other x Ends fact (λ call version is. cc)
       cases who (Leads v) actor fact made = other x (Leads v) fact (λ call version is. cc)
 

@@ -135,7 +135,7 @@ module _ (doc : Doc) (near far a e n : ℕ) (sound : IsSound doc) (calm : IsCalm
     -- it acts no more from the later beat on
     idle : (k : ℕ) → a + old ≤ k → k ≤ n → Acts doc q k → ⊥
     idle =
-        none_acts doc a e n end within q q_role (λ k low high. (q_steady.passes k low high).awake) last (a + old) (omega arith) soon room
+        none_acts doc sound.2 a e n end within q q_role (λ k low high. (q_steady.passes k low high).awake) last (a + old) (omega arith) soon room
         (subst (λ p. local doc p last + (retry_period doc p + renew_deadline doc p) ≤ local doc p (a + old)) (sym mine) reached) success_by
 
     -- so there is none at that last beat
@@ -150,7 +150,7 @@ module _ (doc : Doc) (near far a e n : ℕ) (sound : IsSound doc) (calm : IsCalm
     -- who is up after the beat before has no term
     no_term : (h : List Entry) → IsTail (at_turn doc (suc q.process) (a + old - 1)) h → IsTail h (history doc (suc n)) → alive q.process h ≡ Some q.incarnation → deadline doc q h ≡ None
     no_term =
-        no_deadline doc a e n end within q q_role (λ k low high. (q_steady.passes k low high).awake) (a + (2 * far - 2)) (a + old - 1) (omega arith) (omega (arith, soon, some_far)) (omega (arith, room))
+        no_deadline doc sound.2 a e n end within q q_role (λ k low high. (q_steady.passes k low high).awake) (a + (2 * far - 2)) (a + old - 1) (omega arith) (omega (arith, soon, some_far)) (omega (arith, room))
         (subst (λ p. local doc p (a + (2 * far - 2)) + (retry_period doc p + renew_deadline doc p) ≤ local doc p (a + old - 1)) (sym mine)
         (grows (a + (2 * far - 2)) (a + old - 1) (omega arith) (omega (arith, ends.in_old, some_far)) (omega (arith, room, within)))) success_before
 
@@ -167,7 +167,7 @@ module _ (doc : Doc) (near far a e n : ℕ) (sound : IsSound doc) (calm : IsCalm
 
   module _ (renewed : (q : Identity) → q.process ≡ p → RenewsInTime doc near far a e q) (none : (q : Identity) → q.process ≡ p → (j : ℕ) → j ≤ n → HasSuccess doc q a j → ⊥) where
     pub none_ends : AllBeats doc e p Ends (λ k. k ≡ a + old → ⊥)
-    none_ends x stands fact by is = by_made (subst (λ d. MadeAs doc x.beat x.step x.actor d T) fact (are_made doc (suc e) x T at_e))
+    none_ends x stands fact by is = by_made (subst (λ d. MadeAs doc x.beat x.step x.actor d T) fact (are_made doc sound.2 (suc e) x T at_e))
       where
         T : List Entry
         T = (place_of x (history doc (suc e)) stands).before

@@ -4,7 +4,7 @@ use Rattle.std.proofs.Common.{◌≡◌, ◌<◌, ◌≤◌, ℕ, suc, ◌+◌, 
 use Rattle.std.proofs.lemmas.Bool.{eq-eqb, cases_lt}
 use Rattle.kube_objects.specs.Document.{Doc, processes, end_beat, is_controller, call_timeout, retry_period, renew_deadline}
 use Rattle.kube_objects.specs.Elector.{leads}
-use Rattle.kube_objects.specs.Entry.{Entry, Identity, Fact, First, Event, Starts, Stops, Sends, Answers, Delivers, Expires, Leads, Ends, Crashes, Stalls, Ticks, actor_of}
+use Rattle.kube_objects.specs.Entry.{Entry, Identity, Fact, First, Event, Starts, Stops, Sends, Answers, Delivers, Expires, Leads, Ends, Crashes, Stalls, Ticks, actor_of, StepsDown, ReleaseBegins, ReleaseEnds, ReleaseStops}
 use Rattle.kube_objects.specs.Identities.{identity, of_process}
 use Rattle.kube_objects.specs.Newest.{when, has}
 use Rattle.kube_objects.specs.Clocks.{local}
@@ -53,6 +53,10 @@ writes_since a b Starts le writes = absurd writes
 writes_since a b Crashes le writes = absurd writes
 writes_since a b Stops le writes = absurd writes
 writes_since a b (Stalls beats) le writes = absurd writes
+writes_since a b StepsDown le writes = absurd writes
+writes_since a b (ReleaseBegins at_deadline) le writes = absurd writes
+writes_since a b ReleaseEnds le writes = absurd writes
+writes_since a b ReleaseStops le writes = absurd writes
 writes_since a b Ends le writes = absurd writes
 writes_since a b (Leads version) le writes = absurd writes
 
@@ -93,7 +97,7 @@ module _ (doc : Doc) (near far a e n : ℕ) (sound : IsSound doc) (calm : IsCalm
     success_by = early.success_by doc near far a e n sound calm time one ways end within old room q.process role steady t.deadline ends_by q refl (renewed q role steady) (nobody q role steady)
 
     none_later : (k : ℕ) → settled ≤ k → k ≤ n → Acts doc q k → ⊥
-    none_later = none_acts doc a e n end within q role awake (a + (2 * far - 1)) settled (omega arith) soon room reached success_by
+    none_later = none_acts doc sound.2 a e n end within q role awake (a + (2 * far - 1)) settled (omega arith) soon room reached success_by
 
     -- its messages pass from that beat on, too, and none of its terms ends at it
     steady_later : IsSteady doc near far settled e q.process
@@ -113,21 +117,21 @@ module _ (doc : Doc) (near far a e n : ℕ) (sound : IsSound doc) (calm : IsCalm
     -- who is up after its turn at that beat never led
     module _ (h : List Entry) (low : IsTail (at_turn doc (suc q.process) settled) h) (high : IsTail h (history doc (suc n))) (up : alive q.process h ≡ Some q.incarnation) where
       led : (g : List Entry) → IsTail g (history doc (suc n)) → leads q g ≡ false
-      led = never_leads doc a e n end within q role awake (a + (2 * far - 1)) settled (omega arith) soon room reached success_by h low high up
+      led = never_leads doc sound.2 a e n end within q role awake (a + (2 * far - 1)) settled (omega arith) soon room reached success_by h low high up
 
       idle : (k : ℕ) → a ≤ k → k ≤ n → Acts doc q k → ⊥
-      idle = never_acts doc a e n end within q role awake (a + (2 * far - 1)) settled (omega arith) soon room reached success_by h low high up
+      idle = never_acts doc sound.2 a e n end within q role awake (a + (2 * far - 1)) settled (omega arith) soon room reached success_by h low high up
 
       -- and stays up
       stays_up : IsTail (with_events doc a) h → (g : List Entry) → IsTail h g → IsTail g (history doc (suc n)) → alive q.process g ≡ Some q.incarnation
-      stays_up after g below above = persists doc near far a e n q role t.deadline steady within idle (omega (arith, room)) h g after below above up
+      stays_up after g below above = persists doc sound.2 near far a e n q role t.deadline steady within idle (omega (arith, room)) h g after below above up
 
   -- no election write by a call of that beat or later is accepted
   no_write : (x : Entry) (T : List Entry) (q : Identity) → IsTail (x ∷ T) (history doc (suc n)) → x.actor ≡ actor_of q → is_controller doc q.process ≡ true → WritesElection settled x.fact → x.beat + far ≤ n → ⊥
   no_write x T q at by role writes late = ⊎_elim steady quiet (calm.each q.process role)
     where
       steady : IsSteady doc near far a e q.process → ⊥
-      steady s = writer_acts doc near far settled e n q role (steady_later q role s) (in_time_later q role s) within one (none_later q role s) x T at by writes late
+      steady s = writer_acts doc sound.2 near far settled e n q role (steady_later q role s) (in_time_later q role s) within one (none_later q role s) x T at by writes late
 
       quiet : IsQuiet doc a e q.process → ⊥
       quiet s =
@@ -182,7 +186,7 @@ module _ (doc : Doc) (near far a e n : ℕ) (sound : IsSound doc) (calm : IsCalm
 
     with_identity : (i : ℕ) → alive p S ≡ Some i → ⊥
     with_identity i up =
-        no_candidate doc near far a settled e n calm one ways (omega arith) within is_kept most_lasts record_lasts p later slow fast lost wait needed c b (time p c.role c.steady) first up_by lost_by (omega (arith, ways_by, some_far))
+        no_candidate doc sound.2 near far a settled e n calm one ways (omega arith) within is_kept most_lasts record_lasts p later slow fast lost wait needed c b (time p c.role c.steady) first up_by lost_by (omega (arith, ways_by, some_far))
         enough most enough_is most_is time_left i (idle (identity p i) c.role c.steady S s_low s_high up) (led (identity p i) c.role c.steady S s_low s_high up)
         (λ h low high. stays_up (identity p i) c.role c.steady S s_low s_high up (after_events S s_low) h low high) stays
       where
@@ -203,7 +207,7 @@ module _ (doc : Doc) (near far a e n : ℕ) (sound : IsSound doc) (calm : IsCalm
 
 pub calm_spans_settle : CalmSpansSettle
 calm_spans_settle doc near far a e sound calm time one ways end renewed old ends p later slow fast lost wait needed c b after first up_by lost_by ways_by most_lasts enough most early all enough_is most_is within =
-    ⊎_elim found (λ nobody. absurd (nobody_never nobody)) (somebody_or_nobody doc near far a e n)
+    ⊎_elim found (λ nobody. absurd (nobody_never nobody)) (somebody_or_nobody doc sound.2 near far a e n)
   where
     n : ℕ
     n = a + first + most + 4 * far

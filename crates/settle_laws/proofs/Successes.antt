@@ -10,7 +10,7 @@ use Rattle.kube_objects.specs.declared.key.Key.{Key}
 use Rattle.kube_objects.specs.Answers.{written}
 use Rattle.kube_objects.specs.Document.{Doc, processes, end_beat, is_controller}
 use Rattle.kube_objects.specs.Elector.{Moment, Succeeds, follow_write, follow, succeeds}
-use Rattle.kube_objects.specs.Entry.{Entry, Identity, Call, CallKind, Plain, Fast, Release, Sends, Answers, Delivers, actor_of}
+use Rattle.kube_objects.specs.Entry.{Entry, Identity, Call, CallKind, Plain, Fast, Release, Sends, Answers, Delivers, actor_of, Look, Emptying}
 use Rattle.kube_objects.specs.Keys.{key_eq}
 use Rattle.kube_objects.specs.Stored.{election, key_of}
 use Rattle.kube_objects.specs.Wire.{back_of, request_arrival, reply_delay}
@@ -78,6 +78,16 @@ write_succeeds Release key lease (Found version l) v is = absurd (cc)
 write_succeeds Release key lease Exists v is = absurd (cc)
 write_succeeds Release key lease (Conflict version) v is = absurd (cc)
 write_succeeds Release key lease Unchanged v is = absurd (cc)
+write_succeeds (Look begun) key lease Absent v is = absurd (cc)
+write_succeeds (Look begun) key lease (Found version l) v is = absurd (cc)
+write_succeeds (Look begun) key lease Exists v is = absurd (cc)
+write_succeeds (Look begun) key lease (Conflict version) v is = absurd (cc)
+write_succeeds (Look begun) key lease Unchanged v is = absurd (cc)
+write_succeeds (Emptying begun) key lease Absent v is = absurd (cc)
+write_succeeds (Emptying begun) key lease (Found version l) v is = absurd (cc)
+write_succeeds (Emptying begun) key lease Exists v is = absurd (cc)
+write_succeeds (Emptying begun) key lease (Conflict version) v is = absurd (cc)
+write_succeeds (Emptying begun) key lease Unchanged v is = absurd (cc)
 
 -- what a reply is followed by says so
 pub follow_succeeds : (q : Identity) (m : Moment) (seen : ℕ) (kind : CallKind) (r : Request) (reply : Reply) (v : Version) → follow q m seen kind r reply ≡ Succeeds v → succeeds r reply ≡ true
@@ -92,7 +102,7 @@ module _ (doc : Doc) (near far a e n : ℕ) (sound : IsSound doc) (calm : IsCalm
     (q : Identity) (role : is_controller doc q.process ≡ true) (steady : IsSteady doc near far a e q.process)
     (x : Entry) (T : List Entry) (w : Call) (reply : Reply) (at : IsTail (x ∷ T) (history doc (suc n))) (actor : x.actor ≡ actor_of q) (fact : x.fact ≡ Delivers w reply true) (early : w.sent < a) where
   abbrev pub o : Origin doc q w reply T x.beat
-  o = origin doc (suc n) q x T w reply at actor fact
+  o = origin doc sound.2 (suc n) q x T w reply at actor fact
 
   high : IsTail T (history doc (suc n))
   high = tail_trans T (x ∷ T) (history doc (suc n)) (inr (tail_all T)) at
@@ -107,8 +117,8 @@ module _ (doc : Doc) (near far a e n : ℕ) (sound : IsSound doc) (calm : IsCalm
   key_is = ap (λ k. key_eq k election) (asked_of doc sound n end q role o.begun.f o.begun.before w o.begun.arrives sending o.begun.actor o.begun.fact).key
 
   pub sent : w.sent ≡ o.begun.f.beat
-  sent = (subst (λ p. IfSome p (λ s. (s.call.sent ≡ o.begun.f.beat) × (s.arrives ≡ request_arrival s.who.process o.begun.f.beat o.begun.before)))
-      (sent_is o.begun.f q w o.begun.arrives o.begun.actor o.begun.fact) (messages_travel doc (suc n) o.begun.f o.begun.before sending).0).0
+  sent = (subst (λ p. IfSome p (λ s. (s.call.sent ≡ o.begun.f.beat) × (s.arrives ≡ request_arrival doc s.who.process o.begun.f.beat o.begun.before)))
+      (sent_is o.begun.f q w o.begun.arrives o.begun.actor o.begun.fact) (messages_travel doc sound.2 (suc n) o.begun.f o.begun.before sending).0).0
 
   earlier : (z : Entry) (Z : List Entry) → IsTail (z ∷ Z) (history doc (suc n)) → z.beat < a → In z (history doc a)
   earlier z Z at lt = in_head z Z (history doc a) (tail_trans (z ∷ Z) (history doc (suc z.beat)) (history doc a) (in_own_beat doc (suc n) z Z at) (later_tail doc (suc z.beat) a (omega (arith, lt))))
@@ -136,7 +146,7 @@ module _ (doc : Doc) (near far a e n : ℕ) (sound : IsSound doc) (calm : IsCalm
       comes : o.e.beat + reply_delay q.process (with_events doc o.e.beat) ≡ x.beat
       comes =
           some_is (o.e.beat + reply_delay q.process (with_events doc o.e.beat)) x.beat
-          (sym (reply_passes doc near far q.process o.e.beat o.low passes (forces_stand doc (suc n) o.e o.low answering (omega (arith, o.step)))
+          (sym (reply_passes doc near far q.process o.e.beat o.low passes (forces_stand doc sound.2 (suc n) o.e o.low answering (omega (arith, o.step)))
           (steady.passes (o.e.beat + reply_delay q.process (with_events doc o.e.beat)) (omega (arith, from)) (omega (arith, passes.reply_most, answered, room))).awake)
           ∙ o.comes_is)
 

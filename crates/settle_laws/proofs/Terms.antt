@@ -1,16 +1,18 @@
 -- Where a steady controller has no success by a call of the span, each of its terms is over by a beat.
-use Rattle.std.proofs.Common.{◌≡◌, ◌⊎◌, ◌<◌, ◌≤◌, ℕ, suc, ◌+◌, ◌&&◌, not, nat_lt, Bool, true, false, List, [], ◌∷◌, Option, Some, None, refl, sym, ap, ◌∙◌, subst, inl, inr, arith}
+use Rattle.std.proofs.Common.{◌≡◌, ◌⊎◌, ◌<◌, ◌≤◌, ℕ, suc, ◌+◌, ◌&&◌, nat_lt, Bool, true, false, List, [], ◌∷◌, Option, Some, None, refl, sym, ap, ◌∙◌, subst, inl, inr, arith}
 use Rattle.std.proofs.lemmas.Bool.{ltb-true}
 use Rattle.kube_objects.specs.declared.call.Reply.{Reply}
 use Rattle.kube_objects.specs.declared.deed.Actor.{Actor}
 use Rattle.kube_objects.specs.Clocks.{local}
 use Rattle.kube_objects.specs.Document.{Doc, processes, end_beat, is_controller, retry_period, renew_deadline}
-use Rattle.kube_objects.specs.Elector.{succeeds, leads, deadline_says, deadline, is_before, in_term}
-use Rattle.kube_objects.specs.Entry.{Entry, Identity, Call, Fact, First, Event as Happens, Starts, Stops, Sends, Answers, Delivers, Expires, Leads, Ends, Crashes, Stalls, Ticks, actor_of, entry}
+use Rattle.kube_objects.specs.Elector.{succeeds, leads, deadline_says, deadline, is_before}
+use Rattle.kube_objects.specs.Entry.{Entry, Identity, Call, Fact, First, Event as Happens, Starts, Stops, Sends, Answers, Delivers, Expires, Leads, Ends, Crashes, Stalls, Ticks, actor_of, entry, StepsDown, ReleaseBegins, ReleaseEnds, ReleaseStops}
 use Rattle.kube_objects.specs.Identities.{is_by}
 use Rattle.kube_objects.specs.Newest.{has}
 use Rattle.kube_objects.specs.Pauses.{is_paused, can_at}
 use Rattle.kube_objects.specs.Process.{alive, starts, is_present}
+use Rattle.kube_objects.specs.Own.{IsOwn}
+use Rattle.lease_laws.proofs.Claims.{term_of}
 use Rattle.kube_objects.proofs.Clocks.{local_up}
 use Rattle.history.specs.History.{history, at_turn}
 use Rattle.history.specs.Safe.{Acts}
@@ -37,7 +39,7 @@ SucceedsBy doc n q last =
     (x : Entry) (T : List Entry) (w : Call) (reply : Reply) → IsTail (x ∷ T) (history doc (suc n)) → x.step ≡ 3 → x.actor ≡ actor_of q → x.fact ≡ Delivers w reply true → succeeds w.request reply ≡ true → x.beat ≤ last
 
 -- last is the beat by which they come, and by beat settled the clock has gone a retry period and a renew deadline since
-module _ (doc : Doc) (a e n : ℕ) (end : e ≤ end_beat doc) (within : n ≤ e) (q : Identity) (role : is_controller doc q.process ≡ true) (awake : (k : ℕ) → a ≤ k → k ≤ e → is_paused doc q.process k ≡ false)
+module _ (doc : Doc) (rules : IsOwn doc) (a e n : ℕ) (end : e ≤ end_beat doc) (within : n ≤ e) (q : Identity) (role : is_controller doc q.process ≡ true) (awake : (k : ℕ) → a ≤ k → k ≤ e → is_paused doc q.process k ≡ false)
     (last settled : ℕ) (from : a ≤ last) (early : last < settled) (room : settled ≤ n)
     (reached : local doc q.process last + (retry_period doc q.process + renew_deadline doc q.process) ≤ local doc q.process settled) (success_by : SucceedsBy doc n q last) where
   abbrev bound : ℕ
@@ -92,10 +94,14 @@ module _ (doc : Doc) (a e n : ℕ) (end : e ≤ end_beat doc) (within : n ≤ e)
   set_by x T at who Crashes actor fact made comes led t is = absurd (none_is t is)
   set_by x T at who Stops actor fact made comes led t is = absurd (none_is t is)
   set_by x T at who (Stalls beats) actor fact made comes led t is = absurd (none_is t is)
+  set_by x T at who StepsDown actor fact made comes led t is = absurd made
+  set_by x T at who (ReleaseBegins at_deadline) actor fact made comes led t is = absurd made
+  set_by x T at who ReleaseEnds actor fact made comes led t is = absurd made
+  set_by x T at who ReleaseStops actor fact made comes led t is = absurd made
   set_by x T at who Ends actor fact made comes led t is = absurd (none_is t is)
 
   says_by : (x : Entry) (T : List Entry) → IsTail (x ∷ T) (history doc (suc n)) → (t : ℕ) → deadline_says doc q x.beat x.actor (leads q T) x.fact ≡ Some t → IsEarly x.beat t
-  says_by x T at t is = set_by x T at x.actor x.fact refl refl (are_made doc (suc n) x T at) (added doc (suc n) x T at) (leads q T) t is
+  says_by x T at t is = set_by x T at x.actor x.fact refl refl (are_made doc rules (suc n) x T at) (added doc rules (suc n) x T at) (leads q T) t is
 
   pub deadline_by : (h : List Entry) → IsTail h (history doc (suc n)) → (t : ℕ) → deadline doc q h ≡ Some t → t ≤ bound
   deadline_by [] at t is = absurd (none_is t is)
@@ -130,7 +136,7 @@ module _ (doc : Doc) (a e n : ℕ) (end : e ≤ end_beat doc) (within : n ≤ e)
       high = tail_trans g (history doc (suc k)) (history doc (suc n)) (turn_tail doc q.process k (omega (arith, controllers_first doc q.process role))) (later_tail doc (suc k) (suc n) (omega (arith, to)))
 
       before : is_before (local doc q.process k) (deadline doc q g) ≡ true
-      before = and_right (is_present (alive q.process g) q.incarnation) (is_before (local doc q.process k) (deadline doc q g)) (and_right (not (is_paused doc q.process k)) (in_term doc q k g) acting.1)
+      before = and_right (is_present (alive q.process g) q.incarnation) (is_before (local doc q.process k) (deadline doc q g)) (term_of doc rules q k g acting.1)
 
       by_deadline : (o : Option ℕ) → deadline doc q g ≡ o → is_before (local doc q.process k) o ≡ true → ⊥
       by_deadline None is before = false_is before
@@ -166,7 +172,7 @@ module _ (doc : Doc) (a e n : ℕ) (end : e ≤ end_beat doc) (within : n ≤ e)
       meets = tails_meet g h (history doc (suc n)) g_high high
 
       clash : (t : ℕ) → deadline doc q h ≡ Some t → ⊥
-      clash t is = (over_stays doc (suc n) q (at_turn doc (suc q.process) settled) h high low (past_ends doc settled q g t role up_g set counted late (awake settled (omega (arith, from, early)) (omega (arith, room, within))))).1 up
+      clash t is = (over_stays doc rules (suc n) q (at_turn doc (suc q.process) settled) h high low (past_ends doc rules settled q g t role up_g set counted late (awake settled (omega (arith, from, early)) (omega (arith, room, within))))).1 up
         where
           set : deadline doc q g ≡ Some t
           set = deadline_same g last_low g_high ∙ sym (deadline_same h h_low high) ∙ is
@@ -178,7 +184,7 @@ module _ (doc : Doc) (a e n : ℕ) (end : e ≤ end_beat doc) (within : n ≤ e)
           g_low = turn_adds doc settled q.process g
 
           up_g : alive q.process g ≡ Some q.incarnation
-          up_g = still_up q g counted (λ over. (over_stays doc (suc n) q g h high (tail_trans g (at_turn doc (suc q.process) settled) h g_low low) over).1 up)
+          up_g = still_up q g counted (λ over. (over_stays doc rules (suc n) q g h high (tail_trans g (at_turn doc (suc q.process) settled) h g_low low) over).1 up)
 
           late : nat_lt (local doc q.process settled) t ≡ false
           late = by_test (nat_lt (local doc q.process settled) t) refl
@@ -219,7 +225,7 @@ module _ (doc : Doc) (a e n : ℕ) (end : e ≤ end_beat doc) (within : n ≤ e)
         g_high = tail_trans g (history doc (suc k)) (history doc (suc n)) (turn_tail doc q.process k (omega (arith, controllers_first doc q.process role))) (later_tail doc (suc k) (suc n) (omega (arith, to)))
 
         before : is_before (local doc q.process k) (deadline doc q g) ≡ true
-        before = and_right (is_present (alive q.process g) q.incarnation) (is_before (local doc q.process k) (deadline doc q g)) (and_right (not (is_paused doc q.process k)) (in_term doc q k g) acting.1)
+        before = and_right (is_present (alive q.process g) q.incarnation) (is_before (local doc q.process k) (deadline doc q g)) (term_of doc rules q k g acting.1)
 
         by_deadline : (o : Option ℕ) → deadline doc q g ≡ o → is_before (local doc q.process k) o ≡ true → ⊥
         by_deadline None is before = false_is before

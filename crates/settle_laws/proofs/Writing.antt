@@ -92,8 +92,8 @@ module _ (doc : Doc) (near far a e n : ℕ) (sound : IsSound doc) (calm : IsCalm
     facts : (f.actor ≡ actor_of who) × (f.fact ≡ Sends w.made.s.call w.made.s.arrives)
     facts = sends_of f.actor f.fact w.made.s w.made.arriving.is
 
-    travels : (w.made.s.call.sent ≡ f.beat) × (w.made.s.arrives ≡ request_arrival who.process f.beat low)
-    travels = subst (λ o. IfSome o (λ s. (s.call.sent ≡ f.beat) × (s.arrives ≡ request_arrival s.who.process f.beat low))) w.made.arriving.is (messages_travel doc (suc n) f low asked_at).0
+    travels : (w.made.s.call.sent ≡ f.beat) × (w.made.s.arrives ≡ request_arrival doc who.process f.beat low)
+    travels = subst (λ o. IfSome o (λ s. (s.call.sent ≡ f.beat) × (s.arrives ≡ request_arrival doc s.who.process f.beat low))) w.made.arriving.is (messages_travel doc sound.2 (suc n) f low asked_at).0
 
     sent : w.call.sent ≡ f.beat
     sent = ap (λ (c : Call). c.sent) w.made.call_is ∙ travels.0
@@ -141,14 +141,14 @@ module _ (doc : Doc) (near far a e n : ℕ) (sound : IsSound doc) (calm : IsCalm
 
         step : 2 ≤ f.step
         step =
-            let s = sending_of doc near far a e n who w.role (is_steady since) (time who.process w.role (is_steady since)) within one w.made.s.call w.made.s.arrives f low asked_at facts.0 facts.1 (omega (arith, travels.0, sent, since)) in
+            let s = sending_of doc sound.2 near far a e n who w.role (is_steady since) (time who.process w.role (is_steady since)) within one w.made.s.call w.made.s.arrives f low asked_at facts.0 facts.1 (omega (arith, travels.0, sent, since)) in
             let least : 3 ≤ f.step = subst (λ (f : Entry). 3 ≤ f.step) s.1 s.0.step in
             omega (arith, least)
 
         beat_is : x.beat ≡ f.beat + request_delay who.process (with_events doc f.beat)
         beat_is =
             some_is x.beat (f.beat + request_delay who.process (with_events doc f.beat))
-            (sym arrives ∙ travels.1 ∙ request_passes doc near far who.process f.beat low passes (forces_stand doc (suc n) f low asked_at step))
+            (sym arrives ∙ travels.1 ∙ request_passes doc sound.2 near far who.process f.beat low passes (forces_stand doc sound.2 (suc n) f low asked_at step))
 
     -- what it leaves lasts for no longer than the longest lease duration
     pub leaves : (most : ℕ) → AllLastFor doc near far a e most → a ≤ w.call.sent → LastsFor most (object_of (stored election (x ∷ T)))

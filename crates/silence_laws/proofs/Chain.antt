@@ -11,11 +11,12 @@ use Rattle.kube_objects.specs.Answers.{as_kind, lease_in, answer_get, answer, ve
 use Rattle.kube_objects.specs.Clocks.{local}
 use Rattle.kube_objects.specs.Document.{Doc, is_controller, retry_period}
 use Rattle.kube_objects.specs.Elector.{Fails, told, shows, shown, observed, leads, follow_on}
-use Rattle.kube_objects.specs.Entry.{Entry, Identity, Call, Fact, First, Event, Starts, Stops, Sends, Answers, Delivers, Expires, Leads, Ends, Crashes, Stalls, Ticks, actor_of, entry}
+use Rattle.kube_objects.specs.Entry.{Entry, Identity, Call, Fact, First, Event, Starts, Stops, Sends, Answers, Delivers, Expires, Leads, Ends, Crashes, Stalls, Ticks, actor_of, entry, StepsDown, ReleaseBegins, ReleaseEnds, ReleaseStops}
 use Rattle.kube_objects.specs.Identities.{is_by, of_process}
 use Rattle.kube_objects.specs.Newest.{when, only_if, has}
 use Rattle.kube_objects.specs.Process.{alive, open_as, call_in}
 use Rattle.kube_objects.specs.Stored.{Held, election, stored}
+use Rattle.kube_objects.specs.Own.{IsOwn}
 use Rattle.history.specs.History.{history}
 use Rattle.history.specs.Safe.{Acts}
 use Rattle.history_laws.specs.Tails.{In, IsTail}
@@ -52,12 +53,12 @@ none_some : {A : Type 0} (x : A) → None ≡ Some x → ⊥
 none_some x is = cc
 
 -- what a controller sends that isn't stopped waits for a reply
-pub opens_of : (doc : Doc) (n : ℕ) (q : Identity) → is_controller doc q.process ≡ true → ((x : Entry) → In x (history doc (suc n)) → x.fact ≡ Stops → has (of_process q.process x.actor) ≡ true → ⊥)
+pub opens_of : (doc : Doc) → IsOwn doc → (n : ℕ) (q : Identity) → is_controller doc q.process ≡ true → ((x : Entry) → In x (history doc (suc n)) → x.fact ≡ Stops → has (of_process q.process x.actor) ≡ true → ⊥)
     → (x : Entry) (T : List Entry) (call : Call) (arrives : Option ℕ) → IsTail (x ∷ T) (history doc (suc n)) → x.actor ≡ actor_of q → x.fact ≡ Sends call arrives → open_as call.kind call ≡ Some call
-opens_of doc n q role unstopped x T call arrives at actor fact = by_free (made.free role_made)
+opens_of doc rules n q role unstopped x T call arrives at actor fact = by_free (made.free role_made)
   where
     made : MadeSend doc x.beat x.step x.actor call arrives T
-    made = subst (λ d. MadeAs doc x.beat x.step x.actor d T) fact (are_made doc (suc n) x T at)
+    made = subst (λ d. MadeAs doc x.beat x.step x.actor d T) fact (are_made doc rules (suc n) x T at)
 
     mine : made.q ≡ q
     mine = actor_is made.q q (sym made.by ∙ actor)
@@ -71,7 +72,7 @@ opens_of doc n q role unstopped x T call arrives at actor fact = by_free (made.f
         absurd (unstopped (entry x.beat 1 made.q Stops) (in_tail (entry x.beat 1 made.q Stops) T (history doc (suc n)) (tail_trans T (x ∷ T) (history doc (suc n)) (inr (tail_all T)) at) (subst (In (entry x.beat 1 made.q Stops)) (sym stopped.is) (inl refl))) refl
         (ap (λ b. has (when b made.q.incarnation)) (eq-eqb made.q.process q.process (ap (λ (p : Identity). p.process) mine))))
 
-module _ (doc : Doc) (near far e : ℕ) (one : 1 ≤ near) (ways : near ≤ far) (c : Identity) (role : is_controller doc c.process ≡ true) (steady : IsSteady doc near far 0 e c.process) (time : IsInTime doc far 0 e c.process)
+module _ (doc : Doc) (rules : IsOwn doc) (near far e : ℕ) (one : 1 ≤ near) (ways : near ≤ far) (c : Identity) (role : is_controller doc c.process ≡ true) (steady : IsSteady doc near far 0 e c.process) (time : IsInTime doc far 0 e c.process)
     (T : List Entry) (at : IsTail T (history doc (suc e))) (y : Held) (is : stored election T ≡ Some y) (lease : Lease) (object_is : y.object ≡ object.Lease lease) where
   abbrev pub record_kept : Kept T y
   record_kept = kept_of T y is
@@ -101,7 +102,7 @@ module _ (doc : Doc) (near far e : ℕ) (one : 1 ≤ near) (ways : near ≤ far)
 
   module _ (r : ℕ) (S : List Entry) (look : Look r S) (G : List Entry) (high : IsTail G T) (none : (z : Entry) (Z : List Entry) → IsTail (z ∷ Z) G → IsTail (looked r look.w S) Z → shows c z.actor z.fact ≡ None) (idle : call_in c G ≡ None) where
     no_ask : (x : Entry) (X : List Entry) (call : Call) (arrives : Option ℕ) → IsTail (x ∷ X) G → IsTail (looked r look.w S) X → x.actor ≡ actor_of c → x.fact ≡ Sends call arrives → call.request ≡ Get election → open_as call.kind call ≡ Some call → ⊥
-    no_ask x X call arrives position since actor fact get opens = ⊎_elim (λ waits. none_is call (sym idle ∙ waits)) closed (calls_wait doc (suc e) G (in_e G high) c call arrives x X role position actor fact opens)
+    no_ask x X call arrives position since actor fact get opens = ⊎_elim (λ waits. none_is call (sym idle ∙ waits)) closed (calls_wait doc rules (suc e) G (in_e G high) c call arrives x X role position actor fact opens)
       where
         closed : IsClosed c call (x ∷ X) G → ⊥
         closed s = cases s.e.fact refl s.closes
@@ -116,11 +117,11 @@ module _ (doc : Doc) (near far e : ℕ) (one : 1 ≤ near) (ways : near ≤ far)
                 by = by_is c s.e.actor mine
 
                 o : Origin doc c v reply s.before s.e.beat
-                o = origin doc (suc e) c s.e s.before v reply at_e by said
+                o = origin doc rules (suc e) c s.e s.before v reply at_e by said
 
                 sending : o.begun.f ∷ o.begun.before ≡ x ∷ X
                 sending =
-                    one_sending doc (suc e) c v s.before (tail_trans s.before (s.e ∷ s.before) (history doc (suc e)) (inr (tail_all s.before)) at_e) o.begun x X call arrives
+                    one_sending doc rules (suc e) c v s.before (tail_trans s.before (s.e ∷ s.before) (history doc (suc e)) (inr (tail_all s.before)) at_e) o.begun x X call arrives
                     (in_e (x ∷ X) (tail_trans (x ∷ X) G T position high)) actor fact (ap (λ (c : Call). c.number) same)
 
                 below : IsTail (x ∷ X) o.low
@@ -145,7 +146,7 @@ module _ (doc : Doc) (near far e : ℕ) (one : 1 ≤ near) (ways : near ≤ far)
 
             cases : (d : Fact) → s.e.fact ≡ d → Closes c call s.e.actor d → ⊥
             cases (Delivers v reply true) said closes = replied v reply said closes.0 closes.1
-            cases (Expires v) said closes = never_expires doc near far e one c role steady time s.e s.before v at_e (by_is c s.e.actor closes.0) said
+            cases (Expires v) said closes = never_expires doc rules near far e one c role steady time s.e s.before v at_e (by_is c s.e.actor closes.0) said
             cases Stops said closes = absurd (never (steady.stops s.e (in_head s.e s.before (history doc (suc e)) at_e) said (by_process c s.e.actor closes)))
               where
                 never : s.e.beat < 0 → ⊥
@@ -156,6 +157,10 @@ module _ (doc : Doc) (near far e : ℕ) (one : 1 ≤ near) (ways : near ≤ far)
             cases Crashes said closes = elim closes [ ]
             cases Ends said closes = elim closes [ ]
             cases (Stalls beats) said closes = elim closes [ ]
+            cases StepsDown said closes = elim closes [ ]
+            cases (ReleaseBegins at_deadline) said closes = elim closes [ ]
+            cases ReleaseEnds said closes = elim closes [ ]
+            cases ReleaseStops said closes = elim closes [ ]
             cases (Sends w arrives) said closes = elim closes [ ]
             cases (Answers w reply comes wrote) said closes = elim closes [ ]
             cases (Delivers w reply false) said closes = elim closes [ ]
@@ -179,7 +184,7 @@ module _ (doc : Doc) (near far e : ℕ) (one : 1 ≤ near) (ways : near ≤ far)
 
     pub step : (r q : ℕ) (S Q : List Entry) → (look : Look r S) → (later : Look q Q) → q ≤ suc n → IsTail (looked r look.w S) Q → ((z : Entry) (Z : List Entry) → IsTail (z ∷ Z) Q → IsTail (looked r look.w S) Z → shows c z.actor z.fact ≡ None)
         → follow_on doc c r look.w.kind look.w.request (Found y.version lease) (looked r look.w S) ≡ Fails → IsStep r q
-    step r q S Q look later last below none failed = ⊎_elim (λ lt. absurd (too_late lt)) (λ le. by_quiet (quiet_or_asked doc c here due (shown c here) (observed c here) (suc n) role unled up G (quiet_low doc (suc n) c role unled unstopped r look.w (Found y.version lease) S here_n failed) below_g G_n) le) (cases_lt (r + wait) g.beat)
+    step r q S Q look later last below none failed = ⊎_elim (λ lt. absurd (too_late lt)) (λ le. by_quiet (quiet_or_asked doc c here due (shown c here) (observed c here) rules (suc n) role unled up G (quiet_low doc rules (suc n) c role unled unstopped r look.w (Found y.version lease) S here_n failed) below_g G_n) le) (cases_lt (r + wait) g.beat)
       where
         here : List Entry
         here = looked r look.w S
@@ -224,8 +229,8 @@ module _ (doc : Doc) (near far e : ℕ) (one : 1 ≤ near) (ways : near ≤ far)
             over (inl same) = absurd (differ (sym same))
             over (inr low) = absurd (none_some None (sym (later.o.begun.alone (entry r 3 c (Delivers look.w (Found y.version lease) true)) S below low) ∙ says_done c (entry r 3 c (Delivers look.w (Found y.version lease) true)) look.w (Found y.version lease) refl refl))
 
-        trip : Went doc near far e c role steady g.beat later.o.e.beat q
-        trip = went doc near far e c role steady later.w (Found y.version lease) Q q later.o (in_e Q Q_t) (omega (arith, beats_in (entry q 3 c (Delivers later.w (Found y.version lease) true)) Q later.position))
+        trip : Went doc rules near far e c role steady g.beat later.o.e.beat q
+        trip = went doc rules near far e c role steady later.w (Found y.version lease) Q q later.o (in_e Q Q_t) (omega (arith, beats_in (entry q 3 c (Delivers later.w (Found y.version lease) true)) Q later.position))
 
         early : g.beat ≤ n
         early = omega (arith, trip.request.least, trip.reply.least, last, one)
@@ -240,16 +245,16 @@ module _ (doc : Doc) (near far e : ℕ) (one : 1 ≤ near) (ways : near ≤ far)
         here_n = tail_trans here G (history doc (suc n)) below_g G_n
 
         up_s : alive c.process S ≡ Some c.incarnation
-        up_s = (counted_after doc (suc n) c (entry r 3 c (Delivers look.w (Found y.version lease) true)) S look.w (Found y.version lease) here_n refl refl).up
+        up_s = (counted_after doc rules (suc n) c (entry r 3 c (Delivers look.w (Found y.version lease) true)) S look.w (Found y.version lease) here_n refl refl).up
 
         up : (h : List Entry) → IsTail here h → IsTail h (history doc (suc n)) → alive c.process h ≡ Some c.incarnation
-        up h low high = up_between doc (suc n) c S h (history doc (suc n)) (tail_trans S here h (inr (tail_all S)) low) high (tail_all (history doc (suc n))) up_s alive_n
+        up h low high = up_between doc rules (suc n) c S h (history doc (suc n)) (tail_trans S here h (inr (tail_all S)) low) high (tail_all (history doc (suc n))) up_s alive_n
 
         none_g : (z : Entry) (Z : List Entry) → IsTail (z ∷ Z) G → IsTail here Z → shows c z.actor z.fact ≡ None
         none_g z Z high low = none z Z (tail_trans (z ∷ Z) G Q high G_q) low
 
         idle_g : call_in c G ≡ None
-        idle_g = (sent_freely doc (suc e) c role g G later.w later.o.begun.arrives (in_e (g ∷ G) g_t) later.o.begun.actor later.o.begun.fact later.o.begun.opens).idle
+        idle_g = (sent_freely doc rules (suc e) c role g G later.w later.o.begun.arrives (in_e (g ∷ G) g_t) later.o.begun.actor later.o.begun.fact later.o.begun.opens).idle
 
         order : r ≤ g.beat
         order = beats_rise doc e g G (in_e (g ∷ G) g_t) (entry r 3 c (Delivers look.w (Found y.version lease) true)) S below_g
@@ -258,21 +263,21 @@ module _ (doc : Doc) (near far e : ℕ) (one : 1 ≤ near) (ways : near ≤ far)
         too_late : r + wait < g.beat → ⊥
         too_late lt =
             no_ask r S look G G_t none_g idle_g h.x h.before h.call h.arrives (tail_trans (h.x ∷ h.before) (history doc (suc (r + wait))) G h.position (history_below doc (r + wait) e g G (in_e (g ∷ G) g_t) lt (omega (arith, lt, early, within)))) h.since h.actor h.fact h.get
-            (opens_of doc n c role unstopped h.x h.before h.call h.arrives (tail_trans (h.x ∷ h.before) (history doc (suc (r + wait))) (history doc (suc n)) h.position (later_tail doc (suc (r + wait)) (suc n) (omega (arith, lt, early)))) h.actor h.fact)
+            (opens_of doc rules n c role unstopped h.x h.before h.call h.arrives (tail_trans (h.x ∷ h.before) (history doc (suc (r + wait))) (history doc (suc n)) h.position (later_tail doc (suc (r + wait)) (suc n) (omega (arith, lt, early)))) h.actor h.fact)
           where
             h : HasAsked doc c due here (history doc (suc (r + wait)))
             h =
-                candidates_ask doc near far 0 e n r (r + wait) c role time.deadline steady within (λ j from to. idle j to) (omega arith) look.w (Found y.version lease) S
+                candidates_ask doc rules near far 0 e n r (r + wait) c role time.deadline steady within (λ j from to. idle j to) (omega arith) look.w (Found y.version lease) S
                 (since_low doc 0 n (entry r 3 c (Delivers look.w (Found y.version lease) true)) S here_n (omega arith) (omega arith)) here_n up_s failed (omega (arith, some)) (omega (arith, lt, early))
                 (readings_grow doc c.process 0 e slow (retry_period doc c.process) wait runs_least wait_is r (r + wait) (omega arith) (omega arith) (omega (arith, lt, early, within)))
 
         by_quiet : Quiet doc c here due (shown c here) (observed c here) G ⊎ Asked doc c here due (shown c here) (observed c here) G → g.beat ≤ r + wait → IsStep r q
         by_quiet (inl still) le =
-            let reached : IsReached doc (suc n) c role unled unstopped r look.w (Found y.version lease) S here_n failed g later.w =
-            first_gets doc (suc n) c role unled unstopped r look.w (Found y.version lease) S here_n failed g G later.w later.o.begun.arrives g_n below_g still later.o.begun.fact later.o.begun.actor in
+            let reached : IsReached doc rules (suc n) c role unled unstopped r look.w (Found y.version lease) S here_n failed g later.w =
+            first_gets doc rules (suc n) c role unled unstopped r look.w (Found y.version lease) S here_n failed g G later.w later.o.begun.arrives g_n below_g still later.o.begun.fact later.o.begun.actor in
             let since : r + needed ≤ g.beat = readings_last doc c.process 0 e fast (retry_period doc c.process) needed runs_most needed_is r g.beat (omega arith) order (omega (arith, early, within)) reached.reached in
             record { least = omega (arith, since, trip.request.least, trip.reply.least); most = omega (arith, le, trip.request.most, trip.reply.most) }
         by_quiet (inr s) le =
             absurd (no_ask r S look G G_t none_g idle_g s.x s.before s.call s.arrives s.position s.since s.actor s.fact
-            (first_gets doc (suc n) c role unled unstopped r look.w (Found y.version lease) S here_n failed s.x s.before s.call s.arrives (tail_trans (s.x ∷ s.before) G (history doc (suc n)) s.position G_n) s.since s.quiet s.fact s.actor).get
-            (opens_of doc n c role unstopped s.x s.before s.call s.arrives (tail_trans (s.x ∷ s.before) G (history doc (suc n)) s.position G_n) s.actor s.fact))
+            (first_gets doc rules (suc n) c role unled unstopped r look.w (Found y.version lease) S here_n failed s.x s.before s.call s.arrives (tail_trans (s.x ∷ s.before) G (history doc (suc n)) s.position G_n) s.since s.quiet s.fact s.actor).get
+            (opens_of doc rules n c role unstopped s.x s.before s.call s.arrives (tail_trans (s.x ∷ s.before) G (history doc (suc n)) s.position G_n) s.actor s.fact))

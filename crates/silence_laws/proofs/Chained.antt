@@ -14,6 +14,7 @@ use Rattle.kube_objects.specs.Identities.{is_other}
 use Rattle.kube_objects.specs.Newest.{only_if, or_zero}
 use Rattle.kube_objects.specs.Process.{alive}
 use Rattle.kube_objects.specs.Stored.{Held, election, stored}
+use Rattle.kube_objects.proofs.Own.{respected-own}
 use Rattle.history.specs.History.{history}
 use Rattle.history.specs.Safe.{Acts}
 use Rattle.history.specs.Sound.{IsSound}
@@ -43,13 +44,13 @@ module _ (doc : Doc) (near far e : ℕ) (sound : IsSound doc) (end : e ≤ end_b
     (slow fast wait needed : ℕ) (runs_least : RunsAtLeast doc c.process 0 e slow) (runs_most : RunsAtMost doc c.process 0 e fast) (some : 1 ≤ wait)
     (wait_is : IsEnough slow (retry_period doc c.process) wait) (needed_is : IsNeeded fast (retry_period doc c.process) needed) (lasting : ℕ) (lasting_is : IsNeeded fast (of_seconds (or_zero lease.duration)) lasting) where
   abbrev pub Looks : ℕ → List Entry → Type 0
-  Looks r S = Look doc near far e one ways c role steady time T at y is lease object_is r S
+  Looks r S = Look doc sound.2 near far e one ways c role steady time T at y is lease object_is r S
 
   abbrev pub at_look : ℕ → Call → List Entry → List Entry
-  at_look r w S = looked doc near far e one ways c role steady time T at y is lease object_is r w S
+  at_look r w S = looked doc sound.2 near far e one ways c role steady time T at y is lease object_is r w S
 
   abbrev kept : Kept T y
-  kept = record_kept doc near far e one ways c role steady time T at y is lease object_is
+  kept = record_kept doc sound.2 near far e one ways c role steady time T at y is lease object_is
 
   near_step : ℕ
   near_step = needed + 2 * near
@@ -92,7 +93,7 @@ module _ (doc : Doc) (near far e : ℕ) (sound : IsSound doc) (end : e ≤ end_b
       over = ltb-false (local doc c.process r) (local doc c.process o + of_seconds (or_zero lease.duration)) (sym (ap (λ b. b && is_valid (local doc c.process r) (observed_at doc c (at_look r look.w S)) lease) other) ∙ free)
 
       enough : lasting ≤ r - o
-      enough = omega (arith, readings_last doc c.process 0 e fast (of_seconds (or_zero lease.duration)) lasting runs_most lasting_is o r (omega arith) later (beats_in doc near far e one ways c role steady time T at y is lease object_is _ S look.position) over)
+      enough = omega (arith, readings_last doc c.process 0 e fast (of_seconds (or_zero lease.duration)) lasting runs_most lasting_is o r (omega arith) later (beats_in doc sound.2 near far e one ways c role steady time T at y is lease object_is _ S look.position) over)
 
       counted : (steps : ℕ) → IsNeeded (wait + 2 * far) lasting steps → steps * (needed + 2 * near) ≤ r - o
       counted steps steps_is =
@@ -131,7 +132,7 @@ module _ (doc : Doc) (near far e : ℕ) (sound : IsSound doc) (end : e ≤ end_b
       it = shows_it doc near far e sound end c role T at y is lease object_is foreign b.x b.before at_b s t same
 
       made : MadeDelivery doc b.x.beat b.x.step b.x.actor t.w t.reply b.before
-      made = subst (λ d. MadeAs doc b.x.beat b.x.step b.x.actor d b.before) t.fact (are_made doc (suc e) b.x b.before (tail_trans (b.x ∷ b.before) T (history doc (suc e)) at_b at))
+      made = subst (λ d. MadeAs doc b.x.beat b.x.step b.x.actor d b.before) t.fact (are_made doc sound.2 (suc e) b.x b.before (tail_trans (b.x ∷ b.before) T (history doc (suc e)) at_b at))
 
       tail_is : b.x ∷ b.before ≡ at_look b.x.beat t.w b.before
       tail_is = ap (λ x. x ∷ b.before) (entry_is b.x 3 c (Delivers t.w (Found y.version lease) true) made.step_is t.actor (t.fact ∙ ap (λ reply. Delivers t.w reply true) it.reply_is))
@@ -159,7 +160,7 @@ module _ (doc : Doc) (near far e : ℕ) (sound : IsSound doc) (end : e ≤ end_b
       given = beats_rise doc e look.o.e look.o.low S_e kept.z kept.before look.since
 
       way : IsWay near far look.o.e.beat r
-      way = reply_way doc near far e c role steady look.o.e look.o.low S_e look.o.step r (beats_in doc near far e one ways c role steady time T at y is lease object_is (entry r 3 c (Delivers look.w (Found y.version lease) true)) S look.position) look.o.comes_is
+      way = reply_way doc sound.2 near far e c role steady look.o.e look.o.low S_e look.o.step r (beats_in doc sound.2 near far e one ways c role steady time T at y is lease object_is (entry r 3 c (Delivers look.w (Found y.version lease) true)) S look.position) look.o.comes_is
 
   chain : (fuel r : ℕ) (S : List Entry) (look : Looks r S) → length S < fuel → r ≤ suc n → Outcome r S look
   chain zero r S look le to = absurd (omega (arith, le))
@@ -195,15 +196,17 @@ module _ (doc : Doc) (near far e : ℕ) (sound : IsSound doc) (end : e ≤ end_b
           blocked = is_blocked c (local doc c.process b.r) (observed_at doc c (at_look b.r b.look.w b.low)) lease
 
           follows : follow_on doc c b.r b.look.w.kind b.look.w.request (Found y.version lease) (at_look b.r b.look.w b.low) ≡ cond blocked Fails (Asks (Update election y.version (updated c (moment doc c b.r) lease)))
-          follows = ap (λ request. follow c (moment doc c b.r) (observed_at doc c (at_look b.r b.look.w b.low)) b.look.w.kind request (Found y.version lease)) b.look.get
+          follows =
+              ap (λ request. follow c (moment doc c b.r) (observed_at doc c (at_look b.r b.look.w b.low)) b.look.w.kind request (Found y.version lease)) b.look.get
+              ∙ ap (λ l. cond (is_blocked c (local doc c.process b.r) (observed_at doc c (at_look b.r b.look.w b.low)) l) Fails (Asks (Update election y.version (updated c (moment doc c b.r) lease)))) (respected-own doc sound.2 c b.r lease)
 
           by_test : (t : Bool) → blocked ≡ t → Steps o b.r → Steps o r ⊎ Lasts (r - o)
           by_test false free s = inr (later (over_at b.r b.low b.look s free))
           by_test true blocks s = inl (record { i = suc s.i; least = omega (arith, s.least, one_step.least); most = omega (arith, s.most, one_step.most) })
             where
-              one_step : IsStep doc near far e one ways c role steady time T at y is lease object_is n within unled idle alive_n slow fast wait needed runs_least runs_most some wait_is needed_is b.r r
+              one_step : IsStep doc sound.2 near far e one ways c role steady time T at y is lease object_is n within unled idle alive_n slow fast wait needed runs_least runs_most some wait_is needed_is b.r r
               one_step =
-                  step doc near far e one ways c role steady time T at y is lease object_is n within unled idle alive_n slow fast wait needed runs_least runs_most some wait_is needed_is b.r r b.low S b.look look to b.below b.none
+                  step doc sound.2 near far e one ways c role steady time T at y is lease object_is n within unled idle alive_n slow fast wait needed runs_least runs_most some wait_is needed_is b.r r b.low S b.look look to b.below b.none
                   (follows ∙ ap (λ t. cond t Fails (Asks (Update election y.version (updated c (moment doc c b.r) lease)))) blocks)
 
           by_past : Steps o b.r ⊎ Lasts (b.r - o) → Steps o r ⊎ Lasts (r - o)

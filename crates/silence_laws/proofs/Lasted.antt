@@ -121,8 +121,8 @@ module _ (doc : Doc) (near far b e : ℕ) (q : Identity) (l : LeadsUntil doc nea
   g_e : IsTail (g ∷ G) (history doc (suc e))
   g_e = tail_trans (g ∷ G) L.S (history doc (suc e)) L.look.o.begun.position S_e
 
-  trip : Went doc near far e p won.role passing g.beat L.look.o.e.beat d
-  trip = went doc near far e p won.role passing L.look.w (Found mine.y.version mine.lease) L.S d L.look.o S_e d_e
+  trip : Went doc s.sound.2 near far e p won.role passing g.beat L.look.o.e.beat d
+  trip = went doc s.sound.2 near far e p won.role passing L.look.w (Found mine.y.version mine.lease) L.S d L.look.o S_e d_e
 
   g_n : suc g.beat ≤ n
   g_n = omega (arith, trip.request.least, trip.reply.least, s.one, d_is)
@@ -131,13 +131,13 @@ module _ (doc : Doc) (near far b e : ℕ) (q : Identity) (l : LeadsUntil doc nea
   G_n = tail_trans G (g ∷ G) (history doc n) (inr (tail_all G)) (tail_trans (g ∷ G) (history doc (suc g.beat)) (history doc n) (in_own_beat doc (suc e) g G g_e) (later_tail doc (suc g.beat) n g_n))
 
   up_G : alive p.process G ≡ Some p.incarnation
-  up_G = (sent_freely doc (suc e) p won.role g G L.look.w L.look.o.begun.arrives g_e L.look.o.begun.actor L.look.o.begun.fact L.look.o.begun.opens).up
+  up_G = (sent_freely doc s.sound.2 (suc e) p won.role g G L.look.w L.look.o.begun.arrives g_e L.look.o.begun.actor L.look.o.begun.fact L.look.o.begun.opens).up
 
   up_S : alive p.process L.S ≡ Some p.incarnation
-  up_S = (counted_after doc (suc e) p (entry d 3 p (Delivers L.look.w (Found mine.y.version mine.lease) true)) L.S L.look.w (Found mine.y.version mine.lease) heard_e refl refl).up
+  up_S = (counted_after doc s.sound.2 (suc e) p (entry d 3 p (Delivers L.look.w (Found mine.y.version mine.lease) true)) L.S L.look.w (Found mine.y.version mine.lease) heard_e refl refl).up
 
   up : (h : List Entry) → IsTail G h → IsTail h L.S → alive p.process h ≡ Some p.incarnation
-  up h low high = up_between doc (suc e) p G h L.S low high S_e up_G up_S
+  up h low high = up_between doc s.sound.2 (suc e) p G h L.S low high S_e up_G up_S
 
   alive_n : alive p.process (history doc (suc n)) ≡ Some p.incarnation
   alive_n = up (history doc (suc n)) (tail_trans G (history doc n) (history doc (suc n)) G_n (later_tail doc n (suc n) (omega arith))) n_S
@@ -148,7 +148,7 @@ module _ (doc : Doc) (near far b e : ℕ) (q : Identity) (l : LeadsUntil doc nea
     told = entry j 3 p (Delivers hs.call (Done hs.version) true)
 
     o : Origin doc p hs.call (Done hs.version) hs.before j
-    o = origin doc (suc j) p told hs.before hs.call (Done hs.version) hs.position refl refl
+    o = origin doc s.sound.2 (suc j) p told hs.before hs.call (Done hs.version) hs.position refl refl
 
     told_low : IsTail (told ∷ hs.before) f.before
     told_low = tail_trans (told ∷ hs.before) (history doc (suc n)) f.before (tail_trans (told ∷ hs.before) (history doc (suc j)) (history doc (suc n)) hs.position (later_tail doc (suc j) (suc n) (omega (arith, to)))) (tail_trans (history doc (suc n)) L.S f.before n_S S_t)
@@ -160,7 +160,7 @@ module _ (doc : Doc) (near far b e : ℕ) (q : Identity) (l : LeadsUntil doc nea
     o_e = tail_trans (o.e ∷ o.low) f.before (history doc (suc e)) o_low (low_e doc near far b e q l s H H_e quiet f)
 
     back : IsWay near far o.e.beat j
-    back = reply_way doc near far e p won.role passing o.e o.low o_e o.step j (omega (arith, to, n_e)) o.comes_is
+    back = reply_way doc s.sound.2 near far e p won.role passing o.e o.low o_e o.step j (omega (arith, to, n_e)) o.comes_is
 
     wrote : has (at_key election (write_of o.e.fact)) ≡ true
     wrote =
@@ -193,7 +193,7 @@ module _ (doc : Doc) (near far b e : ℕ) (q : Identity) (l : LeadsUntil doc nea
   not_now acting = ⊎_elim by_success by_premise alone
     where
       by_success : OthersRenewBefore doc near far b q → ⊥
-      by_success renew = let led : HasLed doc p n = acting_led doc p n acting in no_success renew led.j led.to led.success
+      by_success renew = let led : HasLed doc p n = acting_led doc s.sound.2 p n acting in no_success renew led.j led.to led.success
 
       by_premise : lease_premise doc ≡ true → ⊥
       by_premise premise = rival doc near far b e q l s H H_e quiet f (same_holder p q mine.y.object held (subst (IsHeldBy q) (sym mine.object) mine.holder))
@@ -223,7 +223,7 @@ module _ (doc : Doc) (near far b e : ℕ) (q : Identity) (l : LeadsUntil doc nea
       no_end x T at fact own same = none_is p.incarnation (sym down ∙ up (x ∷ T) (inr low) high)
         where
           made : MadeEnd doc x.beat x.step x.actor T
-          made = subst (λ d. MadeAs doc x.beat x.step x.actor d T) fact (are_made doc (suc e) x T at)
+          made = subst (λ d. MadeAs doc x.beat x.step x.actor d T) fact (are_made doc s.sound.2 (suc e) x T at)
 
           low : IsTail G T
           low = tail_trans G (history doc n) T G_n (not_before doc n (suc e) x T (omega (arith, n_e)) at (omega (arith, same)) (omega (arith, made.step_is)))
@@ -236,12 +236,12 @@ module _ (doc : Doc) (near far b e : ℕ) (q : Identity) (l : LeadsUntil doc nea
 
   unled : (h : List Entry) → IsTail h (history doc (suc n)) → leads p h ≡ false
   unled =
-      never_led doc near far n e n p won.role (time doc near far b e q l s H H_e quiet f).deadline steady_n n_e
+      never_led doc s.sound.2 near far n e n p won.role (time doc near far b e q l s H H_e quiet f).deadline steady_n n_e
       (λ j from to acting. let same : j ≡ n = omega (arith, from, to) in not_now (subst (Acts doc p) same acting)) (omega arith) alive_n
 
   idle : (j : ℕ) → j ≤ n → Acts doc p j → ⊥
   idle j to acting =
-      true_is (sym (turn_leads doc p p.process j (set (deadline doc p g0) (and_right (is_present (alive p.process g0) p.incarnation) (is_before (local doc p.process j) (deadline doc p g0)) (term_of doc p j g0 acting.1))))
+      true_is (sym (turn_leads doc p p.process j (set (deadline doc p g0) (and_right (is_present (alive p.process g0) p.incarnation) (is_before (local doc p.process j) (deadline doc p g0)) (term_of doc s.sound.2 p j g0 acting.1))))
       ∙ unled g0 (tail_trans g0 (history doc (suc j)) (history doc (suc n)) (turn_tail doc p.process j (omega (arith, controllers_first doc p.process won.role))) (later_tail doc (suc j) (suc n) (omega (arith, to)))))
     where
       g0 : List Entry
@@ -258,7 +258,7 @@ module _ (doc : Doc) (near far b e : ℕ) (q : Identity) (l : LeadsUntil doc nea
       never lt = omega (arith, lt)
 
   way : IsWay near far d f.x.beat
-  way = request_way doc near far e p won.role passing won.f won.low won.call f.x.beat asked won.f_actor won.f_fact (opens_of doc e p won.role unstopped won.f won.low won.call (Some f.x.beat) asked won.f_actor won.f_fact)
+  way = request_way doc s.sound.2 near far e p won.role passing won.f won.low won.call f.x.beat asked won.f_actor won.f_fact (opens_of doc s.sound.2 e p won.role unstopped won.f won.low won.call (Some f.x.beat) asked won.f_actor won.f_fact)
 
   pub taken_late : (least : ℕ) → TakesAtLeast doc near far e p.process (lease_duration doc q.process) least → mine.y.beat + least + 2 * near ≤ f.x.beat
   taken_late least t = omega (arith, over.late, over.upto, t.least_is (d - over.first) over.lasts, way.least)

@@ -8,7 +8,7 @@ use Rattle.kube_objects.specs.declared.call.Request.TheVariants.{Get, Create, Up
 use Rattle.kube_objects.specs.declared.deed.Actor.{Actor}
 use Rattle.kube_objects.specs.Document.{Doc, is_controller}
 use Rattle.kube_objects.specs.Elector.{succeeds, lead_says}
-use Rattle.kube_objects.specs.Entry.{Identity, Fact, First, Event, Starts, Stops, Sends, Answers, Delivers, Expires, Leads, Ends, Crashes, Stalls, Ticks, actor_of, entry}
+use Rattle.kube_objects.specs.Entry.{Identity, Fact, First, Event, Starts, Stops, Sends, Answers, Delivers, Expires, Leads, Ends, Crashes, Stalls, Ticks, actor_of, entry, StepsDown, ReleaseBegins, ReleaseEnds, ReleaseStops}
 use Rattle.kube_objects.specs.Identities.{is_by}
 use Rattle.kube_objects.specs.Newest.{has}
 use Rattle.kube_objects.specs.Stored.{election, key_of, at_key, write_of}
@@ -48,6 +48,10 @@ lead_facts q who Starts version is = absurd (none_is version is)
 lead_facts q who Crashes version is = absurd (none_is version is)
 lead_facts q who Stops version is = absurd (none_is version is)
 lead_facts q who (Stalls beats) version is = absurd (none_is version is)
+lead_facts q who StepsDown version is = absurd (none_is version is)
+lead_facts q who (ReleaseBegins at_deadline) version is = absurd (none_is version is)
+lead_facts q who ReleaseEnds version is = absurd (none_is version is)
+lead_facts q who ReleaseStops version is = absurd (none_is version is)
 lead_facts q who (Sends call arrives) version is = absurd (none_is version is)
 lead_facts q who (Answers call reply comes wrote) version is = absurd (none_is version is)
 lead_facts q who (Delivers call reply counted) version is = absurd (none_is version is)
@@ -69,7 +73,7 @@ module _ (doc : Doc) (near far b e : ℕ) (q : Identity) (l : LeadsUntil doc nea
   facts = lead_facts r lead.x.actor lead.x.fact lead.version lead.leads
 
   pub led : LedBy doc lead.x lead.version lead.before
-  led = leads_by doc (suc e) lead.x lead.before lead.version lead.position facts.1
+  led = leads_by doc s.sound.2 (suc e) lead.x lead.before lead.version lead.position facts.1
 
   own : led.q ≡ r
   own = actor_is led.q r (sym led.by ∙ facts.0)
@@ -94,7 +98,7 @@ module _ (doc : Doc) (near far b e : ℕ) (q : Identity) (l : LeadsUntil doc nea
 
   -- its write
   pub o : Origin doc r led.call led.reply led.before lead.x.beat
-  o = origin doc (suc e) r (entry lead.x.beat 3 r (Delivers led.call led.reply true)) led.before led.call led.reply heard_e refl refl
+  o = origin doc s.sound.2 (suc e) r (entry lead.x.beat 3 r (Delivers led.call led.reply true)) led.before led.call led.reply heard_e refl refl
 
   pub o_e : IsTail (o.e ∷ o.low) (history doc (suc e))
   o_e = tail_trans (o.e ∷ o.low) led.before (history doc (suc e)) o.answered S_e
@@ -123,7 +127,7 @@ module _ (doc : Doc) (near far b e : ℕ) (q : Identity) (l : LeadsUntil doc nea
       same : m ≡ lead.x.beat
       same =
           some_is m lead.x.beat
-          (sym (reply_passes doc near far r.process o.e.beat o.low passes (forces_stand doc (suc e) o.e o.low o_e (omega (arith, o.step))) (steady.passes m (omega arith) (omega (arith, passes.reply_most, le))).awake) ∙ o.comes_is)
+          (sym (reply_passes doc near far r.process o.e.beat o.low passes (forces_stand doc s.sound.2 (suc e) o.e o.low o_e (omega (arith, o.step))) (steady.passes m (omega arith) (omega (arith, passes.reply_most, le))).awake) ∙ o.comes_is)
 
   pub late : b ≤ o.e.beat + far
   late = ⊎_elim (λ lt. lt_or lt) (λ le. absurd (not_before_b le)) (cases_lt (b - 1) (o.e.beat + far))

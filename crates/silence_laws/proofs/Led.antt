@@ -7,10 +7,11 @@ use Rattle.kube_objects.specs.declared.deed.Actor.{Actor}
 use Rattle.kube_objects.specs.Clocks.{local}
 use Rattle.kube_objects.specs.Document.{Doc}
 use Rattle.kube_objects.specs.Elector.{lead_says, leads, deadline, is_before, succeeds}
-use Rattle.kube_objects.specs.Entry.{Entry, Identity, Fact, First, Event, Starts, Stops, Sends, Answers, Delivers, Expires, Leads, Ends, Crashes, Stalls, Ticks, actor_of, entry}
+use Rattle.kube_objects.specs.Entry.{Entry, Identity, Fact, First, Event, Starts, Stops, Sends, Answers, Delivers, Expires, Leads, Ends, Crashes, Stalls, Ticks, actor_of, entry, StepsDown, ReleaseBegins, ReleaseEnds, ReleaseStops}
 use Rattle.kube_objects.specs.Newest.{newest, when, has}
 use Rattle.kube_objects.specs.Process.{alive, is_present}
 use Rattle.kube_objects.specs.Identities.{is_by}
+use Rattle.kube_objects.specs.Own.{IsOwn}
 use Rattle.history.specs.History.{history, at_turn}
 use Rattle.history.specs.Safe.{Acts}
 use Rattle.history_laws.specs.Tails.{IsTail}
@@ -58,6 +59,10 @@ lead_in q (e ∷ h) is = cases (λ is. lead_in q h is) e.actor e.fact refl refl 
     cases on who Crashes actor fact is = older (on is)
     cases on who Stops actor fact is = older (on is)
     cases on who (Stalls beats) actor fact is = older (on is)
+    cases on who StepsDown actor fact is = older (on is)
+    cases on who (ReleaseBegins at_deadline) actor fact is = older (on is)
+    cases on who ReleaseEnds actor fact is = older (on is)
+    cases on who ReleaseStops actor fact is = older (on is)
     cases on who (Sends call arrives) actor fact is = older (on is)
     cases on who (Answers call reply comes wrote) actor fact is = older (on is)
     cases on who (Delivers call reply counted) actor fact is = older (on is)
@@ -72,8 +77,8 @@ pub record HasLed (doc : Doc) (q : Identity) (k : ℕ) : Type 0 where
   pub success : HasSuccess doc q 0 j
 
 -- who leads in a history has had a success
-pub leads_led : (doc : Doc) (q : Identity) (k : ℕ) (g : List Entry) → IsTail g (history doc (suc k)) → leads q g ≡ true → HasLed doc q k
-leads_led doc q k g high is = from_lead (lead_in q g is)
+pub leads_led : (doc : Doc) → IsOwn doc → (q : Identity) (k : ℕ) (g : List Entry) → IsTail g (history doc (suc k)) → leads q g ≡ true → HasLed doc q k
+leads_led doc rules q k g high is = from_lead (lead_in q g is)
   where
     from_lead : HasLead q g → HasLed doc q k
     from_lead s = record {
@@ -95,7 +100,7 @@ leads_led doc q k g high is = from_lead (lead_in q g is)
         at = tail_trans (s.x ∷ s.before) g (history doc (suc k)) s.position high
 
         led : LedBy doc s.x s.version s.before
-        led = leads_by doc (suc k) s.x s.before s.version at s.fact
+        led = leads_by doc rules (suc k) s.x s.before s.version at s.fact
 
         won : IsSuccess led.call.request led.reply s.version
         won = success_is doc s.x.beat s.before led.q led.call.kind led.call.request led.reply s.version led.follows
@@ -113,8 +118,8 @@ leads_led doc q k g high is = from_lead (lead_in q g is)
         upto = ⊎_elim (λ lt. omega (arith, lt)) (λ first. omega (arith, first.0)) (entries_are_earlier doc (suc k) s.x (in_head s.x s.before (history doc (suc k)) at))
 
 -- and so has who acts
-pub acting_led : (doc : Doc) (q : Identity) (k : ℕ) → Acts doc q k → HasLed doc q k
-acting_led doc q k acting = leads_led doc q k g high (turn_leads doc q q.process k (set (deadline doc q g) (and_right (is_present (alive q.process g) q.incarnation) (is_before (local doc q.process k) (deadline doc q g)) (term_of doc q k g acting.1))))
+pub acting_led : (doc : Doc) → IsOwn doc → (q : Identity) (k : ℕ) → Acts doc q k → HasLed doc q k
+acting_led doc rules q k acting = leads_led doc rules q k g high (turn_leads doc q q.process k (set (deadline doc q g) (and_right (is_present (alive q.process g) q.incarnation) (is_before (local doc q.process k) (deadline doc q g)) (term_of doc rules q k g acting.1))))
   where
     g : List Entry
     g = at_turn doc q.process k

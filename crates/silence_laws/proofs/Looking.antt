@@ -132,7 +132,7 @@ module _ (doc : Doc) (near far e : ℕ) (sound : IsSound doc) (end : e ≤ end_b
 
   module _ (d : Entry) (S : List Entry) (position : IsTail (d ∷ S) T) (s : Shown) (t : IsTold c d.actor d.fact s) (same : s.0.0 ≡ y.version.0) where
     o : Origin doc c t.w t.reply S d.beat
-    o = origin doc (suc e) c d S t.w t.reply (tail_trans (d ∷ S) T (history doc (suc e)) position at) t.actor t.fact
+    o = origin doc sound.2 (suc e) c d S t.w t.reply (tail_trans (d ∷ S) T (history doc (suc e)) position at) t.actor t.fact
 
     version : s.0 ≡ y.version
     version = ap (λ n. record { 0 = n }) same

@@ -17,6 +17,7 @@ use Rattle.kube_objects.specs.Newest.{added, when, has, join}
 use Rattle.kube_objects.specs.Process.{is_stop, stops}
 use Rattle.kube_objects.specs.Stored.{key_of, Held, election, stored, last_write, holds, request_write, at_key, write_of, next_version}
 use Rattle.kube_objects.specs.Wire.{request_arrival}
+use Rattle.kube_objects.specs.Own.{IsOwn as OwnRules}
 use Rattle.history.specs.History.{history}
 use Rattle.history.specs.Premise.{greatest_below}
 use Rattle.history_laws.specs.Tails.{In, IsTail}
@@ -42,13 +43,13 @@ use Rattle.silence_laws.proofs.Waiting.{beats_rise}
 -- ---- no stops
 
 -- a process that is steady from beat 0 on isn't stopped
-pub never_stopped : (doc : Doc) (near far e : ℕ) (r : Identity) → IsSteady doc near far 0 e r.process → (h : List Entry) → IsTail h (history doc (suc e)) → stops r h ≡ 0
-never_stopped doc near far e r steady [] at = refl
-never_stopped doc near far e r steady (x ∷ T) at =
-    by_stop (is_stop x.fact && is_by r x.actor) refl ∙ never_stopped doc near far e r steady T (tail_trans T (x ∷ T) (history doc (suc e)) (inr (tail_all T)) at)
+pub never_stopped : (doc : Doc) → OwnRules doc → (near far e : ℕ) (r : Identity) → IsSteady doc near far 0 e r.process → (h : List Entry) → IsTail h (history doc (suc e)) → stops r h ≡ 0
+never_stopped doc rules near far e r steady [] at = refl
+never_stopped doc rules near far e r steady (x ∷ T) at =
+    by_stop (is_stop x.fact && is_by r x.actor) refl ∙ never_stopped doc rules near far e r steady T (tail_trans T (x ∷ T) (history doc (suc e)) (inr (tail_all T)) at)
   where
     by_stop : (b : Bool) → (is_stop x.fact && is_by r x.actor) ≡ b → added b (stops r T) ≡ stops r T
-    by_stop true is = absurd (omega (arith, steady.stops x (in_head x T (history doc (suc e)) at) (stop_is x.fact (and_left (is_stop x.fact) (is_by r x.actor) is)) (by_process r x.actor (and_right (is_stop x.fact) (is_by r x.actor) is))))
+    by_stop true is = absurd (omega (arith, steady.stops x (in_head x T (history doc (suc e)) at) (stop_is doc x.beat x.step x.actor x.fact T (are_made doc rules (suc e) x T at) (and_left (is_stop x.fact) (is_by r x.actor) is)) (by_process r x.actor (and_right (is_stop x.fact) (is_by r x.actor) is))))
     by_stop false is = refl
 
 -- ---- who writes
@@ -132,7 +133,7 @@ module _ (doc : Doc) (near far b e : ℕ) (q : Identity) (l : LeadsUntil doc nea
     asked_high = tail_trans (w.f ∷ w.low) T (history doc (suc e)) w.asked (tail_trans T (x ∷ T) (history doc (suc e)) (inr (tail_all T)) at_e)
 
     sent : w.call.sent ≡ w.f.beat
-    sent = (subst (λ o. IfSome o (λ s. (s.call.sent ≡ w.f.beat) × (s.arrives ≡ request_arrival s.who.process w.f.beat w.low))) (sent_is w.f w.who w.call (Some x.beat) w.f_actor w.f_fact) (messages_travel doc (suc e) w.f w.low asked_high).0).0
+    sent = (subst (λ o. IfSome o (λ s. (s.call.sent ≡ w.f.beat) × (s.arrives ≡ request_arrival doc s.who.process w.f.beat w.low))) (sent_is w.f w.who w.call (Some x.beat) w.f_actor w.f_fact) (messages_travel doc s.sound.2 (suc e) w.f w.low asked_high).0).0
 
     -- as its request fits its sender, so does what it writes
     right : SentRight doc (greatest_below doc (length doc.controllers)) (b - 1) (view (history doc (suc (b - 1)))) (record { who = w.who; call = w.call; arrives = Some x.beat })
@@ -150,13 +151,13 @@ module _ (doc : Doc) (near far b e : ℕ) (q : Identity) (l : LeadsUntil doc nea
 
     own : (lease : Lease) → Fit doc (view (history doc (suc (b - 1)))) w.who lease → (lease.holder ≡ holder_of w.who) × (lease.duration ≡ Some (lease_seconds doc w.who.process))
     own lease (inl fit) = fit
-    own lease (inr free) = absurd (omega (arith, free.1, never_stopped doc near far (b - 1) w.who (subst (λ (q : Identity). IsSteady doc near far 0 (b - 1) q.process) (sym mine) l.steady) (history doc (suc (b - 1))) (tail_all (history doc (suc (b - 1))))))
+    own lease (inr free) = absurd (omega (arith, free.1, never_stopped doc s.sound.2 near far (b - 1) w.who (subst (λ (q : Identity). IsSteady doc near far 0 (b - 1) q.process) (sym mine) l.steady) (history doc (suc (b - 1))) (tail_all (history doc (suc (b - 1))))))
 
     wrote_is : w.wrote ≡ written w.call.request T
     wrote_is = made.written_is ∙ ap (λ (c : Call). written c.request T) (sym made.call_is)
       where
         made : MadeAnswer doc x.beat x.step x.actor w.call w.reply w.comes w.wrote T
-        made = subst (λ d. MadeAs doc x.beat x.step x.actor d T) w.fact (are_made doc (suc e) x T at_e)
+        made = subst (λ d. MadeAs doc x.beat x.step x.actor d T) w.fact (are_made doc s.sound.2 (suc e) x T at_e)
 
     as_own : (lease : Lease) → at_key election (request_write w.call.request w.wrote) ≡ Some (Some (object.Lease lease)) → (lease.holder ≡ holder_of w.who) × (lease.duration ≡ Some (lease_seconds doc w.who.process)) → IsOwnWrite doc b q x
     as_own lease is fit = record {

@@ -154,10 +154,10 @@ module _ (doc : Doc) (near far b e : ℕ) (q : Identity) (l : LeadsUntil doc nea
 
   module _ (y : ℕ) (to : y ≤ a) (hs : HasSuccess doc q 0 y) where
     abbrev pub o : Origin doc q hs.call (Done hs.version) hs.before y
-    o = origin doc (suc y) q (entry y 3 q (Delivers hs.call (Done hs.version) true)) hs.before hs.call (Done hs.version) hs.position refl refl
+    o = origin doc s.sound.2 (suc y) q (entry y 3 q (Delivers hs.call (Done hs.version) true)) hs.before hs.call (Done hs.version) hs.position refl refl
 
     pub ways : sendings.IsWay near far o.begun.f.beat o.e.beat y
-    ways = sendings.way doc near far 0 a q l.role l.steady hs.call (Done hs.version) hs.before y hs.position o to (omega arith)
+    ways = sendings.way doc s.sound.2 near far 0 a q l.role l.steady hs.call (Done hs.version) hs.before y hs.position o to (omega arith)
 
     pub answered_later : o.begun.f.beat < o.e.beat
     answered_later = omega (arith, ways.sent_least, s.one)
@@ -217,7 +217,7 @@ module _ (doc : Doc) (near far b e : ℕ) (q : Identity) (l : LeadsUntil doc nea
     update_comes m x T call arrives lease stands actor fact request upto from = by_above (same_or_above (o.e ∷ o.low) answering.before low)
       where
         r : Arrives near far x.beat arrives
-        r = request_arrives doc near far a q.process l.steady m x T q call arrives stands l.role refl actor fact upto
+        r = request_arrives doc s.sound.2 near far a q.process l.steady m x T q call arrives stands l.role refl actor fact upto
 
         at : ℕ
         at = r.at
@@ -278,11 +278,11 @@ module _ (doc : Doc) (near far b e : ℕ) (q : Identity) (l : LeadsUntil doc nea
 
       tried : HasTried doc q start.low start.at (Some (hs.version, lease)) (history doc (suc d.g))
       tried =
-          has_tried doc near far 0 a q l.role l.steady start.at y start.low start.leader from (Some (hs.version, lease)) start.idle start.nothing d.g d.from reach d.reached
+          has_tried doc s.sound.2 near far 0 a q l.role l.steady start.at y start.low start.leader from (Some (hs.version, lease)) start.idle start.nothing d.g d.from reach d.reached
           (timely d.g (omega (arith, some_way)) reach)
 
       x1_from : y ≤ tried.x.beat
-      x1_from = later doc near far 0 a (suc d.g) q l.role l.steady start.at y start.low start.leader from (omega (arith, d.from)) (omega (arith, reach)) tried.x tried.before tried.since tried.position
+      x1_from = later doc s.sound.2 near far 0 a (suc d.g) q l.role l.steady start.at y start.low start.leader from (omega (arith, d.from)) (omega (arith, reach)) tried.x tried.before tried.since tried.position
 
       x1_upto : tried.x.beat ≤ d.g
       x1_upto = ⊎_elim (λ lt. omega (arith, lt)) (λ first. omega (arith, first.0)) (entries_are_earlier doc (suc d.g) tried.x (in_head tried.x tried.before (history doc (suc d.g)) tried.position))
@@ -293,7 +293,7 @@ module _ (doc : Doc) (near far b e : ℕ) (q : Identity) (l : LeadsUntil doc nea
       -- after a Get
       module _ (room : d.g + 2 * far ≤ a) (get : tried.call.request ≡ Get election) where
         free : IsFree q tried.x tried.before tried.call
-        free = is_free doc (suc d.g) q l.role tried.x tried.before tried.call tried.arrives tried.position tried.actor tried.fact tried.opens
+        free = is_free doc s.sound.2 (suc d.g) q l.role tried.x tried.before tried.call tried.arrives tried.position tried.actor tried.fact tried.opens
 
         room_x : tried.x.beat + 2 * far ≤ a
         room_x = omega (arith, x1_upto, room)
@@ -302,39 +302,39 @@ module _ (doc : Doc) (near far b e : ℕ) (q : Identity) (l : LeadsUntil doc nea
         from_x = omega arith
 
         abbrev comes : ℕ
-        comes = closing.y doc near far 0 a q l.role l.steady my_time s.one (suc d.g) tried.x tried.before tried.call tried.arrives tried.position tried.actor tried.fact tried.step free.sent tried.opens from_x room_x
+        comes = closing.y doc s.sound.2 near far 0 a q l.role l.steady my_time s.one (suc d.g) tried.x tried.before tried.call tried.arrives tried.position tried.actor tried.fact tried.step free.sent tried.opens from_x room_x
 
         abbrev below : List Entry
-        below = closing.before doc near far 0 a q l.role l.steady my_time s.one (suc d.g) tried.x tried.before tried.call tried.arrives tried.position tried.actor tried.fact tried.step free.sent tried.opens from_x room_x
+        below = closing.before doc s.sound.2 near far 0 a q l.role l.steady my_time s.one (suc d.g) tried.x tried.before tried.call tried.arrives tried.position tried.actor tried.fact tried.step free.sent tried.opens from_x room_x
 
         comes_least : tried.x.beat < comes
-        comes_least = closing.y_least doc near far 0 a q l.role l.steady my_time s.one (suc d.g) tried.x tried.before tried.call tried.arrives tried.position tried.actor tried.fact tried.step free.sent tried.opens from_x room_x
+        comes_least = closing.y_least doc s.sound.2 near far 0 a q l.role l.steady my_time s.one (suc d.g) tried.x tried.before tried.call tried.arrives tried.position tried.actor tried.fact tried.step free.sent tried.opens from_x room_x
 
         comes_most : comes ≤ tried.x.beat + 2 * far
-        comes_most = closing.y_most doc near far 0 a q l.role l.steady my_time s.one (suc d.g) tried.x tried.before tried.call tried.arrives tried.position tried.actor tried.fact tried.step free.sent tried.opens from_x room_x
+        comes_most = closing.y_most doc s.sound.2 near far 0 a q l.role l.steady my_time s.one (suc d.g) tried.x tried.before tried.call tried.arrives tried.position tried.actor tried.fact tried.step free.sent tried.opens from_x room_x
 
         r : IsReplied doc q tried.call (tried.x ∷ tried.before) (tried.x.beat + 2 * far)
         r =
-            is_replied doc near far 0 a q l.role l.steady my_time s.one (suc d.g) tried.x tried.before tried.call tried.arrives tried.position tried.actor tried.fact tried.step free.sent tried.opens from_x room_x
-            (up_at doc near far 0 a (suc comes) q l.role l.steady start.at y start.low start.leader from (omega (arith, x1_from, comes_least)) (omega (arith, comes_most, room_x)) comes
+            is_replied doc s.sound.2 near far 0 a q l.role l.steady my_time s.one (suc d.g) tried.x tried.before tried.call tried.arrives tried.position tried.actor tried.fact tried.step free.sent tried.opens from_x room_x
+            (up_at doc s.sound.2 near far 0 a (suc comes) q l.role l.steady start.at y start.low start.leader from (omega (arith, x1_from, comes_least)) (omega (arith, comes_most, room_x)) comes
             (λ k lt. timely k (omega (arith, lt, comes_most, x1_upto, some_way)) (omega (arith, lt, comes_most, room_x))) below
             (tail_trans start.low (tried.x ∷ tried.before) below (inr tried.since)
-            (closing.sent_low doc near far 0 a q l.role l.steady my_time s.one (suc d.g) tried.x tried.before tried.call tried.arrives tried.position tried.actor tried.fact tried.step free.sent tried.opens from_x room_x))
-            (closing.before_high doc near far 0 a q l.role l.steady my_time s.one (suc d.g) tried.x tried.before tried.call tried.arrives tried.position tried.actor tried.fact tried.step free.sent tried.opens from_x room_x)
-            (closing.earlier doc near far 0 a q l.role l.steady my_time s.one (suc d.g) tried.x tried.before tried.call tried.arrives tried.position tried.actor tried.fact tried.step free.sent tried.opens from_x room_x))
+            (closing.sent_low doc s.sound.2 near far 0 a q l.role l.steady my_time s.one (suc d.g) tried.x tried.before tried.call tried.arrives tried.position tried.actor tried.fact tried.step free.sent tried.opens from_x room_x))
+            (closing.before_high doc s.sound.2 near far 0 a q l.role l.steady my_time s.one (suc d.g) tried.x tried.before tried.call tried.arrives tried.position tried.actor tried.fact tried.step free.sent tried.opens from_x room_x)
+            (closing.earlier doc s.sound.2 near far 0 a q l.role l.steady my_time s.one (suc d.g) tried.x tried.before tried.call tried.arrives tried.position tried.actor tried.fact tried.step free.sent tried.opens from_x room_x))
 
         abbrev heard : Entry
         heard = entry r.at 3 q (Delivers tried.call r.reply true)
 
         o1 : Origin doc q tried.call r.reply r.before r.at
-        o1 = origin doc (suc r.at) q heard r.before tried.call r.reply r.position refl refl
+        o1 = origin doc s.sound.2 (suc r.at) q heard r.before tried.call r.reply r.position refl refl
 
         high : IsTail r.before (history doc (suc r.at))
         high = tail_trans r.before (heard ∷ r.before) (history doc (suc r.at)) (inr (tail_all r.before)) r.position
 
         same : o1.begun.f ∷ o1.begun.before ≡ tried.x ∷ tried.before
         same =
-            sends_differ doc (suc r.at) q o1.begun.f tried.x o1.begun.before tried.before tried.call tried.call o1.begun.arrives tried.arrives
+            sends_differ doc s.sound.2 (suc r.at) q o1.begun.f tried.x o1.begun.before tried.before tried.call tried.call o1.begun.arrives tried.arrives
             (tail_trans (o1.begun.f ∷ o1.begun.before) r.before (history doc (suc r.at)) o1.begun.position high) (tail_trans (tried.x ∷ tried.before) r.before (history doc (suc r.at)) r.since high)
             o1.begun.actor tried.actor o1.begun.fact tried.fact refl
 
@@ -350,7 +350,7 @@ module _ (doc : Doc) (near far b e : ℕ) (q : Identity) (l : LeadsUntil doc nea
         by_above (inr w) = weaken r.at (d.g + 3 * far) (omega (arith, r.most, x1_upto)) (from_above r.at r.at o1.low low_high (omega arith) w)
         by_above (inl unchanged) =
             weaken (r.at + far) (d.g + 3 * far) (omega (arith, r.most, x1_upto))
-            (update_comes (suc r.at) x2 T2 call2 (request_arrival q.process r.at T2) (updated q m own.lease) position2 refl refl refl (omega (arith, r.most, room_x)) (omega (arith, x1_from, after_x)))
+            (update_comes (suc r.at) x2 T2 call2 (request_arrival doc q.process r.at T2) (updated q m own.lease) position2 refl refl refl (omega (arith, r.most, room_x)) (omega (arith, x1_from, after_x)))
           where
             T2 : List Entry
             T2 = heard ∷ r.before
@@ -378,11 +378,11 @@ module _ (doc : Doc) (near far b e : ℕ) (q : Identity) (l : LeadsUntil doc nea
             call2 = next_call q r.at Plain asked T2
 
             x2 : Entry
-            x2 = entry r.at 3 q (Sends call2 (request_arrival q.process r.at T2))
+            x2 = entry r.at 3 q (Sends call2 (request_arrival doc q.process r.at T2))
 
             position2 : IsTail (x2 ∷ T2) (history doc (suc r.at))
             position2 =
-                subst (λ f. IsTail (react r.at q (leads q T2) f T2) (history doc (suc r.at))) asks (replies_follow doc (suc r.at) q heard r.before tried.call r.reply r.position refl refl l.role refl)
+                subst (λ f. IsTail (react doc r.at q (leads q T2) f T2) (history doc (suc r.at))) asks (replies_follow doc s.sound.2 (suc r.at) q heard r.before tried.call r.reply r.position refl refl l.role refl)
 
         after_get : Rewritten (d.g + 3 * far)
         after_get = by_above (same_or_above (o.e ∷ o.low) o1.low low1)
@@ -408,7 +408,7 @@ module _ (doc : Doc) (near far b e : ℕ) (q : Identity) (l : LeadsUntil doc nea
         h_g = tail_trans h (tried.x ∷ h) (history doc (suc d.g)) (inr (tail_all h)) tried.position
 
         led : leads q h ≡ true
-        led = (in_term doc near far 0 a (suc d.g) q l.role l.steady start.at y start.low start.leader from (omega (arith, d.from)) (omega (arith, reach)) h tried.since h_g).led
+        led = (in_term doc s.sound.2 near far 0 a (suc d.g) q l.role l.steady start.at y start.low start.leader from (omega (arith, d.from)) (omega (arith, reach)) h tried.since h_g).led
 
         -- its record is what it was told
         same_lease : (a b : Lease) → object.Lease a ≡ object.Lease b → a ≡ b

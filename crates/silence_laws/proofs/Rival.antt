@@ -13,13 +13,14 @@ use Rattle.kube_objects.specs.declared.lease.Holder.TheVariants as holder
 use Rattle.kube_objects.specs.Answers.{answer_create, answer_update, answer}
 use Rattle.kube_objects.specs.Clocks.{local}
 use Rattle.kube_objects.specs.Document.{Doc, is_controller}
-use Rattle.kube_objects.specs.Elector.{Moment, moment, Fails, Asks, Shown, told, shown, is_done, succeeds, updated, renewed, created, is_blocked, is_valid, observed_at, leads, follow_get, follow, attempt_from, attempt}
-use Rattle.kube_objects.specs.Entry.{Entry, Identity, Call, CallKind, Plain, Fast, Fact, First, Event, Starts, Stops, Sends, Answers, Delivers, Expires, Leads, Ends, Crashes, Stalls, Ticks, actor_of, entry}
+use Rattle.kube_objects.specs.Elector.{Moment, moment, Fails, Asks, Shown, told, shown, is_done, succeeds, updated, renewed, created, is_blocked, is_valid, observed_at, leads, follow_get, follow, attempt_from, attempt, respected}
+use Rattle.kube_objects.specs.Entry.{Entry, Identity, Call, CallKind, Plain, Fast, Fact, First, Event, Starts, Stops, Sends, Answers, Delivers, Expires, Leads, Ends, Crashes, Stalls, Ticks, actor_of, entry, StepsDown, ReleaseBegins, ReleaseEnds, ReleaseStops}
 use Rattle.kube_objects.specs.Identities.{is_by, is_own, is_other, is_same}
 use Rattle.kube_objects.specs.Newest.{newest, when, join, has}
 use Rattle.kube_objects.specs.Process.{alive, call_in}
 use Rattle.kube_objects.specs.Stored.{Held, election, key_of, stored, next_version}
 use Rattle.kube_objects.specs.Turns.{expired_in, just_expired, is_fast_call}
+use Rattle.kube_objects.specs.declared.rules.RespectRule.TheVariants.{Record}
 use Rattle.history.specs.History.{history}
 use Rattle.history_laws.specs.Tails.{In, IsTail}
 use Rattle.history_laws.proofs.Plainly.{upper, some_is, none_is, false_is, and_left}
@@ -62,6 +63,10 @@ expires_in k at Starts c is = absurd (none_is c is)
 expires_in k at Crashes c is = absurd (none_is c is)
 expires_in k at Stops c is = absurd (none_is c is)
 expires_in k at (Stalls beats) c is = absurd (none_is c is)
+expires_in k at StepsDown c is = absurd (none_is c is)
+expires_in k at (ReleaseBegins at_deadline) c is = absurd (none_is c is)
+expires_in k at ReleaseEnds c is = absurd (none_is c is)
+expires_in k at ReleaseStops c is = absurd (none_is c is)
 expires_in k at (Sends call arrives) c is = absurd (none_is c is)
 expires_in k at (Answers call reply comes wrote) c is = absurd (none_is c is)
 expires_in k at (Delivers call reply counted) c is = absurd (none_is c is)
@@ -124,23 +129,26 @@ pub record IsFree (q : Identity) (m : Moment) (seen : ℕ) (reply : Reply) (vers
   pub found : reply ≡ Found version lease
   pub free : is_blocked q m.now seen lease ≡ false
 
-pub get_free : (q : Identity) (m : Moment) (seen : ℕ) (reply : Reply) (version : Version) (lease : Lease) → follow_get q m seen reply ≡ Asks (Update election version lease) → IsFree q m seen reply version
-get_free q m seen Absent version lease is = absurd (create_not (asks_same (Create election (created q m)) (Update election version lease) is))
+pub get_free : (q : Identity) (m : Moment) → m.respect ≡ Record → (seen : ℕ) (reply : Reply) (version : Version) (lease : Lease) → follow_get q m seen reply ≡ Asks (Update election version lease) → IsFree q m seen reply version
+get_free q m rule seen Absent version lease is = absurd (create_not (asks_same (Create election (created q m)) (Update election version lease) is))
   where
     create_not : Create election (created q m) ≡ Update election version lease → ⊥
     create_not is = cc
-get_free q m seen (Found v l) version lease is = by_test (is_blocked q m.now seen l) refl is
+get_free q m rule seen (Found v l) version lease is = by_test (is_blocked q m.now seen (respected m.respect m.seconds l)) refl is
   where
     version_is : Update election v (updated q m l) ≡ Update election version lease → v ≡ version
     version_is is = cc
 
-    by_test : (b : Bool) → is_blocked q m.now seen l ≡ b → cond b Fails (Asks (Update election v (updated q m l))) ≡ Asks (Update election version lease) → IsFree q m seen (Found v l) version
+    so : is_blocked q m.now seen (respected m.respect m.seconds l) ≡ is_blocked q m.now seen l
+    so = ap (λ r. is_blocked q m.now seen (respected r m.seconds l)) rule
+
+    by_test : (b : Bool) → is_blocked q m.now seen (respected m.respect m.seconds l) ≡ b → cond b Fails (Asks (Update election v (updated q m l))) ≡ Asks (Update election version lease) → IsFree q m seen (Found v l) version
     by_test true blocks is = absurd (fails_not (Update election version lease) is)
-    by_test false free is = record { lease = l; found = ap (λ v. Found v l) (version_is (asks_same (Update election v (updated q m l)) (Update election version lease) is)); free = free }
-get_free q m seen (Done v) version lease is = absurd (fails_not (Update election version lease) is)
-get_free q m seen Exists version lease is = absurd (fails_not (Update election version lease) is)
-get_free q m seen (Conflict v) version lease is = absurd (fails_not (Update election version lease) is)
-get_free q m seen Unchanged version lease is = absurd (fails_not (Update election version lease) is)
+    by_test false free is = record { lease = l; found = ap (λ v. Found v l) (version_is (asks_same (Update election v (updated q m l)) (Update election version lease) is)); free = sym so ∙ free }
+get_free q m rule seen (Done v) version lease is = absurd (fails_not (Update election version lease) is)
+get_free q m rule seen Exists version lease is = absurd (fails_not (Update election version lease) is)
+get_free q m rule seen (Conflict v) version lease is = absurd (fails_not (Update election version lease) is)
+get_free q m rule seen Unchanged version lease is = absurd (fails_not (Update election version lease) is)
 
 -- an attempt that is an update is on an own record that was shown
 record IsOwnShown (q : Identity) (h : List Entry) (version : Version) : Type 0 where
@@ -211,7 +219,7 @@ module _ (doc : Doc) (near far b e : ℕ) (q : Identity) (l : LeadsUntil doc nea
   asked_e = tail_trans (w.f ∷ w.low) f.before (history doc (suc e)) w.asked low_e
 
   pub sent : w.call.sent ≡ w.f.beat
-  sent = sent_beat doc near far e c w.role steady w.f w.low w.call (Some f.x.beat) asked_e w.f_actor w.f_fact
+  sent = sent_beat doc s.sound.2 near far e c w.role steady w.f w.low w.call (Some f.x.beat) asked_e w.f_actor w.f_fact
 
   pub foreign : own.y.by ≡ Some c → ⊥
   foreign by = rival doc near far b e q l s H H_e quiet f (some_is c q (sym by ∙ own.by))
@@ -223,7 +231,7 @@ module _ (doc : Doc) (near far b e : ℕ) (q : Identity) (l : LeadsUntil doc nea
   key = asks_election doc s.sound e s.end c w.role w.f w.call (Some f.x.beat) (in_head w.f w.low (history doc (suc e)) asked_e) w.f_actor w.f_fact
 
   made_answer : MadeAnswer doc f.x.beat f.x.step f.x.actor w.call w.reply w.comes w.wrote f.before
-  made_answer = subst (λ d. MadeAs doc f.x.beat f.x.step f.x.actor d f.before) w.fact (are_made doc (suc e) f.x f.before (tail_trans (f.x ∷ f.before) H (history doc (suc e)) f.position H_e))
+  made_answer = subst (λ d. MadeAs doc f.x.beat f.x.step f.x.actor d f.before) w.fact (are_made doc s.sound.2 (suc e) f.x f.before (tail_trans (f.x ∷ f.before) H (history doc (suc e)) f.position H_e))
 
   update : IsUpdate w.call.request own.y
   update = accepted_update w.call.request w.reply f.before own.y key (made_answer.reply_is ∙ ap (λ (c : Call). answer c.request f.before) (sym made_answer.call_is)) own.top w.so
@@ -234,7 +242,7 @@ module _ (doc : Doc) (near far b e : ℕ) (q : Identity) (l : LeadsUntil doc nea
   tells d S at t i same = shows_it doc near far e s.sound s.end c w.role f.before low_e own.y own.top own.lease own.object foreign d S at t i same
 
   made : MadeSend doc w.f.beat w.f.step w.f.actor w.call (Some f.x.beat) w.low
-  made = subst (λ d. MadeAs doc w.f.beat w.f.step w.f.actor d w.low) w.f_fact (are_made doc (suc e) w.f w.low asked_e)
+  made = subst (λ d. MadeAs doc w.f.beat w.f.step w.f.actor d w.low) w.f_fact (are_made doc s.sound.2 (suc e) w.f w.low asked_e)
 
   whose : made.q ≡ c
   whose = actor_is made.q c (sym made.by ∙ w.f_actor)
@@ -249,18 +257,18 @@ module _ (doc : Doc) (near far b e : ℕ) (q : Identity) (l : LeadsUntil doc nea
 
   pub record LastLook : Type 0 where
     pub S : List Entry
-    pub look : Look doc near far e s.one s.ways c w.role steady time f.before low_e own.y own.top own.lease own.object w.f.beat S
+    pub look : Look doc s.sound.2 near far e s.one s.ways c w.role steady time f.before low_e own.y own.top own.lease own.object w.f.beat S
     pub free : is_blocked c (local doc c.process w.f.beat) (observed_at doc c w.low) own.lease ≡ false
     pub low : w.low ≡ entry w.f.beat 3 c (Delivers look.w (Found own.y.version own.lease) true) ∷ S
 
   -- not in its turn
   in_turn : w.f.step ≡ 4 → ⊥
-  in_turn four = by_due (subst (λ d. IsTurnSend doc w.f.beat c d w.low) w.f_fact (sends_are_due doc (suc e) w.f w.low asked_e four c w.f_actor) w.role)
+  in_turn four = by_due (subst (λ d. IsTurnSend doc w.f.beat c d w.low) w.f_fact (sends_are_due doc s.sound.2 (suc e) w.f w.low asked_e four c w.f_actor) w.role)
     where
       by_due : IsDue doc w.f.beat c w.call w.low → ⊥
       by_due (inl fast) =
           let x = expired_by c w.f.beat w.low fast in
-          never_expires doc near far e s.one c w.role steady time x.x x.before x.call (tail_trans (x.x ∷ x.before) w.low (history doc (suc e)) x.position (tail_trans w.low (w.f ∷ w.low) (history doc (suc e)) (inr (tail_all w.low)) asked_e)) x.actor x.fact
+          never_expires doc s.sound.2 near far e s.one c w.role steady time x.x x.before x.call (tail_trans (x.x ∷ x.before) w.low (history doc (suc e)) x.position (tail_trans w.low (w.f ∷ w.low) (history doc (suc e)) (inr (tail_all w.low)) asked_e)) x.actor x.fact
       by_due (inr due) = own_other c own.lease.holder (subst (λ (l : Lease). is_own c l.holder ≡ true) lease_is p.own) others
         where
           p : IsOwnShown c w.low update.version
@@ -295,7 +303,7 @@ module _ (doc : Doc) (near far b e : ℕ) (q : Identity) (l : LeadsUntil doc nea
 
       free : IsFree made.q (moment doc made.q w.f.beat) (observed_at doc made.q w.low) r.reply update.version
       free =
-          get_free made.q (moment doc made.q w.f.beat) (observed_at doc made.q w.low) r.reply update.version update.lease
+          get_free made.q (moment doc made.q w.f.beat) (ap (λ r. r.respect) s.sound.2.rules) (observed_at doc made.q w.low) r.reply update.version update.lease
           (ap (λ request. follow made.q (moment doc made.q w.f.beat) (observed_at doc made.q w.low) r.waiting.kind request r.reply) (sym get.1) ∙ r.follows ∙ ap Asks request_made)
 
       d : Entry
@@ -316,7 +324,7 @@ module _ (doc : Doc) (near far b e : ℕ) (q : Identity) (l : LeadsUntil doc nea
       with_origin : (o : Origin doc c r.waiting (Found own.y.version own.lease) r.before w.f.beat) × IsTail (kept.z ∷ kept.before) o.low
       with_origin = subst (λ reply. (o : Origin doc c r.waiting reply r.before w.f.beat) × IsTail (kept.z ∷ kept.before) o.low) it.reply_is (it.o, it.low)
 
-      look : Look doc near far e s.one s.ways c w.role steady time f.before low_e own.y own.top own.lease own.object w.f.beat r.before
+      look : Look doc s.sound.2 near far e s.one s.ways c w.role steady time f.before low_e own.y own.top own.lease own.object w.f.beat r.before
       look = record {
         w = r.waiting;
         get = it.get;

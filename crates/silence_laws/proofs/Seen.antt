@@ -31,7 +31,7 @@ module _ (doc : Doc) (e : ℕ) (sound : IsSound doc) (end : e ≤ end_beat doc) 
     d_e = tail_trans (d ∷ S) T (history doc (suc e)) position at
 
     o : Origin doc c t.w t.reply S d.beat
-    o = origin doc (suc e) c d S t.w t.reply d_e t.actor t.fact
+    o = origin doc sound.2 (suc e) c d S t.w t.reply d_e t.actor t.fact
 
     version : s.0 ≡ y.version
     version = ap (λ n. record { 0 = n }) same

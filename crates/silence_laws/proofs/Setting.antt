@@ -8,6 +8,7 @@ use Rattle.kube_objects.specs.Entry.{Entry, Identity, Call, Fact, Stops, Sends, 
 use Rattle.kube_objects.specs.Identities.{of_process}
 use Rattle.kube_objects.specs.Newest.{when, has}
 use Rattle.kube_objects.specs.Wire.{Sent, Back, sent_of, back_of, request_delay, request_arrival}
+use Rattle.kube_objects.specs.Own.{IsOwn}
 use Rattle.history.specs.History.{history}
 use Rattle.history_laws.specs.Tails.{In, IsTail}
 use Rattle.history_laws.proofs.Order.{entries_are_earlier}
@@ -64,14 +65,14 @@ pub record Arrives (near far from : ℕ) (arrives : Option ℕ) : Type 0 where
   pub is : arrives ≡ Some at
   pub way : IsWay near far from at
 
-module _ (doc : Doc) (near far e p : ℕ) (steady : IsSteady doc near far 0 e p) where
+module _ (doc : Doc) (rules : IsOwn doc) (near far e p : ℕ) (steady : IsSteady doc near far 0 e p) where
   -- a controller's request isn't lost
   pub request_arrives : (m : ℕ) (x : Entry) (T : List Entry) (who : Identity) (call : Call) (arrives : Option ℕ) → IsTail (x ∷ T) (history doc m) → is_controller doc p ≡ true → who.process ≡ p → x.actor ≡ actor_of who → x.fact ≡ Sends call arrives → x.beat ≤ e
       → Arrives near far x.beat arrives
   request_arrives m x T who call arrives stands role mine actor fact to = by_step made.step_is
     where
       made : MadeSend doc x.beat x.step x.actor call arrives T
-      made = subst (λ d. MadeAs doc x.beat x.step x.actor d T) fact (are_made doc m x T stands)
+      made = subst (λ d. MadeAs doc x.beat x.step x.actor d T) fact (are_made doc rules m x T stands)
 
       whose : made.q ≡ who
       whose = actor_is made.q who (sym made.by ∙ actor)
@@ -85,7 +86,7 @@ module _ (doc : Doc) (near far e p : ℕ) (steady : IsSteady doc near far 0 e p)
       sent : 2 ≤ x.step → Arrives near far x.beat arrives
       sent late = record {
         at = x.beat + request_delay p (with_events doc x.beat);
-        is = made.arrives_is ∙ ap (λ p. request_arrival p x.beat T) process ∙ request_passes doc near far p x.beat T passes (forces_stand doc m x T stands late);
+        is = made.arrives_is ∙ ap (λ p. request_arrival doc p x.beat T) process ∙ request_passes doc rules near far p x.beat T passes (forces_stand doc rules m x T stands late);
         way = record { least = omega (arith, passes.request_least); most = omega (arith, passes.request_most) };
       }
 
@@ -134,7 +135,7 @@ module _ (doc : Doc) (near far b e : ℕ) (q : Identity) (l : LeadsUntil doc nea
           made : MadeSend doc x.beat x.step x.actor m.call m.arrives (place_of x (history doc 0) stands).before
           made =
               subst (λ d. MadeAs doc x.beat x.step x.actor d (place_of x (history doc 0) stands).before) (sends_of x.actor x.fact m is).1
-              (are_made doc 0 x (place_of x (history doc 0) stands).before (place_of x (history doc 0) stands).position)
+              (are_made doc s.sound.2 0 x (place_of x (history doc 0) stands).before (place_of x (history doc 0) stands).position)
 
       no_reply : (x : Entry) → In x (history doc 0) → (m : Back) → back_of x.actor x.fact ≡ Some m → ⊥
       no_reply x stands m is = none_yet x stands (omega (arith, made.step_is))
@@ -145,14 +146,14 @@ module _ (doc : Doc) (near far b e : ℕ) (q : Identity) (l : LeadsUntil doc nea
           made : MadeAnswer doc x.beat x.step x.actor m.call m.reply m.comes facts.wrote (place_of x (history doc 0) stands).before
           made =
               subst (λ d. MadeAs doc x.beat x.step x.actor d (place_of x (history doc 0) stands).before) facts.fact
-              (are_made doc 0 x (place_of x (history doc 0) stands).before (place_of x (history doc 0) stands).position)
+              (are_made doc s.sound.2 0 x (place_of x (history doc 0) stands).before (place_of x (history doc 0) stands).position)
 
   pub times_before : AreInTime doc near far 0 (b - 1)
   times_before p role steady = restrict_time doc far 0 0 (b - 1) e p (omega arith) (omega (arith, l.within)) (s.calls p role)
 
   -- the leader's first success, and that it stays up to b
   pub its_lead : HasLed doc q (b - 3 * far)
-  its_lead = acting_led doc q (b - 3 * far) l.acts
+  its_lead = acting_led doc s.sound.2 q (b - 3 * far) l.acts
 
   pub it_stays : Stays doc q its_lead.j (b - 1)
   it_stays = leaders_stay doc near far 0 (b - 1) s.sound calm_before times_before s.one s.ways (omega (arith, l.within, s.end)) q l.role l.steady s.renews its_lead.j its_lead.success

@@ -3,7 +3,7 @@ use Rattle.std.proofs.Common.{◌≡◌, true, false, List, [], ◌∷◌, Optio
 use Rattle.kube_objects.specs.declared.call.Reply.{Reply}
 use Rattle.kube_objects.specs.declared.deed.Actor.{Actor}
 use Rattle.kube_objects.specs.Elector.{Shown, told, shows, shown, newly, observed}
-use Rattle.kube_objects.specs.Entry.{Entry, Identity, Call, Fact, First, Event, Starts, Stops, Sends, Answers, Delivers, Expires, Leads, Ends, Crashes, Stalls, Ticks, actor_of}
+use Rattle.kube_objects.specs.Entry.{Entry, Identity, Call, Fact, First, Event, Starts, Stops, Sends, Answers, Delivers, Expires, Leads, Ends, Crashes, Stalls, Ticks, actor_of, StepsDown, ReleaseBegins, ReleaseEnds, ReleaseStops}
 use Rattle.kube_objects.specs.Identities.{is_by}
 use Rattle.history_laws.specs.Tails.{IsTail}
 use Rattle.history_laws.proofs.Counting.{only_test, only_value}
@@ -35,6 +35,10 @@ told_by q who Starts s is = absurd (none_is s is)
 told_by q who Crashes s is = absurd (none_is s is)
 told_by q who Stops s is = absurd (none_is s is)
 told_by q who (Stalls beats) s is = absurd (none_is s is)
+told_by q who StepsDown s is = absurd (none_is s is)
+told_by q who (ReleaseBegins at_deadline) s is = absurd (none_is s is)
+told_by q who ReleaseEnds s is = absurd (none_is s is)
+told_by q who ReleaseStops s is = absurd (none_is s is)
 told_by q who Ends s is = absurd (none_is s is)
 told_by q who (Sends call arrives) s is = absurd (none_is s is)
 told_by q who (Answers c reply comes wrote) s is = absurd (none_is s is)

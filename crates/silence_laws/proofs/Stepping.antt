@@ -12,6 +12,8 @@ use Rattle.kube_objects.specs.Newest.{newest, when, only_if, join, has, or_zero}
 use Rattle.kube_objects.specs.Process.{alive, last_call, call_in}
 use Rattle.kube_objects.specs.Stored.{election}
 use Rattle.kube_objects.specs.Turns.{expired_in, is_fast_call}
+use Rattle.kube_objects.specs.Own.{IsOwn}
+use Rattle.kube_objects.proofs.Own.{retry_at-own}
 use Rattle.history.specs.History.{history}
 use Rattle.history_laws.specs.Tails.{In, IsTail}
 use Rattle.history_laws.proofs.Plainly.{upper, false_is, same_self}
@@ -30,7 +32,7 @@ some_none x is = cc
 
 -- ---- what it sends first after a failure
 
-module _ (doc : Doc) (m : ℕ) (q : Identity) (role : is_controller doc q.process ≡ true) (unled : (h : List Entry) → IsTail h (history doc m) → leads q h ≡ false)
+module _ (doc : Doc) (rules : IsOwn doc) (m : ℕ) (q : Identity) (role : is_controller doc q.process ≡ true) (unled : (h : List Entry) → IsTail h (history doc m) → leads q h ≡ false)
     (unstopped : (x : Entry) → In x (history doc m) → x.fact ≡ Stops → has (of_process q.process x.actor) ≡ true → ⊥)
     (r : ℕ) (w : Call) (reply : Reply) (S : List Entry) (stands : IsTail (entry r 3 q (Delivers w reply true) ∷ S) (history doc m)) (failed : follow_on doc q r w.kind w.request reply (entry r 3 q (Delivers w reply true) ∷ S) ≡ Fails) where
   abbrev pub failure : Entry
@@ -49,8 +51,9 @@ module _ (doc : Doc) (m : ℕ) (q : Identity) (role : is_controller doc q.proces
   quiet_low = record {
     call = ap (λ b. join (upper (when b None) (last_call q S))) (same_self q);
     timer_is =
-        ap (λ b. or_zero (upper (only_if b (timer_follow (follow_on doc q r w.kind w.request reply low) (leads q S) due_at)) (newest (λ e T. timer_says doc q e T e.fact) S))) (same_self q)
-        ∙ ap (λ f. or_zero (upper (timer_follow f (leads q S) due_at) (newest (λ e T. timer_says doc q e T e.fact) S))) failed;
+        ap (λ b. or_zero (upper (only_if b (timer_follow doc q failure S (leads q S) (follow_on doc q r w.kind w.request reply low))) (newest (λ e T. timer_says doc q e T e.fact) S))) (same_self q)
+        ∙ ap (λ f. or_zero (upper (timer_follow doc q failure S (leads q S) f) (newest (λ e T. timer_says doc q e T e.fact) S))) failed
+        ∙ retry_at-own doc rules (leads q S) q failure S;
     shown_is = refl;
     seen_is = refl;
     expiry = λ k. ap (λ b. join (upper (when b None) (newest (λ e T. when (is_by q e.actor) (expired_in k e.beat e.fact)) S))) (same_self q);
@@ -69,7 +72,7 @@ module _ (doc : Doc) (m : ℕ) (q : Identity) (role : is_controller doc q.proces
   first_gets x before call arrives position since still fact actor = by_step made.step_is
     where
       made : MadeSend doc x.beat x.step x.actor call arrives before
-      made = subst (λ d. MadeAs doc x.beat x.step x.actor d before) fact (are_made doc m x before position)
+      made = subst (λ d. MadeAs doc x.beat x.step x.actor d before) fact (are_made doc rules m x before position)
 
       mine : made.q ≡ q
       mine = actor_is made.q q (sym made.by ∙ actor)
@@ -108,7 +111,7 @@ module _ (doc : Doc) (m : ℕ) (q : Identity) (role : is_controller doc q.proces
               below f.waiting f.reply refl (ap actor_of mine)
 
       by_step : (x.step ≡ 1) ⊎ ((x.step ≡ 3) ⊎ (x.step ≡ 4)) → IsReached x call
-      by_step (inr (inr four)) = turned (subst (λ d. IsTurnSend doc x.beat q d before) fact (sends_are_due doc m x before position four q actor) role)
+      by_step (inr (inr four)) = turned (subst (λ d. IsTurnSend doc x.beat q d before) fact (sends_are_due doc rules m x before position four q actor) role)
       by_step (inr (inl three)) = absurd (follows (made.replied role_made three))
       by_step (inl one) = absurd (stopped_or (made.free role_made))
         where

@@ -2,7 +2,7 @@
 use Rattle.std.proofs.Common.{◌≡◌, ◌≤◌, ℕ, suc, true, List, [], ◌∷◌, Option, Some, None, refl, ap, ◌∙◌, subst, inl, inr, arith}
 use Rattle.kube_objects.specs.declared.deed.Actor.{Actor}
 use Rattle.kube_objects.specs.Document.{Doc}
-use Rattle.kube_objects.specs.Entry.{Entry, Identity, Fact, First, Event, Starts, Stops, Sends, Answers, Delivers, Expires, Leads, Ends, Crashes, Stalls, Ticks}
+use Rattle.kube_objects.specs.Entry.{Entry, Identity, Fact, First, Event, Starts, Stops, Sends, Answers, Delivers, Expires, Leads, Ends, Crashes, Stalls, Ticks, StepsDown, ReleaseBegins, ReleaseEnds, ReleaseStops}
 use Rattle.kube_objects.specs.Identities.{of_process}
 use Rattle.kube_objects.specs.Newest.{join, has}
 use Rattle.kube_objects.specs.Process.{alive, life, life_says, born, gone}
@@ -40,6 +40,10 @@ down_more p x h none down = cases x.actor x.fact refl refl
     cases who (Expires c) actor fact = down
     cases who (Leads version) actor fact = down
     cases who (Stalls beats) actor fact = down
+    cases who StepsDown actor fact = down
+    cases who (ReleaseBegins at_deadline) actor fact = down
+    cases who ReleaseEnds actor fact = going (of_process p who)
+    cases who ReleaseStops actor fact = down
     cases who (Ticks t) actor fact = down
 
 module _ (doc : Doc) (b e : ℕ) (q : Identity) (stop : IsStopped doc b e q) where

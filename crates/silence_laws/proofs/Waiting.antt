@@ -7,6 +7,8 @@ use Rattle.kube_objects.specs.Document.{Doc, is_controller, call_timeout}
 use Rattle.kube_objects.specs.Entry.{Entry, Identity, Call, Sends, Delivers, Expires, actor_of, entry}
 use Rattle.kube_objects.specs.Newest.{when}
 use Rattle.kube_objects.specs.Process.{alive, call_in, call_says, is_late}
+use Rattle.kube_objects.specs.Own.{IsOwn}
+use Rattle.kube_objects.proofs.Own.{is_late-own}
 use Rattle.history.specs.History.{history}
 use Rattle.history_laws.specs.Tails.{IsTail}
 use Rattle.history_laws.proofs.Counting.{CountedFor, counted_is}
@@ -43,24 +45,24 @@ pub beats_rise : (doc : Doc) (e : ℕ) (x : Entry) (T : List Entry) → IsTail (
 beats_rise doc e x T at z Z low = beat_before doc x.beat z Z (tail_trans (z ∷ Z) (x ∷ T) (history doc (suc x.beat)) (inr low) (in_own_beat doc (suc e) x T at))
 
 -- a waiting call's sending is the one that has its number
-pub one_sending : (doc : Doc) (m : ℕ) (q : Identity) (w : Call) (S : List Entry) → IsTail S (history doc m) → (b : Begun q w S) → (x : Entry) (T : List Entry) (call : Call) (arrives : Option ℕ) → IsTail (x ∷ T) (history doc m)
+pub one_sending : (doc : Doc) → IsOwn doc → (m : ℕ) (q : Identity) (w : Call) (S : List Entry) → IsTail S (history doc m) → (b : Begun q w S) → (x : Entry) (T : List Entry) (call : Call) (arrives : Option ℕ) → IsTail (x ∷ T) (history doc m)
     → x.actor ≡ actor_of q → x.fact ≡ Sends call arrives → w.number ≡ call.number → b.f ∷ b.before ≡ x ∷ T
-one_sending doc m q w S at b x T call arrives position actor fact number =
-    sends_differ doc m q b.f x b.before T w call b.arrives arrives (tail_trans (b.f ∷ b.before) S (history doc m) b.position at) position b.actor actor b.fact fact number
+one_sending doc rules m q w S at b x T call arrives position actor fact number =
+    sends_differ doc rules m q b.f x b.before T w call b.arrives arrives (tail_trans (b.f ∷ b.before) S (history doc m) b.position at) position b.actor actor b.fact fact number
 
 -- a counted reply to a call comes after the call's sending, which is the last own entry on a call before it
 pub record IsCountedAfter (q : Identity) (w : Call) (S : List Entry) : Type 0 where
   pub begun : Begun q w S
   pub up : alive q.process S ≡ Some q.incarnation
 
-pub counted_after : (doc : Doc) (m : ℕ) (q : Identity) (x : Entry) (S : List Entry) (w : Call) (reply : _) → IsTail (x ∷ S) (history doc m) → x.actor ≡ actor_of q → x.fact ≡ Delivers w reply true → IsCountedAfter q w S
-counted_after doc m q x S w reply at actor fact = record {
+pub counted_after : (doc : Doc) → IsOwn doc → (m : ℕ) (q : Identity) (x : Entry) (S : List Entry) (w : Call) (reply : _) → IsTail (x ∷ S) (history doc m) → x.actor ≡ actor_of q → x.fact ≡ Delivers w reply true → IsCountedAfter q w S
+counted_after doc rules m q x S w reply at actor fact = record {
   begun = begun_by q S w (ap (λ p. call_in p S) (sym mine) ∙ counts.waits);
   up = subst (λ (q : Identity). alive q.process S ≡ Some q.incarnation) mine counts.up;
 }
   where
     made : MadeDelivery doc x.beat x.step x.actor w reply S
-    made = subst (λ d. MadeAs doc x.beat x.step x.actor d S) fact (are_made doc m x S at)
+    made = subst (λ d. MadeAs doc x.beat x.step x.actor d S) fact (are_made doc rules m x S at)
 
     mine : made.b.who ≡ q
     mine = actor_is made.b.who q (sym made.by ∙ actor)
@@ -75,12 +77,12 @@ says_done q x w reply actor fact = ap (call_says q x.actor) fact ∙ ap (λ who.
 none_some : {A : Type 0} (x : A) → None ≡ Some x → ⊥
 none_some x is = cc
 
-module _ (doc : Doc) (near far e : ℕ) (one : 1 ≤ near) (q : Identity) (role : is_controller doc q.process ≡ true) (steady : IsSteady doc near far 0 e q.process) (time : IsInTime doc far 0 e q.process) where
+module _ (doc : Doc) (rules : IsOwn doc) (near far e : ℕ) (one : 1 ≤ near) (q : Identity) (role : is_controller doc q.process ≡ true) (steady : IsSteady doc near far 0 e q.process) (time : IsInTime doc far 0 e q.process) where
   pub never_expires : (x : Entry) (T : List Entry) (w : Call) → IsTail (x ∷ T) (history doc (suc e)) → x.actor ≡ actor_of q → x.fact ≡ Expires w → ⊥
   never_expires x T w at actor fact = ⊎_elim early (λ le. soon le) (cases_lt (b.f.beat + 2 * far) x.beat)
     where
       made : MadeExpiry doc x.beat x.actor w T
-      made = subst (λ d. MadeAs doc x.beat x.step x.actor d T) fact (are_made doc (suc e) x T at)
+      made = subst (λ d. MadeAs doc x.beat x.step x.actor d T) fact (are_made doc rules (suc e) x T at)
 
       mine : made.q ≡ q
       mine = actor_is made.q q (sym made.by ∙ actor)
@@ -95,10 +97,10 @@ module _ (doc : Doc) (near far e : ℕ) (one : 1 ≤ near) (q : Identity) (role 
       position = tail_trans (b.f ∷ b.before) T (history doc (suc e)) b.position below
 
       sent : w.sent ≡ b.f.beat
-      sent = sent_beat doc near far e q role steady b.f b.before w b.arrives position b.actor b.fact
+      sent = sent_beat doc rules near far e q role steady b.f b.before w b.arrives position b.actor b.fact
 
       late : local doc q.process w.sent + call_timeout doc q.process < local doc q.process x.beat
-      late = ltb-true (local doc q.process w.sent + call_timeout doc q.process) (local doc q.process x.beat) (subst (λ q. is_late doc q x.beat w ≡ true) mine made.late)
+      late = ltb-true (local doc q.process w.sent + call_timeout doc q.process) (local doc q.process x.beat) (sym (is_late-own doc rules q x.beat w) ∙ subst (λ q. is_late doc q x.beat w ≡ true) mine made.late)
 
       to : x.beat ≤ e
       to = beat_before doc e x T at
@@ -112,7 +114,7 @@ module _ (doc : Doc) (near far e : ℕ) (one : 1 ≤ near) (q : Identity) (role 
 
       -- or its reply had counted
       early : b.f.beat + 2 * far < x.beat → ⊥
-      early lt = by_count (replies_count doc near far 0 e n q role steady time one (omega (arith, lt, to)) b.f b.before w b.arrives sending b.actor b.fact (omega arith) (omega arith) still)
+      early lt = by_count (replies_count doc rules near far 0 e n q role steady time one (omega (arith, lt, to)) b.f b.before w b.arrives sending b.actor b.fact (omega arith) (omega arith) still)
         where
           n : ℕ
           n = b.f.beat + 2 * far
@@ -125,8 +127,8 @@ module _ (doc : Doc) (near far e : ℕ) (one : 1 ≤ near) (q : Identity) (role 
 
           still : (h : List Entry) → IsTail b.before h → IsTail h (history doc (suc n)) → alive q.process h ≡ Some q.incarnation
           still h under above =
-              up_between doc (suc e) q b.before h T under (tail_trans h (history doc (suc n)) T above low) below
-              (sent_freely doc (suc e) q role b.f b.before w b.arrives position b.actor b.fact b.opens).up
+              up_between doc rules (suc e) q b.before h T under (tail_trans h (history doc (suc n)) T above low) below
+              (sent_freely doc rules (suc e) q role b.f b.before w b.arrives position b.actor b.fact b.opens).up
               (subst (λ (q : Identity). alive q.process T ≡ Some q.incarnation) mine made.up)
 
           by_count : HasCounted doc q w (b.f.beat + 2 * near) (b.f.beat + 2 * far) → ⊥
@@ -145,10 +147,10 @@ module _ (doc : Doc) (near far e : ℕ) (one : 1 ≤ near) (q : Identity) (role 
               at_e = tail_trans (d ∷ c.before) T (history doc (suc e)) at_d below
 
               after : IsCountedAfter q w c.before
-              after = counted_after doc (suc e) q d c.before w c.reply at_e refl refl
+              after = counted_after doc rules (suc e) q d c.before w c.reply at_e refl refl
 
               since : IsTail (b.f ∷ b.before) c.before
               since =
                   subst (λ g. IsTail g c.before)
-                  (one_sending doc (suc e) q w c.before (tail_trans c.before (d ∷ c.before) (history doc (suc e)) (inr (tail_all c.before)) at_e) after.begun b.f b.before w b.arrives position b.actor b.fact refl)
+                  (one_sending doc rules (suc e) q w c.before (tail_trans c.before (d ∷ c.before) (history doc (suc e)) (inr (tail_all c.before)) at_e) after.begun b.f b.before w b.arrives position b.actor b.fact refl)
                   after.begun.position

@@ -7,6 +7,7 @@ use Rattle.kube_objects.specs.Newest.{or_else}
 use Rattle.kube_objects.specs.Pauses.{resume, held_up}
 use Rattle.kube_objects.specs.Process.{alive, open_as, call_in}
 use Rattle.kube_objects.specs.Wire.{reply_delay_of, reply_loss_of, request_delay, reply_delay, arrival, request_arrival, reply_arrival}
+use Rattle.kube_objects.specs.Own.{IsOwn}
 use Rattle.kube_objects.proofs.Pauses.{resume_later}
 use Rattle.history.specs.History.{history}
 use Rattle.history_laws.specs.Tails.{IsTail}
@@ -30,12 +31,12 @@ pub record IsFreely (q : Identity) (x : Entry) (T : List Entry) : Type 0 where
   pub up : alive q.process T ≡ Some q.incarnation
   pub idle : call_in q T ≡ None
 
-pub sent_freely : (doc : Doc) (m : ℕ) (q : Identity) → is_controller doc q.process ≡ true → (x : Entry) (T : List Entry) (call : Call) (arrives : Option ℕ) → IsTail (x ∷ T) (history doc m) → x.actor ≡ actor_of q → x.fact ≡ Sends call arrives
+pub sent_freely : (doc : Doc) → IsOwn doc → (m : ℕ) (q : Identity) → is_controller doc q.process ≡ true → (x : Entry) (T : List Entry) (call : Call) (arrives : Option ℕ) → IsTail (x ∷ T) (history doc m) → x.actor ≡ actor_of q → x.fact ≡ Sends call arrives
     → open_as call.kind call ≡ Some call → IsFreely q x T
-sent_freely doc m q role x T call arrives at actor fact opens = by_free (made.free role_made)
+sent_freely doc rules m q role x T call arrives at actor fact opens = by_free (made.free role_made)
   where
     made : MadeSend doc x.beat x.step x.actor call arrives T
-    made = subst (λ d. MadeAs doc x.beat x.step x.actor d T) fact (are_made doc m x T at)
+    made = subst (λ d. MadeAs doc x.beat x.step x.actor d T) fact (are_made doc rules m x T at)
 
     mine : made.q ≡ q
     mine = actor_is made.q q (sym made.by ∙ actor)
@@ -52,8 +53,8 @@ pub beat_before : (doc : Doc) (m : ℕ) (x : Entry) (T : List Entry) → IsTail 
 beat_before doc m x T at = ⊎_elim (λ lt. omega (arith, lt)) (λ first. omega (arith, first.0)) (entries_are_earlier doc (suc m) x (in_head x T (history doc (suc m)) at))
 
 -- a call tells the beat at which it was sent
-pub sent_at : (doc : Doc) (m : ℕ) (q : Identity) (x : Entry) (T : List Entry) (call : Call) (arrives : Option ℕ) → IsTail (x ∷ T) (history doc m) → x.actor ≡ actor_of q → x.fact ≡ Sends call arrives → call.sent ≡ x.beat
-sent_at doc m q x T call arrives at actor fact = (subst (λ o. IfSome o (λ s. (s.call.sent ≡ x.beat) × (s.arrives ≡ request_arrival s.who.process x.beat T))) (sent_is x q call arrives actor fact) (messages_travel doc m x T at).0).0
+pub sent_at : (doc : Doc) → IsOwn doc → (m : ℕ) (q : Identity) (x : Entry) (T : List Entry) (call : Call) (arrives : Option ℕ) → IsTail (x ∷ T) (history doc m) → x.actor ≡ actor_of q → x.fact ≡ Sends call arrives → call.sent ≡ x.beat
+sent_at doc rules m q x T call arrives at actor fact = (subst (λ o. IfSome o (λ s. (s.call.sent ≡ x.beat) × (s.arrives ≡ request_arrival doc s.who.process x.beat T))) (sent_is x q call arrives actor fact) (messages_travel doc rules m x T at).0).0
 
 -- ---- ways
 
@@ -67,12 +68,12 @@ pub record IsWay (near far from to : ℕ) : Type 0 where
   pub least : from + near ≤ to
   pub most : to ≤ from + far
 
-module _ (doc : Doc) (near far e : ℕ) (q : Identity) (role : is_controller doc q.process ≡ true) (steady : IsSteady doc near far 0 e q.process) where
+module _ (doc : Doc) (rules : IsOwn doc) (near far e : ℕ) (q : Identity) (role : is_controller doc q.process ≡ true) (steady : IsSteady doc near far 0 e q.process) where
   pub request_way : (x : Entry) (T : List Entry) (call : Call) (k : ℕ) → IsTail (x ∷ T) (history doc (suc e)) → x.actor ≡ actor_of q → x.fact ≡ Sends call (Some k) → open_as call.kind call ≡ Some call → IsWay near far x.beat k
   request_way x T call k at actor fact opens = record { least = omega (arith, same, passes.request_least); most = omega (arith, same, passes.request_most) }
     where
       step : 3 ≤ x.step
-      step = (sent_freely doc (suc e) q role x T call (Some k) at actor fact opens).step
+      step = (sent_freely doc rules (suc e) q role x T call (Some k) at actor fact opens).step
 
       passes : Passes doc near far q.process x.beat
       passes = steady.passes x.beat (omega arith) (beat_before doc e x T at)
@@ -80,11 +81,11 @@ module _ (doc : Doc) (near far e : ℕ) (q : Identity) (role : is_controller doc
       same : k ≡ x.beat + request_delay q.process (with_events doc x.beat)
       same =
           some_is k (x.beat + request_delay q.process (with_events doc x.beat))
-          ((subst (λ o. IfSome o (λ s. (s.call.sent ≡ x.beat) × (s.arrives ≡ request_arrival s.who.process x.beat T))) (sent_is x q call (Some k) actor fact) (messages_travel doc (suc e) x T at).0).1
-          ∙ request_passes doc near far q.process x.beat T passes (forces_stand doc (suc e) x T at (omega (arith, step))))
+          ((subst (λ o. IfSome o (λ s. (s.call.sent ≡ x.beat) × (s.arrives ≡ request_arrival doc s.who.process x.beat T))) (sent_is x q call (Some k) actor fact) (messages_travel doc rules (suc e) x T at).0).1
+          ∙ request_passes doc rules near far q.process x.beat T passes (forces_stand doc rules (suc e) x T at (omega (arith, step))))
 
   pub sent_beat : (x : Entry) (T : List Entry) (call : Call) (arrives : Option ℕ) → IsTail (x ∷ T) (history doc (suc e)) → x.actor ≡ actor_of q → x.fact ≡ Sends call arrives → call.sent ≡ x.beat
-  sent_beat x T call arrives at actor fact = (subst (λ o. IfSome o (λ s. (s.call.sent ≡ x.beat) × (s.arrives ≡ request_arrival s.who.process x.beat T))) (sent_is x q call arrives actor fact) (messages_travel doc (suc e) x T at).0).0
+  sent_beat x T call arrives at actor fact = (subst (λ o. IfSome o (λ s. (s.call.sent ≡ x.beat) × (s.arrives ≡ request_arrival doc s.who.process x.beat T))) (sent_is x q call arrives actor fact) (messages_travel doc rules (suc e) x T at).0).0
 
   -- a reply that comes in the span comes one way after its giving
   pub reply_way : (x : Entry) (T : List Entry) → IsTail (x ∷ T) (history doc (suc e)) → x.step ≡ 2 → (y : ℕ) → y ≤ e → reply_arrival doc q.process x.beat T ≡ Some y → IsWay near far x.beat y
@@ -97,7 +98,7 @@ module _ (doc : Doc) (near far e : ℕ) (q : Identity) (role : is_controller doc
       m = x.beat + reply_delay q.process (with_events doc x.beat)
 
       force : Forces doc x.beat T
-      force = forces_stand doc (suc e) x T at (omega (arith, step))
+      force = forces_stand doc rules (suc e) x T at (omega (arith, step))
 
       resumed : resume doc q.process m ≡ y
       resumed = some_is (resume doc q.process m) y (sym (replies_resume doc near far q.process x.beat T passes force) ∙ comes)

@@ -8,6 +8,7 @@ use Rattle.kube_objects.specs.Document.{Doc, end_beat, is_controller, lease_dura
 use Rattle.kube_objects.specs.Entry.{Entry, Identity, Call, Release, Starts, Stops, Sends, Answers, entry}
 use Rattle.kube_objects.specs.Identities.{of_process}
 use Rattle.kube_objects.specs.Newest.{has}
+use Rattle.kube_objects.specs.Own.{IsOwn}
 use Rattle.history.specs.History.{history}
 use Rattle.history.specs.Premise.{lease_premise}
 use Rattle.history.specs.Safe.{Acts}
@@ -55,7 +56,7 @@ IsSilent doc b e p = (x : Entry) (call : Call) (arrives : Option ℕ) → In x (
 
 -- so it writes no election Lease from then on
 abbrev pub SilentsAreQuiet : Type 0
-SilentsAreQuiet = (doc : Doc) (b e p : ℕ) → IsSilent doc b e p → IsQuiet doc b e p
+SilentsAreQuiet = (doc : Doc) → IsOwn doc → (b e p : ℕ) → IsSilent doc b e p → IsQuiet doc b e p
 
 -- the leader is stopped at beat b, and its process doesn't start again up to beat e
 pub record IsStopped (doc : Doc) (b e : ℕ) (q : Identity) : Type 0 where

@@ -5,7 +5,7 @@
 ghost use Rattle.silence_laws.specs.Least.{ReleasesLast, SilencesAreTold, SilencesLast};
 ghost use Rattle.silence_laws.specs.Silence.{SilentsAreQuiet};
 
-/// A process whose requests are all lost from a beat on, or that sends none, writes no election Lease from then on.
+/// Under the project's own rules, a process whose requests are all lost from a beat on, or that sends none, writes no election Lease from then on.
 pub fn silents_are_quiet()
     ensures { SilentsAreQuiet }
 {}

@@ -1,4 +1,4 @@
--- Whoever acts as its tick begins acted at its turn.
+-- Whoever acts as its tick begins acted at its turn, under the project's own rules.
 use Rattle.std.proofs.Common.{◌≡◌, ◌∙◌, ℕ, ◌+◌, ◌&&◌, not, nat_lt, Bool, true, false, List, ◌∷◌, Option, Some, None, refl, sym, ap, subst, arith}
 use Rattle.std.specs.Prelude.{if◌then◌else◌}
 use Rattle.std.proofs.lemmas.Bool.{eq-eqb}
@@ -9,8 +9,10 @@ use Rattle.kube_objects.specs.Entry.{Entry, Identity, Call, Ends, entry, Expires
 use Rattle.kube_objects.specs.Identities.{identity}
 use Rattle.kube_objects.specs.Newest.{when, join, has}
 use Rattle.kube_objects.specs.Pauses.{is_paused}
-use Rattle.kube_objects.specs.Process.{born, gone, life, alive, starts, is_present, call_in, is_late, ended, is_restart_due}
-use Rattle.kube_objects.specs.Turns.{expire_call, end_term, just_expired, is_fast_call, attempt_if, try}
+use Rattle.kube_objects.specs.Process.{born, gone, life, alive, starts, is_present, call_in, is_late, release_begun, ended, is_restart_due}
+use Rattle.kube_objects.specs.Turns.{expired, expire_call, expire_as, end_term, end_as, just_expired, is_fast_call, attempt_if, try}
+use Rattle.kube_objects.specs.Own.{IsOwn}
+use Rattle.kube_objects.proofs.Own.{acts-own, expire_as-own, end_term-own}
 use Rattle.history.specs.History.{at_turn}
 use Rattle.history.specs.Safe.{Acts}
 use Rattle.history.specs.Steps.{start, if_up, restart_if, restart, expire, finish, attempts, elector_turn}
@@ -23,7 +25,7 @@ record Leading (doc : Doc) (q : Identity) (at : ℕ) (h : List Entry) : Type 0 w
   up : alive q.process h ≡ Some q.incarnation
   until : deadline doc q h ≡ Some at
 
-module _ (doc : Doc) (q : Identity) (k at : ℕ) where
+module _ (doc : Doc) (own : IsOwn doc) (q : Identity) (k at : ℕ) where
   before_attempts : (h : List Entry) → Leading doc q at (attempts doc k q.process h) → Leading doc q at h
   before_attempts h = by_up (alive q.process h) refl
     where
@@ -44,9 +46,12 @@ module _ (doc : Doc) (q : Identity) (k at : ℕ) where
       gone_now : (i : ℕ) → alive q.process (entry k 4 (identity q.process i) Ends ∷ h) ≡ None
       gone_now i = ap (λ b. join (upper (gone (when b i)) (life q.process h))) (eq-eqb q.process q.process refl)
 
-      by_test : (i : ℕ) (b : Bool) → Leading doc q at (if b then h else entry k 4 (identity q.process i) Ends ∷ h) → Leading doc q at h
+      by_end : (i : ℕ) → Leading doc q at (entry k 4 (identity q.process i) Ends ∷ h) → Leading doc q at h
+      by_end i s = absurd (none_is q.incarnation (sym (gone_now i) ∙ s.up))
+
+      by_test : (i : ℕ) (b : Bool) → Leading doc q at (if b then h else end_as doc.settings.rules.release doc k (identity q.process i) h) → Leading doc q at h
       by_test i true s = s
-      by_test i false s = absurd (none_is q.incarnation (sym (gone_now i) ∙ s.up))
+      by_test i false s = by_end i (subst (Leading doc q at) (end_term-own doc own k (identity q.process i) h) s)
 
       by_deadline : (i : ℕ) (o : Option ℕ) → Leading doc q at (end_term doc k (identity q.process i) o h) → Leading doc q at h
       by_deadline i None s = s
@@ -59,15 +64,18 @@ module _ (doc : Doc) (q : Identity) (k at : ℕ) where
   before_expire : (h : List Entry) → Leading doc q at (expire doc k q.process h) → Leading doc q at h
   before_expire h = by_up (alive q.process h)
     where
-      by_late : (i : ℕ) (call : Call) (b : Bool) → Leading doc q at (if b then entry k 4 (identity q.process i) (Expires call) ∷ h else h) → Leading doc q at h
-      by_late i call true s = record { up = s.up; until = s.until }
+      by_expiry : (i : ℕ) (call : Call) → Leading doc q at (entry k 4 (identity q.process i) (Expires call) ∷ h) → Leading doc q at h
+      by_expiry i call s = record { up = s.up; until = s.until }
+
+      by_late : (i : ℕ) (call : Call) (b : Bool) → Leading doc q at (if b then expire_as doc k (identity q.process i) call (release_begun doc.settings.rules.release call.kind) h else h) → Leading doc q at h
+      by_late i call true s = by_expiry i call (subst (Leading doc q at) (expire_as-own doc own k (identity q.process i) call h) s)
       by_late i call false s = s
 
       by_call : (i : ℕ) (o : Option Call) → Leading doc q at (expire_call doc k (identity q.process i) o h) → Leading doc q at h
       by_call i None s = s
       by_call i (Some call) s = by_late i call (is_late doc (identity q.process i) k call) s
 
-      by_up : (o : Option ℕ) → Leading doc q at (if_up q.process (λ q T. expire_call doc k q (call_in q T) T) o h) → Leading doc q at h
+      by_up : (o : Option ℕ) → Leading doc q at (if_up q.process (λ q T. expired doc k q T) o h) → Leading doc q at h
       by_up None s = s
       by_up (Some i) s = by_call i (call_in (identity q.process i) h) s
 
@@ -97,8 +105,8 @@ acts_from doc q k at h s before =
     (subst (λ b. (b && is_before (local doc q.process k) (deadline doc q h)) ≡ true) (sym (eq-eqb q.incarnation q.incarnation refl))
     (subst (λ o. is_before (local doc q.process k) o ≡ true) (sym s.until) before))
 
-pub acts_at_turn : (doc : Doc) (q : Identity) (k : ℕ) → Ticking doc q k → Acts doc q k
-acts_at_turn doc q k ticking = (ticking.role, by_deadline (deadline doc q h) refl (and_right (is_present (alive q.process h) q.incarnation) (is_before (local doc q.process k) (deadline doc q h)) term))
+pub acts_at_turn : (doc : Doc) → IsOwn doc → (q : Identity) (k : ℕ) → Ticking doc q k → Acts doc q k
+acts_at_turn doc own q k ticking = (ticking.role, by_deadline (deadline doc q h) refl (and_right (is_present (alive q.process h) q.incarnation) (is_before (local doc q.process k) (deadline doc q h)) term))
   where
     h0 : List Entry
     h0 = at_turn doc q.process k
@@ -106,11 +114,14 @@ acts_at_turn doc q k ticking = (ticking.role, by_deadline (deadline doc q h) ref
     h : List Entry
     h = elector_turn doc k q.process h0
 
+    acting : (not (is_paused doc q.process k) && in_term doc q k h) ≡ true
+    acting = sym (acts-own doc own q k h) ∙ ticking.acting
+
     awake : not (is_paused doc q.process k) ≡ true
-    awake = and_left (not (is_paused doc q.process k)) (in_term doc q k h) ticking.acting
+    awake = and_left (not (is_paused doc q.process k)) (in_term doc q k h) acting
 
     term : in_term doc q k h ≡ true
-    term = and_right (not (is_paused doc q.process k)) (in_term doc q k h) ticking.acting
+    term = and_right (not (is_paused doc q.process k)) (in_term doc q k h) acting
 
     by_deadline : (o : Option ℕ) → deadline doc q h ≡ o → is_before (local doc q.process k) o ≡ true → acts doc q k h0 ≡ true
     by_deadline None is before = absurd (false_is before)
@@ -118,5 +129,5 @@ acts_at_turn doc q k ticking = (ticking.role, by_deadline (deadline doc q h) ref
         let h1 = restart doc k q.process h0 in
         let h2 = expire doc k q.process h1 in
         let s : Leading doc q at h0 =
-        before_restart doc q k at q.process (before_expire doc q k at h1 (before_finish doc q k at h2 (before_attempts doc q k at (finish doc k q.process h2) (record { up = ticking.up; until = is })))) in
-        and_both (not (is_paused doc q.process k)) (in_term doc q k h0) awake (acts_from doc q k at h0 s before)
+        before_restart doc own q k at q.process (before_expire doc own q k at h1 (before_finish doc own q k at h2 (before_attempts doc own q k at (finish doc k q.process h2) (record { up = ticking.up; until = is })))) in
+        acts-own doc own q k h0 ∙ and_both (not (is_paused doc q.process k)) (in_term doc q k h0) awake (acts_from doc q k at h0 s before)

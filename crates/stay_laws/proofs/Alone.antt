@@ -49,10 +49,10 @@ module _ (doc : Doc) (near far a e : ℕ) (sound : IsSound doc) (calm : IsCalm d
   module _ (q : Identity) (role : is_controller doc q.process ≡ true) (steady : IsSteady doc near far a e q.process) (renews : RenewsInTime doc near far a e q) (j : ℕ) (to : j ≤ e) (s : HasSuccess doc q a j)
       (r : Identity) (other_role : is_controller doc r.process ≡ true) (other_steady : IsSteady doc near far a e r.process) (other_renews : RenewsInTime doc near far a e r) (i : ℕ) (upto : i ≤ e) (other_s : HasSuccess doc r a i) where
     abbrev mine : IsGiven doc near far a q j
-    mine = given_of doc near far a e q role steady one j to s
+    mine = given_of doc sound.2 near far a e q role steady one j to s
 
     abbrev other : IsGiven doc near far a r i
-    other = given_of doc near far a e r other_role other_steady one i upto other_s
+    other = given_of doc sound.2 near far a e r other_role other_steady one i upto other_s
 
     mine_high : IsTail (mine.o.e ∷ mine.o.low) (history doc (suc e))
     mine_high = first_high q role steady renews j to mine

@@ -2,24 +2,23 @@
 use Rattle.std.proofs.Common.{◌≡◌, ◌<◌, ◌≤◌, ℕ, suc, ◌+◌, ◌*◌, ◌==◌, Bool, true, false, List, [], ◌∷◌, Option, Some, None, refl, sym, ap, ◌∙◌, subst, inl, inr, ⊎_elim, arith}
 use Rattle.std.proofs.lemmas.Bool.{eq-eqb}
 use Rattle.kube_objects.specs.declared.call.Reply.{Reply}
-use Rattle.kube_objects.specs.declared.call.Request.{Request}
 use Rattle.kube_objects.specs.Answers.{answer}
 use Rattle.kube_objects.specs.Document.{Doc, is_controller}
 use Rattle.kube_objects.specs.Elector.{follow_on, leads}
 use Rattle.kube_objects.specs.Entry.{Entry, Identity, Call, Sends, Delivers, actor_of, entry}
 use Rattle.kube_objects.specs.Identities.{is_by}
-use Rattle.kube_objects.specs.Kubelet.{next_request, send_next}
 use Rattle.kube_objects.specs.Newest.{when}
 use Rattle.kube_objects.specs.Process.{open_as, alive, call_in, is_late, counted}
 use Rattle.kube_objects.specs.Turns.{with_reply}
 use Rattle.kube_objects.specs.Wire.{Back, reply_arrival}
+use Rattle.kube_objects.specs.Own.{IsOwn}
 use Rattle.history.specs.History.{history}
 use Rattle.history.specs.Steps.{deliver_as, delivered, react_as}
 use Rattle.history_laws.specs.Order.{IsWithin, IsOrdered}
 use Rattle.history_laws.specs.Tails.{In, IsTail}
 use Rattle.history_laws.proofs.Order.{entries_are_earlier, entries_are_ordered}
 use Rattle.history_laws.proofs.Plainly.{none_is, false_is, same_self}
-use Rattle.history_laws.proofs.Tailed.{tail_all, tail_trans, in_tail, later_tail, two_adds, same_head, same_rest}
+use Rattle.history_laws.proofs.Tailed.{tail_all, tail_trans, in_tail, later_tail, two_adds, same_head, same_rest, react_as_adds}
 use Rattle.call_laws.specs.Answering.{with_events, with_answers}
 use Rattle.call_laws.specs.Waiting.{IsClosed}
 use Rattle.call_laws.proofs.Above.{in_head, next_above}
@@ -54,21 +53,13 @@ record Begins (doc : Doc) (k : ℕ) (h all : List Entry) : Type 0 where
   step : x.step ≡ 3
   position : IsTail (x ∷ h) all
 
-next_adds : (k : ℕ) (q : Identity) (o : Option Request) (h : List Entry) → IsTail h (send_next k q o h)
-next_adds k q None h = tail_all h
-next_adds k q (Some request) h = inr (tail_all h)
-
 begins : (doc : Doc) (k : ℕ) (b : Back) (h : List Entry) → Begins doc k h (delivered doc k b h)
 begins doc k b h = by_counted (counted doc b.who k b.call.number h)
   where
     by_role : (w : Call) (t : Bool) → Begins doc k h (react_as doc k b.who w b.reply t (with_reply k b.who w b.reply h))
-    by_role w true = record {
-      x = entry k 3 b.who (Delivers w b.reply true);
-      beat = refl;
-      step = refl;
-      position = follow_adds k b.who (leads b.who (with_reply k b.who w b.reply h)) (follow_on doc b.who k w.kind w.request b.reply (with_reply k b.who w b.reply h)) (with_reply k b.who w b.reply h);
-    }
-    by_role w false = record { x = entry k 3 b.who (Delivers w b.reply true); beat = refl; step = refl; position = next_adds k b.who (next_request doc b.who k w.request b.reply) (with_reply k b.who w b.reply h) }
+    by_role w t =
+        let replied = with_reply k b.who w b.reply h in
+        record { x = entry k 3 b.who (Delivers w b.reply true); beat = refl; step = refl; position = react_as_adds doc k b.who w b.reply t replied replied (tail_all replied) }
 
     by_counted : (o : Option Call) → Begins doc k h (deliver_as doc k b.who b.call b.reply o h)
     by_counted None = record { x = entry k 3 b.who (Delivers b.call b.reply false); beat = refl; step = refl; position = tail_all (entry k 3 b.who (Delivers b.call b.reply false) ∷ h) }
@@ -85,11 +76,11 @@ pub record IsReplied (doc : Doc) (q : Identity) (call : Call) (sent : List Entry
   pub position : IsTail (entry at 3 q (Delivers call reply true) ∷ before) (history doc (suc at))
   pub since : IsTail sent before
 
-module _ (doc : Doc) (near far a e : ℕ) (q : Identity) (role : is_controller doc q.process ≡ true) (steady : IsSteady doc near far a e q.process) (time : IsInTime doc far a e q.process) (one : 1 ≤ near)
+module _ (doc : Doc) (rules : IsOwn doc) (near far a e : ℕ) (q : Identity) (role : is_controller doc q.process ≡ true) (steady : IsSteady doc near far a e q.process) (time : IsInTime doc far a e q.process) (one : 1 ≤ near)
     (m : ℕ) (x : Entry) (T : List Entry) (call : Call) (arrives : Option ℕ) (at : IsTail (x ∷ T) (history doc m)) (actor : x.actor ≡ actor_of q) (fact : x.fact ≡ Sends call arrives) (step : 3 ≤ x.step)
     (sent : call.sent ≡ x.beat) (opens : open_as call.kind call ≡ Some call) (from : a ≤ x.beat) (room : x.beat + 2 * far ≤ e) where
   pub round : IsRound doc near far q call arrives x.beat
-  round = rounds_are_short doc near far a e q steady one m x T call arrives at actor fact (omega (arith, step)) from room
+  round = rounds_are_short doc rules near far a e q steady one m x T call arrives at actor fact (omega (arith, step)) from room
 
   abbrev pub y : ℕ
   y = round.comes
@@ -131,7 +122,7 @@ module _ (doc : Doc) (near far a e : ℕ) (q : Identity) (role : is_controller d
   before_high = tail_trans before all (history doc (suc y)) before_low all_high
 
   on_time : (k : ℕ) → x.beat ≤ k → k ≤ y → is_late doc q k call ≡ false
-  on_time k le to = timely doc near far a e e q role steady time (omega arith) one call x.beat k sent from le (omega (arith, to, y_most)) (omega (arith, to, y_most, room))
+  on_time k le to = timely doc rules near far a e e q role steady time (omega arith) one call x.beat k sent from le (omega (arith, to, y_most)) (omega (arith, to, y_most, room))
 
   module _ (up : alive q.process before ≡ Some q.incarnation) where
     -- it doesn't wait any longer
@@ -142,7 +133,7 @@ module _ (doc : Doc) (near far a e : ℕ) (q : Identity) (role : is_controller d
         b = begun_by q all call waits
 
         same : b.f ∷ b.before ≡ x ∷ T
-        same = sends_differ doc (suc y) q b.f x b.before T call call b.arrives arrives (tail_trans (b.f ∷ b.before) all (history doc (suc y)) b.position all_high) (tail_trans (x ∷ T) before (history doc (suc y)) sent_low before_high) b.actor actor b.fact fact refl
+        same = sends_differ doc rules (suc y) q b.f x b.before T call call b.arrives arrives (tail_trans (b.f ∷ b.before) all (history doc (suc y)) b.position all_high) (tail_trans (x ∷ T) before (history doc (suc y)) sent_low before_high) b.actor actor b.fact fact refl
 
         below : IsTail (b.f ∷ b.before) before
         below = subst (λ g. IsTail g before) (sym same) sent_low
@@ -155,12 +146,12 @@ module _ (doc : Doc) (near far a e : ℕ) (q : Identity) (role : is_controller d
 
         reply_low : IsTail (reply ∷ before) all
         reply_low =
-            subst (IsTail (reply ∷ before)) (sym (delivers doc q y call back before role refl (eq-eqb call.number call.number refl) (on_time y (omega (arith, y_least)) (omega arith)) w))
-            (follow_adds y q (leads q (with_reply y q call back.reply before)) (follow_on doc q y call.kind call.request back.reply (with_reply y q call back.reply before)) (with_reply y q call back.reply before))
+            subst (IsTail (reply ∷ before)) (sym (delivers doc rules q y call back before role refl (eq-eqb call.number call.number refl) (on_time y (omega (arith, y_least)) (omega arith)) w))
+            (follow_adds doc y q (leads q (with_reply y q call back.reply before)) (follow_on doc q y call.kind call.request back.reply (with_reply y q call back.reply before)) (with_reply y q call back.reply before))
 
     replied : IsClosed q call (x ∷ T) all → IsReplied doc q call (x ∷ T) (x.beat + 2 * far)
     replied c =
-        closed_by q call c.e c.before doc (IsReplied doc q call (x ∷ T) (x.beat + 2 * far)) (are_made doc (suc y) c.e c.before position) c.closes delivers_it
+        closed_by q call c.e c.before doc (IsReplied doc q call (x ∷ T) (x.beat + 2 * far)) (are_made doc rules (suc y) c.e c.before position) c.closes delivers_it
         (λ made mine late. absurd (false_is (sym (on_time c.e.beat from_x upto) ∙ late)))
         (λ fact own. absurd (omega (
           arith,
@@ -196,4 +187,4 @@ module _ (doc : Doc) (near far a e : ℕ) (q : Identity) (role : is_controller d
     pub is_replied : IsReplied doc q call (x ∷ T) (x.beat + 2 * far)
     is_replied =
         ⊎_elim (λ waits. absurd (unanswered waits)) replied
-        (calls_wait doc (suc y) all all_high q call arrives x T role (tail_trans (x ∷ T) before all sent_low before_low) actor fact opens)
+        (calls_wait doc rules (suc y) all all_high q call arrives x T role (tail_trans (x ∷ T) before all sent_low before_low) actor fact opens)

@@ -5,6 +5,7 @@ use Rattle.kube_objects.specs.declared.call.Reply.TheVariants.{Done}
 use Rattle.kube_objects.specs.Document.{Doc, is_controller}
 use Rattle.kube_objects.specs.Elector.{succeeds}
 use Rattle.kube_objects.specs.Entry.{Entry, Identity, Call, Delivers, entry}
+use Rattle.kube_objects.specs.Own.{IsOwn}
 use Rattle.history.specs.History.{history}
 use Rattle.history_laws.specs.Tails.{IsTail}
 use Rattle.takeover_laws.specs.Calm.{IsSteady}
@@ -26,8 +27,8 @@ pub record IsGiven (doc : Doc) (near far a : ℕ) (q : Identity) (y : ℕ) : Typ
   pub most : y ≤ o.e.beat + far
 
 -- so is one of a call that was sent then
-pub given_of : (doc : Doc) (near far a e : ℕ) (q : Identity) → is_controller doc q.process ≡ true → IsSteady doc near far a e q.process → 1 ≤ near → (y : ℕ) → y ≤ e → HasSuccess doc q a y → IsGiven doc near far a q y
-given_of doc near far a e q role steady one y to s = record {
+pub given_of : (doc : Doc) → IsOwn doc → (near far a e : ℕ) (q : Identity) → is_controller doc q.process ≡ true → IsSteady doc near far a e q.process → 1 ≤ near → (y : ℕ) → y ≤ e → HasSuccess doc q a y → IsGiven doc near far a q y
+given_of doc rules near far a e q role steady one y to s = record {
   call = s.call;
   version = s.version;
   before = s.before;
@@ -41,10 +42,10 @@ given_of doc near far a e q role steady one y to s = record {
 }
   where
     o : Origin doc q s.call (Done s.version) s.before y
-    o = origin doc (suc y) q (entry y 3 q (Delivers s.call (Done s.version) true)) s.before s.call (Done s.version) s.position refl refl
+    o = origin doc rules (suc y) q (entry y 3 q (Delivers s.call (Done s.version) true)) s.before s.call (Done s.version) s.position refl refl
 
     sender : IsFree q o.begun.f o.begun.before s.call
-    sender = free doc near far a e q role steady s.call (Done s.version) s.before y s.position o to
+    sender = free doc rules near far a e q role steady s.call (Done s.version) s.before y s.position o to
 
     ways : IsWay near far o.begun.f.beat o.e.beat y
-    ways = way doc near far a e q role steady s.call (Done s.version) s.before y s.position o to (omega (arith, s.since, sender.sent))
+    ways = way doc rules near far a e q role steady s.call (Done s.version) s.before y s.position o to (omega (arith, s.since, sender.sent))

@@ -6,13 +6,14 @@ use Rattle.kube_objects.specs.declared.deed.Actor.{Actor}
 use Rattle.kube_objects.specs.Clocks.{local}
 use Rattle.kube_objects.specs.Document.{Doc, is_controller}
 use Rattle.kube_objects.specs.Elector.{Shown, shown, shows, leads, timer_says, timer, deadline, attempt}
-use Rattle.kube_objects.specs.Entry.{Entry, Identity, Call, Fact, First as FirstPut, Event as Happens, Starts, Stops, Sends, Answers, Delivers, Expires, Leads, Ends, Crashes, Stalls, Ticks, actor_of, entry}
+use Rattle.kube_objects.specs.Entry.{Entry, Identity, Call, Fact, First as FirstPut, Event as Happens, Starts, Stops, Sends, Answers, Delivers, Expires, Leads, Ends, Crashes, Stalls, Ticks, actor_of, StepsDown, ReleaseBegins, ReleaseEnds, ReleaseStops}
 use Rattle.kube_objects.specs.Identities.{is_by}
 use Rattle.kube_objects.specs.Newest.{newest, when, join, or_zero}
 use Rattle.kube_objects.specs.Pauses.{is_paused}
 use Rattle.kube_objects.specs.Process.{alive, starts, call_says, last_call, call_in}
-use Rattle.kube_objects.specs.Turns.{end_term, expired_in, just_expired}
+use Rattle.kube_objects.specs.Turns.{end_term, expired_in, just_expired, end_as}
 use Rattle.kube_objects.specs.Wire.{send}
+use Rattle.kube_objects.specs.Own.{IsOwn}
 use Rattle.history.specs.History.{history}
 use Rattle.history.specs.Steps.{if_up, finish, turn}
 use Rattle.history_laws.specs.Tails.{IsTail}
@@ -28,7 +29,7 @@ use Rattle.stay_laws.proofs.Reacting.{leads_are_new}
 -- ---- an own turn with an attempt that is due
 
 pub leader_tries : (doc : Doc) (k : ℕ) (q : Identity) (g : List Entry) (end : ℕ) → is_controller doc q.process ≡ true → is_paused doc q.process k ≡ false → alive q.process g ≡ Some q.incarnation → call_in q g ≡ None → deadline doc q g ≡ Some end
-    → local doc q.process k < end → just_expired q k g ≡ None → timer doc q g ≤ local doc q.process k → IsTail (send k 4 q (attempt doc q k g).0 (attempt doc q k g).1 g) (turn doc k q.process g)
+    → local doc q.process k < end → just_expired q k g ≡ None → timer doc q g ≤ local doc q.process k → IsTail (send doc k 4 q (attempt doc q k g).0 (attempt doc q k g).1 g) (turn doc k q.process g)
 leader_tries doc k q g end role awake up call set soon expiry due =
     turn_sends doc k q g role awake up call finishes expiry past
   where
@@ -49,7 +50,7 @@ leader_tries doc k q g end role awake up call set soon expiry due =
     finishes : finish doc k q.process g ≡ g
     finishes =
         ap (λ o. if_up q.process (λ q T. end_term doc k q (deadline doc q T) T) o g) up ∙ ap (λ o. end_term doc k q o g) set
-        ∙ ap (λ b. if b then g else entry k 4 q Ends ∷ g) before
+        ∙ ap (λ b. if b then g else end_as doc.settings.rules.release doc k q g) before
 
 -- ---- after a success
 
@@ -105,7 +106,7 @@ module _ (doc : Doc) (q : Identity) (low : List Entry) (at : ℕ) (view : Option
           (λ other. true_is (sym (ap (is_by q) mine ∙ same_self q) ∙ ap (λ (e : Entry). is_by q e.actor) same ∙ other)) no_move
       by_place z Z (inr at) below mine moves = s.unmoved z Z at below mine moves
 
-  module _ (m : ℕ) (role : is_controller doc q.process ≡ true) (led : (h : List Entry) → IsTail low h → IsTail h (history doc m) → leads q h ≡ true)
+  module _ (rules : IsOwn doc) (m : ℕ) (role : is_controller doc q.process ≡ true) (led : (h : List Entry) → IsTail low h → IsTail h (history doc m) → leads q h ≡ true)
       (up : (h : List Entry) → IsTail low h → IsTail h (history doc m) → alive q.process h ≡ Some q.incarnation) where
     by_actor : (who : Actor) (p : Identity) → who ≡ actor_of p → is_by q who ≡ true → p ≡ q
     by_actor who p by mine = same_is p q (sym (ap (is_by q) by) ∙ mine)
@@ -137,21 +138,25 @@ module _ (doc : Doc) (q : Identity) (low : List Entry) (at : ℕ) (view : Option
         own who Starts actor fact mine made =
             let p : Identity = record { process = made.0; incarnation = starts made.0 h + 1 } in
             let same : p ≡ q = by_actor who p made.1 mine in
-            let down : alive p.process h ≡ None = starts_are_down doc m x h position fact p (actor ∙ made.1) in
+            let down : alive p.process h ≡ None = starts_are_down doc rules m x h position fact p (actor ∙ made.1) in
             absurd (none_is q.incarnation (sym down ∙ ap (λ (p : Identity). alive p.process h) same ∙ up h below below_m))
-        own who (Leads version) actor fact mine made = absurd (true_is (sym (led h below below_m) ∙ leads_are_new doc m q x h version position (by_is q x.actor (ap (is_by q) actor ∙ mine)) fact))
+        own who (Leads version) actor fact mine made = absurd (true_is (sym (led h below below_m) ∙ leads_are_new doc rules m q x h version position (by_is q x.actor (ap (is_by q) actor ∙ mine)) fact))
         own who (Delivers c reply false) actor fact mine made = inl (plain (Delivers c reply false) fact refl refl refl (λ k. refl) refl)
         own who (FirstPut key object) actor fact mine made = inl (plain (FirstPut key object) fact refl refl refl (λ k. refl) refl)
         own who (Happens w version) actor fact mine made = inl (plain (Happens w version) fact refl refl refl (λ k. refl) refl)
         own who Crashes actor fact mine made = inl (plain Crashes fact refl refl refl (λ k. refl) refl)
         own who Stops actor fact mine made = inl (plain Stops fact refl refl refl (λ k. refl) refl)
         own who (Stalls beats) actor fact mine made = inl (plain (Stalls beats) fact refl refl refl (λ k. refl) refl)
+        own who StepsDown actor fact mine made = absurd made
+        own who (ReleaseBegins at_deadline) actor fact mine made = absurd made
+        own who ReleaseEnds actor fact mine made = absurd made
+        own who ReleaseStops actor fact mine made = absurd made
         own who Ends actor fact mine made = inl (plain Ends fact refl refl refl (λ k. refl) refl)
         own who (Answers c reply comes wrote) actor fact mine made = inl (plain (Answers c reply comes wrote) fact refl refl refl (λ k. refl) refl)
         own who (Ticks t) actor fact mine made = inl (plain (Ticks t) fact refl refl refl (λ k. refl) refl)
 
         by_own : (b : Bool) → is_by q x.actor ≡ b → Idle (x ∷ h) ⊎ Tried (x ∷ h)
-        by_own true mine = own x.actor x.fact refl refl mine (are_made doc m x h position)
+        by_own true mine = own x.actor x.fact refl refl mine (are_made doc rules m x h position)
         by_own false other = inl (foreign other)
 
     -- at each later position it is idle, or has sent a request

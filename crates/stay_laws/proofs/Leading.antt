@@ -4,11 +4,12 @@ use Rattle.std.proofs.lemmas.Bool.{ltb-false, cases_lt}
 use Rattle.kube_objects.specs.Clocks.{local}
 use Rattle.kube_objects.specs.Document.{Doc, is_controller, retry_period, renew_deadline}
 use Rattle.kube_objects.specs.Elector.{succeeds, leads, deadline_says, deadline}
-use Rattle.kube_objects.specs.Entry.{Entry, Identity, Fact, First, Event as Happens, Starts, Stops, Sends, Answers, Delivers, Expires, Leads, Ends, Crashes, Stalls, Ticks}
+use Rattle.kube_objects.specs.Entry.{Entry, Identity, Fact, First, Event as Happens, Starts, Stops, Sends, Answers, Delivers, Expires, Leads, Ends, Crashes, Stalls, Ticks, StepsDown, ReleaseBegins, ReleaseEnds, ReleaseStops}
 use Rattle.kube_objects.specs.Identities.{is_by, of_process}
 use Rattle.kube_objects.specs.Newest.{has}
 use Rattle.kube_objects.specs.Pauses.{can_at}
 use Rattle.kube_objects.specs.Process.{alive}
+use Rattle.kube_objects.specs.Own.{IsOwn}
 use Rattle.kube_objects.proofs.Clocks.{local_up}
 use Rattle.history.specs.History.{history, at_turn}
 use Rattle.history.specs.Safe.{Acts}
@@ -53,7 +54,7 @@ IsTimely doc p at K = (k : ℕ) → k < K → local doc p k < at + renew_deadlin
 pub all_before : (doc : Doc) (k : ℕ) (h : List Entry) → IsTail h (history doc (suc k)) → AllBefore (suc k) h
 all_before doc k h at z stands four = ⊎_elim (λ lt. lt) (λ first. omega (arith, first.1, four)) (entries_are_earlier doc (suc k) z (in_tail z h (history doc (suc k)) at stands))
 
-module _ (doc : Doc) (near far a e m : ℕ) (q : Identity) (role : is_controller doc q.process ≡ true) (steady : IsSteady doc near far a e q.process) (at y : ℕ) (low : List Entry) (leader : IsLeader doc q at y low)
+module _ (doc : Doc) (rules : IsOwn doc) (near far a e m : ℕ) (q : Identity) (role : is_controller doc q.process ≡ true) (steady : IsSteady doc near far a e q.process) (at y : ℕ) (low : List Entry) (leader : IsLeader doc q at y low)
     (from : a < y) (to : y < m) (within : m ≤ suc e) where
   abbrev rd : ℕ
   rd = renew_deadline doc q.process
@@ -64,7 +65,7 @@ module _ (doc : Doc) (near far a e m : ℕ) (q : Identity) (role : is_controller
 
   set_least : (x : Entry) (T : List Entry) → IsTail low T → IsTail (x ∷ T) (history doc m) → leads q T ≡ true → (d : Fact) → x.fact ≡ d → (new : ℕ) → deadline_says doc q x.beat x.actor (leads q T) d ≡ Some new → at + rd ≤ new
   set_least x T below stands led (Leads version) fact new is =
-      absurd (true_is (sym led ∙ leads_are_new doc m q x T version stands (by_is q x.actor (when_test (is_by q x.actor) (local doc q.process x.beat + rd) new is)) fact))
+      absurd (true_is (sym led ∙ leads_are_new doc rules m q x T version stands (by_is q x.actor (when_test (is_by q x.actor) (local doc q.process x.beat + rd) new is)) fact))
   set_least x T below stands led (Delivers call reply counted) fact new is =
       let next = local doc q.process x.beat + retry_period doc q.process in
       let same = when_value ((counted && is_by q x.actor) && (leads q T && succeeds call.request reply)) (can_at doc q.process next + rd) new is in
@@ -79,6 +80,10 @@ module _ (doc : Doc) (near far a e m : ℕ) (q : Identity) (role : is_controller
   set_least x T below stands led Crashes fact new is = absurd (none_is new is)
   set_least x T below stands led Stops fact new is = absurd (none_is new is)
   set_least x T below stands led (Stalls beats) fact new is = absurd (none_is new is)
+  set_least x T below stands led StepsDown fact new is = absurd (none_is new is)
+  set_least x T below stands led (ReleaseBegins at_deadline) fact new is = absurd (none_is new is)
+  set_least x T below stands led ReleaseEnds fact new is = absurd (none_is new is)
+  set_least x T below stands led ReleaseStops fact new is = absurd (none_is new is)
   set_least x T below stands led Ends fact new is = absurd (none_is new is)
 
   more_term : (x : Entry) (h : List Entry) → IsTail low h → IsTail (x ∷ h) (history doc m) → IsInTerm doc q at h → IsInTerm doc q at (x ∷ h)
@@ -101,7 +106,7 @@ module _ (doc : Doc) (near far a e m : ℕ) (q : Identity) (role : is_controller
   module _ (K : ℕ) (timely : IsTimely doc q.process at K) where
     still_up : (x : Entry) (T : List Entry) → IsTail low T → IsTail (x ∷ T) (history doc m) → (x.step ≡ 4 → x.beat < K) → alive q.process T ≡ Some q.incarnation → alive q.process (x ∷ T) ≡ Some q.incarnation
     still_up x T below stands early up =
-        lives_on doc m q x T stands
+        lives_on doc rules m q x T stands
         (λ fact first own. let before = steady.crashes x (placed x T stands) fact own in omega (arith, before, since, from))
         (λ fact own. let before = steady.stops x (placed x T stands) fact own in omega (arith, before, since, from)) no_end up
       where
@@ -146,7 +151,7 @@ module _ (doc : Doc) (near far a e m : ℕ) (q : Identity) (role : is_controller
 
   -- so it acts
   pub acts_at : (k : ℕ) → y ≤ k → k < m → local doc q.process k < at + rd → Acts doc q k
-  acts_at k le lt time = (role, acts_before doc q k t.end (at_turn doc q.process k) (steady.passes k (omega (arith, from, le)) (omega (arith, lt, within))).awake (turn_up k le lt time) t.set (by_test (nat_lt (local doc q.process k) t.end) refl))
+  acts_at k le lt time = (role, acts_before doc rules q k t.end (at_turn doc q.process k) (steady.passes k (omega (arith, from, le)) (omega (arith, lt, within))).awake (turn_up k le lt time) t.set (by_test (nat_lt (local doc q.process k) t.end) refl))
     where
       t : IsInTerm doc q at (at_turn doc q.process k)
       t = in_term (at_turn doc q.process k) (turn_below k le) (turn_high k lt)

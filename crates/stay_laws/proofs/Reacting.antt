@@ -11,12 +11,14 @@ use Rattle.kube_objects.specs.Kubelet.{next_request, send_next}
 use Rattle.kube_objects.specs.Process.{counted}
 use Rattle.kube_objects.specs.Turns.{react}
 use Rattle.kube_objects.specs.Wire.{Back}
+use Rattle.kube_objects.specs.Own.{IsOwn}
+use Rattle.history.proofs.Own.{react-own}
 use Rattle.history.specs.History.{history}
 use Rattle.history.specs.Steps.{deliver_all, deliver_as, delivered, react_as, step_three}
 use Rattle.history_laws.specs.Tails.{IsTail}
 use Rattle.history_laws.proofs.Plainly.{true_is}
 use Rattle.history_laws.proofs.Tailed.{tail_all, tail_trans, tails_meet, same_head, same_rest}
-use Rattle.history_laws.proofs.Walk.{Anyone, all_turns, walk_any_turns}
+use Rattle.history_laws.proofs.Walk.{Anyone, all_turns, all_release_turns, walk_any_turns}
 use Rattle.call_laws.specs.Answering.{with_answers}
 use Rattle.call_laws.proofs.Above.{Above, above_all, above_meet, in_head, tail_length}
 use Rattle.call_laws.proofs.Answering.{deliveries_position}
@@ -33,7 +35,8 @@ three doc k = step_three doc k (with_answers doc k)
 
 four_above : (doc : Doc) (k : ℕ) → Above (λ e. e.step ≡ 4) (three doc k) (history doc (suc k))
 four_above doc k =
-    walk_any_turns doc (λ j h. Above (λ e. e.step ≡ 4) (three doc k) h) (all_turns doc Anyone (λ j h. Above (λ e. e.step ≡ 4) (three doc k) h) (λ j x h beat step next s. inr (step, s))) k (processes doc) (three doc k)
+    walk_any_turns doc (λ j h. Above (λ e. e.step ≡ 4) (three doc k) h) (all_turns doc Anyone (λ j h. Above (λ e. e.step ≡ 4) (three doc k) h) (λ j x h beat step next s. inr (step, s)))
+    (all_release_turns doc (λ j h. Above (λ e. e.step ≡ 4) (three doc k) h) (λ j x h beat step next s. inr (step, s))) k (processes doc) (three doc k)
     (above_all (λ e. e.step ≡ 4) (three doc k))
 
 -- the reply whose delivery an entry is from
@@ -98,25 +101,25 @@ is_counted (Delivers call reply counted) = counted
 is_counted _ = false
 
 -- what comes above the reply is no delivery
-reply_stands : (k : ℕ) (q : Identity) (led : Bool) (f : Follow) (R : List Entry) (x : Entry) (T : List Entry) → is_delivery x.fact ≡ true → IsTail (x ∷ T) (react k q led f R) → IsTail (x ∷ T) R
-reply_stands k q led Fails R x T is at = at
-reply_stands k q led (Asks request) R x T is (inl same) = absurd (true_is (sym is ∙ ap (λ (e : Entry). is_delivery e.fact) (same_head x _ T R same)))
-reply_stands k q led (Asks request) R x T is (inr at) = at
-reply_stands k q true (Succeeds version) R x T is at = at
-reply_stands k q false (Succeeds version) R x T is (inl same) = absurd (true_is (sym is ∙ ap (λ (e : Entry). is_delivery e.fact) (same_head x _ T R same)))
-reply_stands k q false (Succeeds version) R x T is (inr at) = at
+reply_stands : (doc : Doc) (k : ℕ) (q : Identity) (led : Bool) (f : Follow) (R : List Entry) (x : Entry) (T : List Entry) → is_delivery x.fact ≡ true → IsTail (x ∷ T) (react doc k q led f R) → IsTail (x ∷ T) R
+reply_stands doc k q led Fails R x T is at = at
+reply_stands doc k q led (Asks request) R x T is (inl same) = absurd (true_is (sym is ∙ ap (λ (e : Entry). is_delivery e.fact) (same_head x _ T R same)))
+reply_stands doc k q led (Asks request) R x T is (inr at) = at
+reply_stands doc k q true (Succeeds version) R x T is at = at
+reply_stands doc k q false (Succeeds version) R x T is (inl same) = absurd (true_is (sym is ∙ ap (λ (e : Entry). is_delivery e.fact) (same_head x _ T R same)))
+reply_stands doc k q false (Succeeds version) R x T is (inr at) = at
 
-next_stands : (k : ℕ) (q : Identity) (o : Option Request) (R : List Entry) (x : Entry) (T : List Entry) → is_delivery x.fact ≡ true → IsTail (x ∷ T) (send_next k q o R) → IsTail (x ∷ T) R
-next_stands k q None R x T is at = at
-next_stands k q (Some request) R x T is (inl same) = absurd (true_is (sym is ∙ ap (λ (e : Entry). is_delivery e.fact) (same_head x _ T R same)))
-next_stands k q (Some request) R x T is (inr at) = at
+next_stands : (doc : Doc) (k : ℕ) (q : Identity) (o : Option Request) (R : List Entry) (x : Entry) (T : List Entry) → is_delivery x.fact ≡ true → IsTail (x ∷ T) (send_next doc k q o R) → IsTail (x ∷ T) R
+next_stands doc k q None R x T is at = at
+next_stands doc k q (Some request) R x T is (inl same) = absurd (true_is (sym is ∙ ap (λ (e : Entry). is_delivery e.fact) (same_head x _ T R same)))
+next_stands doc k q (Some request) R x T is (inr at) = at
 
 abbrev pub reacted : Doc → ℕ → Identity → Call → Reply → List Entry → List Entry
-reacted doc k q w reply h = react k q (leads q h) (follow_on doc q k w.kind w.request reply h) h
+reacted doc k q w reply h = react doc k q (leads q h) (follow_on doc q k w.kind w.request reply h) h
 
-pub replies_follow : (doc : Doc) (m : ℕ) (q : Identity) (x : Entry) (T : List Entry) (w : Call) (reply : Reply) → IsTail (x ∷ T) (history doc m) → x.step ≡ 3 → x.actor ≡ actor_of q → is_controller doc q.process ≡ true → x.fact ≡ Delivers w reply true
+pub replies_follow : (doc : Doc) → IsOwn doc → (m : ℕ) (q : Identity) (x : Entry) (T : List Entry) (w : Call) (reply : Reply) → IsTail (x ∷ T) (history doc m) → x.step ≡ 3 → x.actor ≡ actor_of q → is_controller doc q.process ≡ true → x.fact ≡ Delivers w reply true
     → IsTail (reacted doc x.beat q w reply (x ∷ T)) (history doc (suc x.beat))
-replies_follow doc m q x T w reply at step actor role fact = cases (counted doc s.b.who k s.b.call.number s.h) s.stands s.position
+replies_follow doc rules m q x T w reply at step actor role fact = cases (counted doc s.b.who k s.b.call.number s.h) s.stands s.position
   where
     k : ℕ
     k = x.beat
@@ -162,9 +165,14 @@ replies_follow doc m q x T w reply at step actor role fact = cases (counted doc 
             head = same_head x e T s.h same
 
         by_role : (b : Bool) → is_controller doc p.process ≡ b → IsTail (x ∷ T) (react_as doc k p v s.b.reply b R) → IsTail (react_as doc k p v s.b.reply b R) all → IsTail (reacted doc k q w reply (x ∷ T)) all
-        by_role true is stands position = whole (is_reply (reply_stands k p (leads p R) (follow_on doc p k v.kind v.request s.b.reply R) R x T delivery stands)) position
+        by_role true is stands position =
+            whole (is_reply (reply_stands doc k p (leads p R) (follow_on doc p k v.kind v.request s.b.reply R) R x T delivery (subst (IsTail (x ∷ T)) same stands)))
+            (subst (λ g. IsTail g all) same position)
+          where
+            same : react_as doc k p v s.b.reply true R ≡ reacted doc k p v s.b.reply R
+            same = react-own doc rules k p v s.b.reply R
         by_role false is stands position =
-            let same = is_reply (next_stands k p (next_request doc p k v.request s.b.reply) R x T delivery stands) in
+            let same = is_reply (next_stands doc k p (next_request doc p k v.request s.b.reply) R x T delivery stands) in
             absurd (true_is (sym role ∙ ap (λ (p : Identity). is_controller doc p.process) (sym (mine same)) ∙ is))
 
 -- ---- who comes to lead
@@ -174,14 +182,14 @@ is_lead (Leads version) = true
 is_lead _ = false
 
 -- who comes to lead didn't lead before
-pub leads_are_new : (doc : Doc) (m : ℕ) (q : Identity) (x : Entry) (T : List Entry) (version : Version) → IsTail (x ∷ T) (history doc m) → x.actor ≡ actor_of q → x.fact ≡ Leads version → leads q T ≡ false
-leads_are_new doc m q x T version at actor fact = cases (counted doc p k s.b.call.number s.h) s.stands
+pub leads_are_new : (doc : Doc) → IsOwn doc → (m : ℕ) (q : Identity) (x : Entry) (T : List Entry) (version : Version) → IsTail (x ∷ T) (history doc m) → x.actor ≡ actor_of q → x.fact ≡ Leads version → leads q T ≡ false
+leads_are_new doc rules m q x T version at actor fact = cases (counted doc p k s.b.call.number s.h) s.stands
   where
     k : ℕ
     k = x.beat
 
     s : From doc k x T (history doc (suc k))
-    s = from_three doc m x T at ((leads_by doc m x T version at fact).step_is)
+    s = from_three doc m x T at ((leads_by doc rules m x T version at fact).step_is)
 
     p : Identity
     p = s.b.who
@@ -197,7 +205,7 @@ leads_are_new doc m q x T version at actor fact = cases (counted doc p k s.b.cal
     reply v (inr old) = absurd (s.new old)
 
     by_led : (v : Call) (new : Version) (led : Bool) → leads p (entry k 3 p (Delivers v s.b.reply true) ∷ s.h) ≡ led
-        → IsTail (x ∷ T) (react k p led (Succeeds new) (entry k 3 p (Delivers v s.b.reply true) ∷ s.h)) → leads q T ≡ false
+        → IsTail (x ∷ T) (react doc k p led (Succeeds new) (entry k 3 p (Delivers v s.b.reply true) ∷ s.h)) → leads q T ≡ false
     by_led v new true led stands = reply v stands
     by_led v new false led (inr below) = reply v below
     by_led v new false led (inl same) = ap (λ g. leads q g) rest ∙ ap (λ p. leads p (entry k 3 s.b.who (Delivers v s.b.reply true) ∷ s.h)) (sym mine) ∙ led
@@ -208,13 +216,13 @@ leads_are_new doc m q x T version at actor fact = cases (counted doc p k s.b.cal
         mine : p ≡ q
         mine = actor_is p q (sym (ap (λ (e : Entry). e.actor) (same_head x _ T (entry k 3 p (Delivers v s.b.reply true) ∷ s.h) same)) ∙ actor)
 
-    by_follow : (v : Call) (f : Follow) → IsTail (x ∷ T) (react k p (leads p (entry k 3 p (Delivers v s.b.reply true) ∷ s.h)) f (entry k 3 p (Delivers v s.b.reply true) ∷ s.h)) → leads q T ≡ false
+    by_follow : (v : Call) (f : Follow) → IsTail (x ∷ T) (react doc k p (leads p (entry k 3 p (Delivers v s.b.reply true) ∷ s.h)) f (entry k 3 p (Delivers v s.b.reply true) ∷ s.h)) → leads q T ≡ false
     by_follow v Fails stands = reply v stands
     by_follow v (Asks request) (inl same) = other _ (entry k 3 p (Delivers v s.b.reply true) ∷ s.h) refl same
     by_follow v (Asks request) (inr below) = reply v below
     by_follow v (Succeeds new) stands = by_led v new (leads p (entry k 3 p (Delivers v s.b.reply true) ∷ s.h)) refl stands
 
-    by_next : (v : Call) (o : Option Request) → IsTail (x ∷ T) (send_next k p o (entry k 3 p (Delivers v s.b.reply true) ∷ s.h)) → leads q T ≡ false
+    by_next : (v : Call) (o : Option Request) → IsTail (x ∷ T) (send_next doc k p o (entry k 3 p (Delivers v s.b.reply true) ∷ s.h)) → leads q T ≡ false
     by_next v None stands = reply v stands
     by_next v (Some request) (inl same) = other _ (entry k 3 p (Delivers v s.b.reply true) ∷ s.h) refl same
     by_next v (Some request) (inr below) = reply v below
@@ -228,5 +236,5 @@ leads_are_new doc m q x T version at actor fact = cases (counted doc p k s.b.cal
         R = entry k 3 p (Delivers v s.b.reply true) ∷ s.h
 
         by_role : (b : Bool) → IsTail (x ∷ T) (react_as doc k p v s.b.reply b R) → leads q T ≡ false
-        by_role true stands = by_follow v (follow_on doc p k v.kind v.request s.b.reply R) stands
+        by_role true stands = by_follow v (follow_on doc p k v.kind v.request s.b.reply R) (subst (IsTail (x ∷ T)) (react-own doc rules k p v s.b.reply R) stands)
         by_role false stands = by_next v (next_request doc p k v.request s.b.reply) stands

@@ -11,13 +11,15 @@ use Rattle.kube_objects.specs.declared.lease.Lease.{Lease}
 use Rattle.kube_objects.specs.Answers.{lease_in, versioned, answer_get, answer_over, as_kind, answer, written}
 use Rattle.kube_objects.specs.Clocks.{local}
 use Rattle.kube_objects.specs.Document.{Doc, end_beat, is_controller, renew_deadline, retry_period}
-use Rattle.kube_objects.specs.Elector.{Moment, Fails, Asks, shown, moment, observed_at, is_valid, updated, renewed, follow_get, follow, follow_on, succeeds, leads, attempt_from, attempt}
+use Rattle.kube_objects.specs.Elector.{Moment, Fails, Asks, shown, moment, observed_at, is_valid, updated, renewed, follow_get, follow, follow_on, succeeds, leads, attempt_from, attempt, respected}
 use Rattle.kube_objects.specs.Entry.{Entry, Identity, Call, CallKind, Plain, Fast, Fact, Sends, Answers, Delivers, actor_of, entry}
 use Rattle.kube_objects.specs.Identities.{is_own, is_other}
 use Rattle.kube_objects.specs.Process.{open_as}
 use Rattle.kube_objects.specs.Stored.{Held, election, stored, next_version}
 use Rattle.kube_objects.specs.Turns.{react}
 use Rattle.kube_objects.specs.Wire.{Back, back_of, next_call, request_arrival}
+use Rattle.kube_objects.specs.declared.rules.RespectRule.{RespectRule}
+use Rattle.kube_objects.specs.declared.rules.RespectRule.TheVariants as respects
 use Rattle.kube_objects.proofs.Clocks.{local_up}
 use Rattle.history.specs.History.{history}
 use Rattle.history.specs.Safe.{Acts}
@@ -80,7 +82,12 @@ get_found h x lease top is = ap (λ o. answer_get (as_kind lease_in o)) top ∙ 
 
 -- and one's own is renewed
 pub own_asks : (q : Identity) (m : Moment) (seen : ℕ) (version : Version) (lease : Lease) → is_other q lease.holder ≡ false → follow_get q m seen (Found version lease) ≡ Asks (Update election version (updated q m lease))
-own_asks q m seen version lease own = ap (λ b. cond (b && is_valid m.now seen lease) Fails (Asks (Update election version (updated q m lease)))) own
+own_asks q m seen version lease own =
+    ap (λ b. cond (b && is_valid m.now seen (respected m.respect m.seconds lease)) Fails (Asks (Update election version (updated q m lease)))) (holder_is m.respect ∙ own)
+  where
+    holder_is : (rule : RespectRule) → is_other q (respected rule m.seconds lease).holder ≡ is_other q lease.holder
+    holder_is respects.Record = refl
+    holder_is respects.Own = refl
 
 abbrev call_or : Call → Fact → Call
 call_or c (Sends d arrives) = d
@@ -126,7 +133,7 @@ module _ (doc : Doc) (near far a e : ℕ) (sound : IsSound doc) (calm : IsCalm d
   now_soon = omega (arith, start.early, my_time.deadline)
 
   pub acts_while : (k : ℕ) → y ≤ k → k ≤ e → local doc q.process k < at + rd → Acts doc q k
-  acts_while k le upto soon = acts_at doc near far a e (suc e) q role steady at y low start.leader from (omega (arith, to)) (omega arith) k le (omega (arith, upto)) soon
+  acts_while k le upto soon = acts_at doc sound.2 near far a e (suc e) q role steady at y low start.leader from (omega (arith, to)) (omega arith) k le (omega (arith, upto)) soon
 
   pub acts_now : Acts doc q y
   acts_now = acts_while y (omega arith) to now_soon
@@ -213,7 +220,7 @@ module _ (doc : Doc) (near far a e : ℕ) (sound : IsSound doc) (calm : IsCalm d
     round_of m x T call arrives stands after actor fact step opens le upto = record { at = r.at; reply = r.reply; before = r.before; position = r.position; o = from_answer; same = same; ways = ways_x; within = omega (arith, r.most, room_x) }
       where
         free : IsFree q x T call
-        free = is_free doc m q role x T call arrives stands actor fact opens
+        free = is_free doc sound.2 m q role x T call arrives stands actor fact opens
 
         from_x : a ≤ x.beat
         from_x = omega (arith, le, from)
@@ -222,34 +229,34 @@ module _ (doc : Doc) (near far a e : ℕ) (sound : IsSound doc) (calm : IsCalm d
         room_x = omega (arith, upto, room)
 
         comes : ℕ
-        comes = closing.y doc near far a e q role steady my_time one m x T call arrives stands actor fact step free.sent opens from_x room_x
+        comes = closing.y doc sound.2 near far a e q role steady my_time one m x T call arrives stands actor fact step free.sent opens from_x room_x
 
         below : List Entry
-        below = closing.before doc near far a e q role steady my_time one m x T call arrives stands actor fact step free.sent opens from_x room_x
+        below = closing.before doc sound.2 near far a e q role steady my_time one m x T call arrives stands actor fact step free.sent opens from_x room_x
 
         comes_least : x.beat < comes
-        comes_least = closing.y_least doc near far a e q role steady my_time one m x T call arrives stands actor fact step free.sent opens from_x room_x
+        comes_least = closing.y_least doc sound.2 near far a e q role steady my_time one m x T call arrives stands actor fact step free.sent opens from_x room_x
 
         comes_most : comes ≤ x.beat + 2 * far
-        comes_most = closing.y_most doc near far a e q role steady my_time one m x T call arrives stands actor fact step free.sent opens from_x room_x
+        comes_most = closing.y_most doc sound.2 near far a e q role steady my_time one m x T call arrives stands actor fact step free.sent opens from_x room_x
 
         r : IsReplied doc q call (x ∷ T) (x.beat + 2 * far)
         r =
-            is_replied doc near far a e q role steady my_time one m x T call arrives stands actor fact step free.sent opens from_x room_x
-            (up_at doc near far a e (suc comes) q role steady at y low start.leader from (omega (arith, le, comes_least)) (omega (arith, comes_most, room_x)) comes (λ k lt. timely k (omega (arith, lt, comes_most, upto))) below
-            (tail_trans low (x ∷ T) below (inr after) (closing.sent_low doc near far a e q role steady my_time one m x T call arrives stands actor fact step free.sent opens from_x room_x))
-            (closing.before_high doc near far a e q role steady my_time one m x T call arrives stands actor fact step free.sent opens from_x room_x)
-            (closing.earlier doc near far a e q role steady my_time one m x T call arrives stands actor fact step free.sent opens from_x room_x))
+            is_replied doc sound.2 near far a e q role steady my_time one m x T call arrives stands actor fact step free.sent opens from_x room_x
+            (up_at doc sound.2 near far a e (suc comes) q role steady at y low start.leader from (omega (arith, le, comes_least)) (omega (arith, comes_most, room_x)) comes (λ k lt. timely k (omega (arith, lt, comes_most, upto))) below
+            (tail_trans low (x ∷ T) below (inr after) (closing.sent_low doc sound.2 near far a e q role steady my_time one m x T call arrives stands actor fact step free.sent opens from_x room_x))
+            (closing.before_high doc sound.2 near far a e q role steady my_time one m x T call arrives stands actor fact step free.sent opens from_x room_x)
+            (closing.earlier doc sound.2 near far a e q role steady my_time one m x T call arrives stands actor fact step free.sent opens from_x room_x))
 
         from_answer : Origin doc q call r.reply r.before r.at
-        from_answer = origin doc (suc r.at) q (entry r.at 3 q (Delivers call r.reply true)) r.before call r.reply r.position refl refl
+        from_answer = origin doc sound.2 (suc r.at) q (entry r.at 3 q (Delivers call r.reply true)) r.before call r.reply r.position refl refl
 
         high : IsTail r.before (history doc (suc r.at))
         high = tail_trans r.before (entry r.at 3 q (Delivers call r.reply true) ∷ r.before) (history doc (suc r.at)) (inr (tail_all r.before)) r.position
 
         same : from_answer.begun.f ∷ from_answer.begun.before ≡ x ∷ T
         same =
-            sends_differ doc (suc r.at) q from_answer.begun.f x from_answer.begun.before T call call from_answer.begun.arrives arrives
+            sends_differ doc sound.2 (suc r.at) q from_answer.begun.f x from_answer.begun.before T call call from_answer.begun.arrives arrives
             (tail_trans (from_answer.begun.f ∷ from_answer.begun.before) r.before (history doc (suc r.at)) from_answer.begun.position high) (tail_trans (x ∷ T) r.before (history doc (suc r.at)) r.since high)
             from_answer.begun.actor actor from_answer.begun.fact fact refl
 
@@ -259,21 +266,21 @@ module _ (doc : Doc) (near far a e : ℕ) (sound : IsSound doc) (calm : IsCalm d
         ways_x : IsWay near far x.beat from_answer.e.beat r.at
         ways_x =
             subst (λ k. IsWay near far k from_answer.e.beat r.at) beat
-            (way doc near far a e q role steady call r.reply r.before r.at r.position from_answer (omega (arith, r.most, room_x)) (omega (arith, beat, from_x)))
+            (way doc sound.2 near far a e q role steady call r.reply r.before r.at r.position from_answer (omega (arith, r.most, room_x)) (omega (arith, beat, from_x)))
 
     -- an answer to a call stands once
     no_answer_below : (x1 : Entry) (T1 : List Entry) (call : Call) (r : Round doc near far e q x1 T1 call) (x : Entry) (T : List Entry) → IsTail (x ∷ T) r.o.low → (w : Won doc x T) → w.who ≡ q → w.call ≡ call → ⊥
     no_answer_below x1 T1 call r x T stands w mine same = omega (arith, tail_length (x ∷ T) r.o.low stands, ap length once)
       where
         high : IsTail (r.o.e ∷ r.o.low) (history doc (suc r.at))
-        high = answer_high doc near far a e q role steady call r.reply r.before r.at r.position r.o r.within
+        high = answer_high doc sound.2 near far a e q role steady call r.reply r.before r.at r.position r.o r.within
 
         back : Back
         back = record { who = w.who; call = w.call; reply = w.reply; comes = w.comes }
 
         once : x ∷ T ≡ r.o.e ∷ r.o.low
         once =
-            answers_differ doc (suc r.at) x r.o.e T r.o.low back (record { who = q; call = call; reply = r.reply; comes = Some r.at })
+            answers_differ doc sound.2 (suc r.at) x r.o.e T r.o.low back (record { who = q; call = call; reply = r.reply; comes = Some r.at })
             (tail_trans (x ∷ T) (r.o.e ∷ r.o.low) (history doc (suc r.at)) (inr stands) high) high
             (ap (λ d. back_of x.actor d) w.fact ∙ ap (λ who. back_of who (Answers w.call w.reply w.comes w.wrote)) w.actor)
             (ap (λ d. back_of r.o.e.actor d) r.o.fact ∙ ap (λ who. back_of who (Answers call r.reply (Some r.at) (written call.request r.o.low))) r.o.actor)
@@ -291,10 +298,10 @@ module _ (doc : Doc) (near far a e : ℕ) (sound : IsSound doc) (calm : IsCalm d
     some_way = omega (arith, s.least, s.most, one)
 
     tried : HasTried doc q low at (Some (s.version, lease)) (history doc (suc g))
-    tried = has_tried doc near far a e q role steady at y low start.leader from (Some (s.version, lease)) start.idle start.nothing g d.from (omega (arith, room)) d.reached (timely g (omega (arith, some_way)))
+    tried = has_tried doc sound.2 near far a e q role steady at y low start.leader from (Some (s.version, lease)) start.idle start.nothing g d.from (omega (arith, room)) d.reached (timely g (omega (arith, some_way)))
 
     x1_from : y ≤ tried.x.beat
-    x1_from = later doc near far a e (suc g) q role steady at y low start.leader from (omega (arith, d.from)) (omega (arith, room)) tried.x tried.before tried.since tried.position
+    x1_from = later doc sound.2 near far a e (suc g) q role steady at y low start.leader from (omega (arith, d.from)) (omega (arith, room)) tried.x tried.before tried.since tried.position
 
     x1_upto : tried.x.beat ≤ g
     x1_upto = ⊎_elim (λ lt. omega (arith, lt)) (λ first. omega (arith, first.0)) (entries_are_earlier doc (suc g) tried.x (in_head tried.x tried.before (history doc (suc g)) tried.position))
@@ -383,7 +390,7 @@ module _ (doc : Doc) (near far a e : ℕ) (sound : IsSound doc) (calm : IsCalm d
     }
 
     sent1 : tried.call.sent ≡ tried.x.beat
-    sent1 = (is_free doc (suc g) q role tried.x tried.before tried.call tried.arrives tried.position tried.actor tried.fact tried.opens).sent
+    sent1 = (is_free doc sound.2 (suc g) q role tried.x tried.before tried.call tried.arrives tried.position tried.actor tried.fact tried.opens).sent
 
     -- ---- it renews at once
 
@@ -424,11 +431,11 @@ module _ (doc : Doc) (near far a e : ℕ) (sound : IsSound doc) (calm : IsCalm d
       call2 = next_call q r1.at Plain asked T2
 
       abbrev x2 : Entry
-      x2 = entry r1.at 3 q (Sends call2 (request_arrival q.process r1.at T2))
+      x2 = entry r1.at 3 q (Sends call2 (request_arrival doc q.process r1.at T2))
 
       position2 : IsTail (x2 ∷ T2) (history doc (suc r1.at))
       position2 =
-          subst (λ f. IsTail (react r1.at q (leads q T2) f T2) (history doc (suc r1.at))) asks (replies_follow doc (suc r1.at) q heard r1.before tried.call r1.reply r1.position refl refl role refl)
+          subst (λ f. IsTail (react doc r1.at q (leads q T2) f T2) (history doc (suc r1.at))) asks (replies_follow doc sound.2 (suc r1.at) q heard r1.before tried.call r1.reply r1.position refl refl role refl)
 
       at1_from : y < r1.at
       at1_from = omega (arith, x1_from, r1.ways.sent_least, r1.ways.comes_least, one)
@@ -443,7 +450,7 @@ module _ (doc : Doc) (near far a e : ℕ) (sound : IsSound doc) (calm : IsCalm d
       low2 = inr (tail_trans low (tried.x ∷ tried.before) r1.before (inr tried.since) x1_high)
 
       r2 : Round doc near far e q x2 T2 call2
-      r2 = round_of (suc r1.at) x2 T2 call2 (request_arrival q.process r1.at T2) position2 low2 refl refl (omega arith) refl (omega (arith, at1_from)) (omega (arith, at1_upto))
+      r2 = round_of (suc r1.at) x2 T2 call2 (request_arrival doc q.process r1.at T2) position2 low2 refl refl (omega arith) refl (omega (arith, at1_from)) (omega (arith, at1_upto))
 
       none2 : (x : Entry) (T : List Entry) → IsTail (x ∷ T) r2.o.low → (w : Won doc x T) → w.who ≡ q → Since w.call T → ⊥
       none2 x T stands w mine f = by_place (tails_meet (f.f ∷ f.before) (x2 ∷ T2) r2.before in_r2 sent_high)
@@ -459,7 +466,7 @@ module _ (doc : Doc) (near far a e : ℕ) (sound : IsSound doc) (calm : IsCalm d
           sent_high = subst (λ g. IsTail g r2.before) r2.same r2.o.begun.position
 
           same2 : f.f ∷ f.before ≡ x2 ∷ T2 → ⊥
-          same2 is = no_answer_below x2 T2 call2 r2 x T stands w mine (call_same w.call call2 T f x2 T2 (request_arrival q.process r1.at T2) refl is)
+          same2 is = no_answer_below x2 T2 call2 r2 x T stands w mine (call_same w.call call2 T f x2 T2 (request_arrival doc q.process r1.at T2) refl is)
 
           no_reply : f.f ∷ f.before ≡ T2 → ⊥
           no_reply is = false_is (sym (ap is_send (ap (λ (z : Entry). z.fact) (same_head f.f heard f.before r1.before is))) ∙ ap is_send f.fact)

@@ -14,6 +14,7 @@ use Rattle.kube_objects.specs.Newest.{or_zero, or_else, has, when}
 use Rattle.kube_objects.specs.Process.{is_stop, stops}
 use Rattle.kube_objects.specs.Stored.{Held, election, stored, at_key, write_of}
 use Rattle.kube_objects.specs.Wire.{Back, back_of, arrival, request_arrival, request_delay, request_delay_of, loses_requests}
+use Rattle.kube_objects.proofs.Own.{request_arrival-own}
 use Rattle.history.specs.History.{history, whole_history}
 use Rattle.history.specs.Premise.{greatest_below}
 use Rattle.history.specs.Safe.{Acts}
@@ -126,25 +127,25 @@ module _ (doc : Doc) (near far a e : ℕ) (sound : IsSound doc) (calm : IsCalm d
 
     -- its sending
     sending : (s : Sending doc a e w.who w.call (Some x.beat)) × (s.f ≡ w.f) × (s.before ≡ w.low)
-    sending = sending_of doc near far a e e w.who w.role rival_steady (time w.who.process w.role rival_steady) (omega arith) one w.call (Some x.beat) w.f w.low asked w.f_actor w.f_fact sent_in
+    sending = sending_of doc sound.2 near far a e e w.who w.role rival_steady (time w.who.process w.role rival_steady) (omega arith) one w.call (Some x.beat) w.f w.low asked w.f_actor w.f_fact sent_in
 
     s : Sending doc a e w.who w.call (Some x.beat)
     s = sending.0
 
     -- its request took a while
     way : w.call.sent + near ≤ x.beat
-    way = omega (arith, s.sent, arrival_is (loses_requests w.who.process s.before) s.f.beat (request_delay w.who.process s.before) x.beat arrives, delay, passes.request_least)
+    way = omega (arith, s.sent, arrival_is (loses_requests w.who.process s.before) s.f.beat (request_delay w.who.process s.before) x.beat (arrives ∙ request_arrival-own doc sound.2 w.who.process s.f.beat s.before), delay, passes.request_least)
       where
         passes : Passes doc near far w.who.process s.f.beat
         passes = rival_steady.passes s.f.beat s.from (omega (arith, s.sent, earlier, x_upto))
 
-        arrives : Some x.beat ≡ request_arrival w.who.process s.f.beat s.before
+        arrives : Some x.beat ≡ request_arrival doc w.who.process s.f.beat s.before
         arrives =
-            (subst (λ o. IfSome o (λ s2. (s2.call.sent ≡ s.f.beat) × (s2.arrives ≡ request_arrival s2.who.process s.f.beat s.before))) (sent_is s.f w.who w.call (Some x.beat) s.actor s.fact)
-            (messages_travel doc (suc e) s.f s.before s.position).0).1
+            (subst (λ o. IfSome o (λ s2. (s2.call.sent ≡ s.f.beat) × (s2.arrives ≡ request_arrival doc s2.who.process s.f.beat s.before))) (sent_is s.f w.who w.call (Some x.beat) s.actor s.fact)
+            (messages_travel doc sound.2 (suc e) s.f s.before s.position).0).1
 
         delay : request_delay w.who.process s.before ≡ request_delay w.who.process (with_events doc s.f.beat)
-        delay = ap (or_else 1) ((forces_stand doc (suc e) s.f s.before s.position (omega (arith, s.step))).0 (request_delay_of w.who.process))
+        delay = ap (or_else 1) ((forces_stand doc sound.2 (suc e) s.f s.before s.position (omega (arith, s.step))).0 (request_delay_of w.who.process))
 
     module _ (rival : w.who ≡ q → ⊥) where
       -- somebody else has waited since it was shown q's record
@@ -177,7 +178,7 @@ module _ (doc : Doc) (near far a e : ℕ) (sound : IsSound doc) (calm : IsCalm d
   module _ (k : ℕ) (from : a ≤ k) (to : k ≤ e) (acting : Acts doc q k) (x0 : Entry) (T0 : List Entry) (at0 : IsTail (x0 ∷ T0) all) (mine0 : x0.actor ≡ actor_of q) (writes0 : has (at_key election (write_of x0.fact)) ≡ true) (after : a ≤ x0.beat) (some : 1 ≤ x0.beat) where
     -- it isn't stopped
     unstopped : (T : List Entry) → IsTail T all → stops q T ≡ 0
-    unstopped T at = let none = never_stopped doc near far a e q steady sound end k from to acting in omega (arith, none, count_tail (λ x. is_stop x.fact && is_by q x.actor) T all at)
+    unstopped T at = let none = never_stopped doc sound.2 near far a e q steady sound end k from to acting in omega (arith, none, count_tail (λ x. is_stop x.fact && is_by q x.actor) T all at)
 
     -- its accepted write leaves its own record
     pub own_of : (from : ℕ) (x : Entry) (T : List Entry) → IsTail (x ∷ T) all → (w : Won doc x T) → w.who ≡ q → from ≤ x.beat → Own doc q from (x ∷ T)

@@ -8,6 +8,7 @@ use Rattle.kube_objects.specs.Pauses.{resume, held_up}
 use Rattle.kube_objects.specs.Process.{open_as, alive, call_in}
 use Rattle.kube_objects.specs.Stored.{election, key_of}
 use Rattle.kube_objects.specs.Wire.{arrival, request_arrival, request_delay, reply_delay, reply_loss_of, reply_delay_of}
+use Rattle.kube_objects.specs.Own.{IsOwn}
 use Rattle.kube_objects.proofs.Pauses.{resume_later}
 use Rattle.history.specs.History.{history}
 use Rattle.history.specs.Sound.{IsSound}
@@ -35,12 +36,12 @@ pub record IsFree (q : Identity) (x : Entry) (T : List Entry) (call : Call) : Ty
   pub step : 3 ≤ x.step
   pub sent : call.sent ≡ x.beat
 
-pub is_free : (doc : Doc) (m : ℕ) (q : Identity) → is_controller doc q.process ≡ true → (x : Entry) (T : List Entry) (call : Call) (arrives : Option ℕ) → IsTail (x ∷ T) (history doc m) → x.actor ≡ actor_of q → x.fact ≡ Sends call arrives
+pub is_free : (doc : Doc) → IsOwn doc → (m : ℕ) (q : Identity) → is_controller doc q.process ≡ true → (x : Entry) (T : List Entry) (call : Call) (arrives : Option ℕ) → IsTail (x ∷ T) (history doc m) → x.actor ≡ actor_of q → x.fact ≡ Sends call arrives
     → open_as call.kind call ≡ Some call → IsFree q x T call
-is_free doc m q role x T call arrives at actor fact opens = by_free (made.free (ap (λ (p : Identity). is_controller doc p.process) mine ∙ role))
+is_free doc rules m q role x T call arrives at actor fact opens = by_free (made.free (ap (λ (p : Identity). is_controller doc p.process) mine ∙ role))
   where
     made : MadeSend doc x.beat x.step x.actor call arrives T
-    made = subst (λ d. MadeAs doc x.beat x.step x.actor d T) fact (are_made doc m x T at)
+    made = subst (λ d. MadeAs doc x.beat x.step x.actor d T) fact (are_made doc rules m x T at)
 
     mine : made.q ≡ q
     mine = actor_is made.q q (sym made.by ∙ actor)
@@ -72,7 +73,7 @@ pub record IsWay (near far sent answered comes : ℕ) : Type 0 where
   pub comes_least : answered + near ≤ comes
   pub comes_most : comes ≤ answered + far
 
-module _ (doc : Doc) (near far a e : ℕ) (q : Identity) (role : is_controller doc q.process ≡ true) (steady : IsSteady doc near far a e q.process) (w : Call) (reply : Reply) (T : List Entry) (y : ℕ)
+module _ (doc : Doc) (rules : IsOwn doc) (near far a e : ℕ) (q : Identity) (role : is_controller doc q.process ≡ true) (steady : IsSteady doc near far a e q.process) (w : Call) (reply : Reply) (T : List Entry) (y : ℕ)
     (at : IsTail (entry y 3 q (Delivers w reply true) ∷ T) (history doc (suc y))) (o : Origin doc q w reply T y) (to : y ≤ e) where
   high : IsTail T (history doc (suc y))
   high = tail_trans T (entry y 3 q (Delivers w reply true) ∷ T) (history doc (suc y)) (inr (tail_all T)) at
@@ -92,7 +93,7 @@ module _ (doc : Doc) (near far a e : ℕ) (q : Identity) (role : is_controller d
       (within_below (history doc (suc y)) (entries_are_ordered doc (suc y)) o.e o.low answer_high o.begun.f (in_head o.begun.f o.begun.before o.low o.sent_low))
 
   pub free : IsFree q o.begun.f o.begun.before w
-  free = is_free doc (suc y) q role o.begun.f o.begun.before w o.begun.arrives sending_high o.begun.actor o.begun.fact o.begun.opens
+  free = is_free doc rules (suc y) q role o.begun.f o.begun.before w o.begun.arrives sending_high o.begun.actor o.begun.fact o.begun.opens
 
   module _ (from : a ≤ o.begun.f.beat) where
     sending : Passes doc near far q.process o.begun.f.beat
@@ -104,13 +105,13 @@ module _ (doc : Doc) (near far a e : ℕ) (q : Identity) (role : is_controller d
     request_way : o.begun.f.beat + request_delay q.process (with_events doc o.begun.f.beat) ≡ o.e.beat
     request_way =
         some_is (o.begun.f.beat + request_delay q.process (with_events doc o.begun.f.beat)) o.e.beat
-        (sym (request_passes doc near far q.process o.begun.f.beat o.begun.before sending (forces_stand doc (suc y) o.begun.f o.begun.before sending_high (omega (arith, free.step))))
-        ∙ sym ((subst (λ p. IfSome p (λ s. (s.call.sent ≡ o.begun.f.beat) × (s.arrives ≡ request_arrival s.who.process o.begun.f.beat o.begun.before)))
-        (sent_is o.begun.f q w o.begun.arrives o.begun.actor o.begun.fact) (messages_travel doc (suc y) o.begun.f o.begun.before sending_high).0).1)
+        (sym (request_passes doc rules near far q.process o.begun.f.beat o.begun.before sending (forces_stand doc rules (suc y) o.begun.f o.begun.before sending_high (omega (arith, free.step))))
+        ∙ sym ((subst (λ p. IfSome p (λ s. (s.call.sent ≡ o.begun.f.beat) × (s.arrives ≡ request_arrival doc s.who.process o.begun.f.beat o.begun.before)))
+        (sent_is o.begun.f q w o.begun.arrives o.begun.actor o.begun.fact) (messages_travel doc rules (suc y) o.begun.f o.begun.before sending_high).0).1)
         ∙ o.arrives)
 
     force : Forces doc o.e.beat o.low
-    force = forces_stand doc (suc y) o.e o.low answer_high (omega (arith, o.step))
+    force = forces_stand doc rules (suc y) o.e o.low answer_high (omega (arith, o.step))
 
     abbrev k : ℕ
     k = o.e.beat + reply_delay q.process (with_events doc o.e.beat)

@@ -120,7 +120,7 @@ module _ (doc : Doc) (near far a e : ℕ) (sound : IsSound doc) (calm : IsCalm d
       by_step : Ending y ⊎ Going y → Stays doc q y e
       by_step (inl done) = ended y to s done
       by_step (inr g) = absurd (omega (arith, g.later, g.upto, most))
-  stays (suc i) y to most s = by_step (goes_on y to s) (λ g. stays i g.next g.upto (omega (arith, g.later, most)) (given_of doc near far a e q role steady one g.next g.upto g.success))
+  stays (suc i) y to most s = by_step (goes_on y to s) (λ g. stays i g.next g.upto (omega (arith, g.later, most)) (given_of doc sound.2 near far a e q role steady one g.next g.upto g.success))
     where
       by_step : Ending y ⊎ Going y → ((g : Going y) → Stays doc q g.next e) → Stays doc q y e
       by_step (inl done) on = ended y to s done
@@ -132,7 +132,7 @@ module _ (doc : Doc) (near far a e : ℕ) (sound : IsSound doc) (calm : IsCalm d
 -- ---- the law
 
 pub leaders_stay : LeadersStay
-leaders_stay doc near far a e sound calm time one ways end q role steady renews j s = ⊎_elim over (λ le. given_stays doc near far a e sound calm time one end q role steady renews j le (given_of doc near far a e q role steady one j le s)) (cases_lt e j)
+leaders_stay doc near far a e sound calm time one ways end q role steady renews j s = ⊎_elim over (λ le. given_stays doc near far a e sound calm time one end q role steady renews j le (given_of doc sound.2 near far a e q role steady one j le s)) (cases_lt e j)
   where
     -- a success after the span
     over : e < j → Stays doc q j e

@@ -14,6 +14,7 @@ use Rattle.kube_objects.specs.Newest.{newest, when, only_if, join, has, or_zero}
 use Rattle.kube_objects.specs.Pauses.{can_at}
 use Rattle.kube_objects.specs.Process.{alive, last_call}
 use Rattle.kube_objects.specs.Turns.{expired_in, react}
+use Rattle.kube_objects.specs.Own.{IsOwn}
 use Rattle.history.specs.History.{history, at_turn, three_steps}
 use Rattle.history_laws.specs.Tails.{IsTail}
 use Rattle.history_laws.proofs.Counting.{counted_is}
@@ -69,7 +70,7 @@ abbrev is_lead : Fact → Bool
 is_lead (Leads version) = true
 is_lead _ = false
 
-module _ (doc : Doc) (q : Identity) (role : is_controller doc q.process ≡ true) (y : ℕ) (call : Call) (version : Version) (T : List Entry) (so : succeeds call.request (Done version) ≡ true)
+module _ (doc : Doc) (rules : IsOwn doc) (q : Identity) (role : is_controller doc q.process ≡ true) (y : ℕ) (call : Call) (version : Version) (T : List Entry) (so : succeeds call.request (Done version) ≡ true)
     (at : IsTail (entry y 3 q (Delivers call (Done version) true) ∷ T) (history doc (suc y))) where
   abbrev reply : Entry
   reply = entry y 3 q (Delivers call (Done version) true)
@@ -90,7 +91,7 @@ module _ (doc : Doc) (q : Identity) (role : is_controller doc q.process ≡ true
   up = subst (λ (p : Identity). alive p.process T ≡ Some p.incarnation) (actor_is made.b.who q (sym made.by)) (counted_is doc made.b.who y made.b.call.number T call made.counted_is).up
     where
       made : MadeDelivery doc y 3 (actor_of q) call (Done version) T
-      made = are_made doc (suc y) reply T at
+      made = are_made doc rules (suc y) reply T at
 
   since : IsTail (history doc y) T
   since = not_before doc y (suc y) reply T (omega arith) at (omega arith) (omega arith)
@@ -125,8 +126,8 @@ module _ (doc : Doc) (q : Identity) (role : is_controller doc q.process ≡ true
     idle = record {
       call = ap (λ b. join (upper (when b None) (last_call q T))) (same_self q);
       timer_is =
-          ap (λ b. or_zero (upper (only_if b (timer_follow (follow_on doc q y call.kind call.request (Done version) low0) (leads q T) next)) (newest (λ e T. timer_says doc q e T e.fact) T))) (same_self q)
-          ∙ ap (λ f. or_zero (upper (timer_follow f (leads q T) next) (newest (λ e T. timer_says doc q e T e.fact) T))) follows
+          ap (λ b. or_zero (upper (only_if b (timer_follow doc q reply T (leads q T) (follow_on doc q y call.kind call.request (Done version) low0))) (newest (λ e T. timer_says doc q e T e.fact) T))) (same_self q)
+          ∙ ap (λ f. or_zero (upper (timer_follow doc q reply T (leads q T) f) (newest (λ e T. timer_says doc q e T e.fact) T))) follows
           ∙ ap (λ b. or_zero (upper (when b next) (newest (λ e T. timer_says doc q e T e.fact) T))) led;
       shown_is = shown_is;
       expiry = λ k. ap (λ b. join (upper (when b None) (newest (λ e T. when (is_by q e.actor) (expired_in k e.beat e.fact)) T))) (same_self q);
@@ -184,8 +185,8 @@ module _ (doc : Doc) (q : Identity) (role : is_controller doc q.process ≡ true
 
       at1 : IsTail low1 (history doc (suc y))
       at1 =
-          subst (λ led. IsTail (react y q led (Succeeds version) low0) (history doc (suc y))) unled
-          (subst (λ f. IsTail (react y q (leads q low0) f low0) (history doc (suc y))) follows (replies_follow doc (suc y) q reply T call (Done version) at refl refl role refl))
+          subst (λ led. IsTail (react doc y q led (Succeeds version) low0) (history doc (suc y))) unled
+          (subst (λ f. IsTail (react doc y q (leads q low0) f low0) (history doc (suc y))) follows (replies_follow doc rules (suc y) q reply T call (Done version) at refl refl role refl))
 
       between : (z : Entry) (Z : List Entry) → IsTail (z ∷ Z) low1 → IsTail low0 Z → is_move z.fact ≡ true → ⊥
       between z Z (inl same) below moves = false_is (sym (ap (λ (e : Entry). is_move e.fact) (same_head z lead Z low0 same)) ∙ moves)

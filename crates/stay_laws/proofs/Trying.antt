@@ -11,6 +11,7 @@ use Rattle.kube_objects.specs.Newest.{when, has}
 use Rattle.kube_objects.specs.Process.{open_as, alive, call_in}
 use Rattle.kube_objects.specs.Turns.{is_fast_call}
 use Rattle.kube_objects.specs.Wire.{send, next_call, request_arrival}
+use Rattle.kube_objects.specs.Own.{IsOwn}
 use Rattle.kube_objects.proofs.Clocks.{local_up}
 use Rattle.history.specs.History.{history, at_turn}
 use Rattle.history.specs.Steps.{turn}
@@ -44,48 +45,48 @@ pub record HasTried (doc : Doc) (q : Identity) (low : List Entry) (at : ℕ) (vi
 abbrev pub AsksNothing : Doc → Identity → List Entry → Type 0
 AsksNothing doc q low = (k : ℕ) (w : Call) (reply : Reply) (T : List Entry) (r : Request) → low ≡ entry k 3 q (Delivers w reply true) ∷ T → follow_on doc q k w.kind w.request reply low ≡ Asks r → ⊥
 
-module _ (doc : Doc) (near far a e : ℕ) (q : Identity) (role : is_controller doc q.process ≡ true) (steady : IsSteady doc near far a e q.process) (at y : ℕ) (low : List Entry) (leader : IsLeader doc q at y low)
+module _ (doc : Doc) (rules : IsOwn doc) (near far a e : ℕ) (q : Identity) (role : is_controller doc q.process ≡ true) (steady : IsSteady doc near far a e q.process) (at y : ℕ) (low : List Entry) (leader : IsLeader doc q at y low)
     (from : a < y) (view : Option Shown) (idle : Idle doc q low at view low) (nothing : AsksNothing doc q low)
     (g : ℕ) (le : y ≤ g) (to : g ≤ e) (reached : at ≤ local doc q.process g) (soon : local doc q.process g < at + renew_deadline doc q.process) where
   up : (h : List Entry) → IsTail low h → IsTail h (history doc (suc g)) → alive q.process h ≡ Some q.incarnation
   up h below high =
-      up_at doc near far a e (suc g) q role steady at y low leader from (omega (arith, le)) (omega (arith, to)) (suc g) (λ k lt. omega (arith, soon, local_up doc q.process k g (omega (arith, lt)))) h below high (all_before doc g h high)
+      up_at doc rules near far a e (suc g) q role steady at y low leader from (omega (arith, le)) (omega (arith, to)) (suc g) (λ k lt. omega (arith, soon, local_up doc q.process k g (omega (arith, lt)))) h below high (all_before doc g h high)
 
   led : (h : List Entry) → IsTail low h → IsTail h (history doc (suc g)) → leads q h ≡ true
-  led h below high = (in_term doc near far a e (suc g) q role steady at y low leader from (omega (arith, le)) (omega (arith, to)) h below high).led
+  led h below high = (in_term doc rules near far a e (suc g) q role steady at y low leader from (omega (arith, le)) (omega (arith, to)) h below high).led
 
   abbrev my_turn : List Entry
   my_turn = at_turn doc q.process g
 
   below : IsTail low my_turn
-  below = turn_below doc near far a e (suc g) q role steady at y low leader from (omega (arith, le)) (omega (arith, to)) g le
+  below = turn_below doc rules near far a e (suc g) q role steady at y low leader from (omega (arith, le)) (omega (arith, to)) g le
 
   high : IsTail my_turn (history doc (suc g))
-  high = turn_high doc near far a e (suc g) q role steady at y low leader from (omega (arith, le)) (omega (arith, to)) g (omega arith)
+  high = turn_high doc rules near far a e (suc g) q role steady at y low leader from (omega (arith, le)) (omega (arith, to)) g (omega arith)
 
   -- by the end of the beat
   tried : Tried doc q low at view (history doc (suc g))
-  tried = by_turn (idle_or_tried doc q low at view (suc g) role led up my_turn idle below high)
+  tried = by_turn (idle_or_tried doc q low at view rules (suc g) role led up my_turn idle below high)
     where
       by_turn : Idle doc q low at view my_turn ⊎ Tried doc q low at view my_turn → Tried doc q low at view (history doc (suc g))
       by_turn (inr s) = tried_more doc q low at view my_turn (history doc (suc g)) high s
       by_turn (inl s) = record {
-        x = entry g 4 q (Sends (next_call q g (attempt doc q g my_turn).0 (attempt doc q g my_turn).1 my_turn) (request_arrival q.process g my_turn));
+        x = entry g 4 q (Sends (next_call q g (attempt doc q g my_turn).0 (attempt doc q g my_turn).1 my_turn) (request_arrival doc q.process g my_turn));
         before = my_turn;
         position =
-            tail_trans (send g 4 q (attempt doc q g my_turn).0 (attempt doc q g my_turn).1 my_turn) (turn doc g q.process my_turn) (history doc (suc g))
+            tail_trans (send doc g 4 q (attempt doc q g my_turn).0 (attempt doc q g my_turn).1 my_turn) (turn doc g q.process my_turn) (history doc (suc g))
             (leader_tries doc g q my_turn t.end role (steady.passes g (omega (arith, from, le)) to).awake (up my_turn below high) s.call t.set (omega (arith, soon, t.late)) (s.expiry g) (omega (arith, s.timer_is, reached)))
             (turn_tail doc (suc q.process) g (omega (arith, controllers_first doc q.process role)));
         since = below;
         idle = s;
         call = next_call q g (attempt doc q g my_turn).0 (attempt doc q g my_turn).1 my_turn;
-        arrives = request_arrival q.process g my_turn;
+        arrives = request_arrival doc q.process g my_turn;
         fact = refl;
         actor = refl;
       }
         where
           t : IsInTerm doc q at my_turn
-          t = in_term doc near far a e (suc g) q role steady at y low leader from (omega (arith, le)) (omega (arith, to)) my_turn below high
+          t = in_term doc rules near far a e (suc g) q role steady at y low leader from (omega (arith, le)) (omega (arith, to)) my_turn below high
 
   pub has_tried : HasTried doc q low at view (history doc (suc g))
   has_tried = by_step made.step_is
@@ -94,7 +95,7 @@ module _ (doc : Doc) (near far a e : ℕ) (q : Identity) (role : is_controller d
       s = tried
 
       made : MadeSend doc s.x.beat s.x.step s.x.actor s.call s.arrives s.before
-      made = subst (λ d. MadeAs doc s.x.beat s.x.step s.x.actor d s.before) s.fact (are_made doc (suc g) s.x s.before s.position)
+      made = subst (λ d. MadeAs doc s.x.beat s.x.step s.x.actor d s.before) s.fact (are_made doc rules (suc g) s.x s.before s.position)
 
       mine : made.q ≡ q
       mine = actor_is made.q q (sym made.by ∙ s.actor)
@@ -103,7 +104,7 @@ module _ (doc : Doc) (near far a e : ℕ) (q : Identity) (role : is_controller d
       role_made = ap (λ (p : Identity). is_controller doc p.process) mine ∙ role
 
       since : y ≤ s.x.beat
-      since = later doc near far a e (suc g) q role steady at y low leader from (omega (arith, le)) (omega (arith, to)) s.x s.before s.since s.position
+      since = later doc rules near far a e (suc g) q role steady at y low leader from (omega (arith, le)) (omega (arith, to)) s.x s.before s.since s.position
 
       unstopped : HasStopped s.x.beat made.q made.kind s.before → ⊥
       unstopped stopped =
@@ -140,7 +141,7 @@ module _ (doc : Doc) (near far a e : ℕ) (q : Identity) (role : is_controller d
           cases (inr lower) = s.idle.unmoved reply f.before (subst (IsTail (reply ∷ f.before)) (sym f.is) (tail_all (reply ∷ f.before))) lower (ap actor_of mine) refl
 
       by_step : (s.x.step ≡ 1) ⊎ ((s.x.step ≡ 3) ⊎ (s.x.step ≡ 4)) → HasTried doc q low at view (history doc (suc g))
-      by_step (inr (inr four)) = turned four (subst (λ d. IsTurnSend doc s.x.beat q d s.before) s.fact (sends_are_due doc (suc g) s.x s.before s.position four q s.actor) role)
+      by_step (inr (inr four)) = turned four (subst (λ d. IsTurnSend doc s.x.beat q d s.before) s.fact (sends_are_due doc rules (suc g) s.x s.before s.position four q s.actor) role)
       by_step (inr (inl three)) = absurd (follows (made.replied role_made three))
       by_step (inl one) = absurd (by_free (made.free role_made))
         where

@@ -8,7 +8,7 @@ use Rattle.kube_objects.specs.declared.object.Object.{Object}
 use Rattle.kube_objects.specs.Answers.{answer}
 use Rattle.kube_objects.specs.Document.{Doc, processes, end_beat, is_controller}
 use Rattle.kube_objects.specs.Elector.{succeeds, deadline, is_before}
-use Rattle.kube_objects.specs.Entry.{Entry, Identity, Call, Fact, First as FirstPut, Event as Happens, Starts, Stops, Sends, Answers, Delivers, Expires, Leads, Ends, Crashes, Stalls, Ticks, actor_of}
+use Rattle.kube_objects.specs.Entry.{Entry, Identity, Call, Fact, First as FirstPut, Event as Happens, Starts, Stops, Sends, Answers, Delivers, Expires, Leads, Ends, Crashes, Stalls, Ticks, actor_of, StepsDown, ReleaseBegins, ReleaseEnds, ReleaseStops}
 use Rattle.kube_objects.specs.Identities.{is_by}
 use Rattle.kube_objects.specs.Keys.{key_eq}
 use Rattle.kube_objects.specs.Newest.{added, has}
@@ -16,6 +16,7 @@ use Rattle.kube_objects.specs.Process.{alive, is_present, is_stop, stops}
 use Rattle.kube_objects.specs.Stored.{election, key_of, request_write, event_write, at_key, write_of}
 use Rattle.kube_objects.specs.Wire.{Sent, back_of}
 use Rattle.kube_objects.specs.Clocks.{local}
+use Rattle.kube_objects.specs.Own.{IsOwn}
 use Rattle.history.specs.History.{history, at_turn}
 use Rattle.history.specs.Premise.{greatest_below}
 use Rattle.history.specs.Safe.{Acts}
@@ -127,32 +128,40 @@ module _ (doc : Doc) (sound : IsSound doc) (k : ℕ) (end : k ≤ end_beat doc) 
   by_fact x T who Crashes actor fact position from is made = absurd (false_is is)
   by_fact x T who Stops actor fact position from is made = absurd (false_is is)
   by_fact x T who (Stalls beats) actor fact position from is made = absurd (false_is is)
+  by_fact x T who StepsDown actor fact position from is made = absurd made
+  by_fact x T who (ReleaseBegins at_deadline) actor fact position from is made = absurd made
+  by_fact x T who ReleaseEnds actor fact position from is made = absurd made
+  by_fact x T who ReleaseStops actor fact position from is made = absurd made
   by_fact x T who Ends actor fact position from is made = absurd (false_is is)
   by_fact x T who (Leads version) actor fact position from is made = absurd (false_is is)
 
   -- after the first beat each is such
   pub is_won : (x : Entry) (T : List Entry) → IsTail (x ∷ T) (history doc (suc k)) → 1 ≤ x.beat → has (at_key election (write_of x.fact)) ≡ true → Won doc x T
-  is_won x T position from is = by_fact x T x.actor x.fact refl refl position from is (are_made doc (suc k) x T position)
+  is_won x T position from is = by_fact x T x.actor x.fact refl refl position from is (are_made doc sound.2 (suc k) x T position)
 
 -- ---- no stop
 
 -- which entries are stops
-pub stop_is : (d : Fact) → is_stop d ≡ true → d ≡ Stops
-stop_is Stops is = refl
-stop_is (FirstPut key object) is = absurd (false_is is)
-stop_is (Happens w version) is = absurd (false_is is)
-stop_is (Sends call arrives) is = absurd (false_is is)
-stop_is (Answers call reply comes wrote) is = absurd (false_is is)
-stop_is (Delivers call reply counted) is = absurd (false_is is)
-stop_is (Expires call) is = absurd (false_is is)
-stop_is (Ticks t) is = absurd (false_is is)
-stop_is Starts is = absurd (false_is is)
-stop_is Crashes is = absurd (false_is is)
-stop_is (Stalls beats) is = absurd (false_is is)
-stop_is Ends is = absurd (false_is is)
-stop_is (Leads version) is = absurd (false_is is)
+pub stop_is : (doc : Doc) (k step : ℕ) (who : Actor) (d : Fact) (h : List Entry) → MadeAs doc k step who d h → is_stop d ≡ true → d ≡ Stops
+stop_is doc k step who Stops h made is = refl
+stop_is doc k step who (FirstPut key object) h made is = absurd (false_is is)
+stop_is doc k step who (Happens w version) h made is = absurd (false_is is)
+stop_is doc k step who (Sends call arrives) h made is = absurd (false_is is)
+stop_is doc k step who (Answers call reply comes wrote) h made is = absurd (false_is is)
+stop_is doc k step who (Delivers call reply counted) h made is = absurd (false_is is)
+stop_is doc k step who (Expires call) h made is = absurd (false_is is)
+stop_is doc k step who (Ticks t) h made is = absurd (false_is is)
+stop_is doc k step who Starts h made is = absurd (false_is is)
+stop_is doc k step who Crashes h made is = absurd (false_is is)
+stop_is doc k step who (Stalls beats) h made is = absurd (false_is is)
+stop_is doc k step who StepsDown h made is = absurd made
+stop_is doc k step who (ReleaseBegins at_deadline) h made is = absurd made
+stop_is doc k step who ReleaseEnds h made is = absurd made
+stop_is doc k step who ReleaseStops h made is = absurd made
+stop_is doc k step who Ends h made is = absurd (false_is is)
+stop_is doc k step who (Leads version) h made is = absurd (false_is is)
 
-module _ (doc : Doc) (near far a e : ℕ) (q : Identity) (steady : IsSteady doc near far a e q.process) where
+module _ (doc : Doc) (rules : IsOwn doc) (near far a e : ℕ) (q : Identity) (steady : IsSteady doc near far a e q.process) where
   -- from beat a on it isn't stopped
   no_more_stops : (g h : List Entry) → Above (λ x. a ≤ x.beat) g h → IsTail h (history doc (suc e)) → stops q h ≡ stops q g
   no_more_stops g [] above at = ap (stops q) (sym above)
@@ -161,7 +170,7 @@ module _ (doc : Doc) (near far a e : ℕ) (q : Identity) (steady : IsSteady doc 
     where
       by_stop : (b : Bool) → (is_stop x.fact && is_by q x.actor) ≡ b → added b (stops q T) ≡ stops q T
       by_stop true is =
-          let before = steady.stops x (in_head x T (history doc (suc e)) at) (stop_is x.fact (and_left (is_stop x.fact) (is_by q x.actor) is)) (by_process q x.actor (and_right (is_stop x.fact) (is_by q x.actor) is)) in
+          let before = steady.stops x (in_head x T (history doc (suc e)) at) (stop_is doc x.beat x.step x.actor x.fact T (are_made doc rules (suc e) x T at) (and_left (is_stop x.fact) (is_by q x.actor) is)) (by_process q x.actor (and_right (is_stop x.fact) (is_by q x.actor) is)) in
           absurd (omega (arith, before, above.0))
       by_stop false is = refl
 
@@ -175,7 +184,7 @@ module _ (doc : Doc) (near far a e : ℕ) (q : Identity) (steady : IsSteady doc 
       at_turn_none : stops q turn ≡ 0
       at_turn_none =
           ((turn_right doc (greatest_below doc (length doc.controllers)) (rates_at_most doc) sound q.process k (omega (arith, to, end))).lives q.process q.incarnation
-          (present_is (alive q.process turn) q.incarnation (and_left (is_present (alive q.process turn) q.incarnation) (is_before (local doc q.process k) (deadline doc q turn)) (term_of doc q k turn acting.1)))).0
+          (present_is (alive q.process turn) q.incarnation (and_left (is_present (alive q.process turn) q.incarnation) (is_before (local doc q.process k) (deadline doc q turn)) (term_of doc rules q k turn acting.1)))).0
 
       first : q.process ≤ processes doc
       first = omega (arith, controllers_first doc q.process acting.0)

@@ -67,10 +67,10 @@ module _ (doc : Doc) (near far a e : ℕ) (sound : IsSound doc) (calm : IsCalm d
   all_of h at = tail_trans h (history doc (suc y)) (history doc (suc e)) at (later_tail doc (suc y) (suc e) (omega (arith, to)))
 
   asked_high : IsTail (o.begun.f ∷ o.begun.before) (history doc (suc e))
-  asked_high = all_of (o.begun.f ∷ o.begun.before) (sending_high doc near far a e q role steady s.call (Done s.version) s.before y s.position o to)
+  asked_high = all_of (o.begun.f ∷ o.begun.before) (sending_high doc sound.2 near far a e q role steady s.call (Done s.version) s.before y s.position o to)
 
   pub write_high : IsTail (o.e ∷ o.low) (history doc (suc e))
-  write_high = all_of (o.e ∷ o.low) (answer_high doc near far a e q role steady s.call (Done s.version) s.before y s.position o to)
+  write_high = all_of (o.e ∷ o.low) (answer_high doc sound.2 near far a e q role steady s.call (Done s.version) s.before y s.position o to)
 
   abbrev pub what : IsSuccess s.call.request s.version
   what = success_is s.call.request s.version s.success
@@ -86,7 +86,7 @@ module _ (doc : Doc) (near far a e : ℕ) (sound : IsSound doc) (calm : IsCalm d
   shown_low = reply ∷ s.before
 
   pub start : IsSet doc q y s.version what.lease shown_low
-  start = is_set doc q role y s.call s.version s.before s.success s.position
+  start = is_set doc sound.2 q role y s.call s.version s.before s.success s.position
 
   reply_high : IsTail shown_low (history doc (suc e))
   reply_high = all_of shown_low s.position
@@ -127,10 +127,10 @@ module _ (doc : Doc) (near far a e : ℕ) (sound : IsSound doc) (calm : IsCalm d
         asked = tail_trans (w.f ∷ w.low) T (history doc (suc e)) w.asked (tail_trans T (x ∷ T) (history doc (suc e)) (inr (tail_all T)) (up_e (x ∷ T) at))
 
         sending : (s : Sending doc a e q w.call (Some x.beat)) × (s.f ≡ w.f) × (s.before ≡ w.low)
-        sending = sending_of doc near far a e e q role steady (time q.process role steady) (omega arith) one w.call (Some x.beat) w.f w.low asked (w.f_actor ∙ ap actor_of mine) w.f_fact (omega (arith, late, s.from))
+        sending = sending_of doc sound.2 near far a e e q role steady (time q.process role steady) (omega arith) one w.call (Some x.beat) w.f w.low asked (w.f_actor ∙ ap actor_of mine) w.f_fact (omega (arith, late, s.from))
 
         at_sending : IsFree q w.f w.low w.call
-        at_sending = is_free doc (suc e) q role w.f w.low w.call (Some x.beat) asked (w.f_actor ∙ ap actor_of mine) w.f_fact sending.0.opens
+        at_sending = is_free doc sound.2 (suc e) q role w.f w.low w.call (Some x.beat) asked (w.f_actor ∙ ap actor_of mine) w.f_fact sending.0.opens
 
         later : o.begun.f.beat < w.f.beat
         later = omega (arith, late, at_sending.sent, s.sent)
@@ -168,7 +168,7 @@ module _ (doc : Doc) (near far a e : ℕ) (sound : IsSound doc) (calm : IsCalm d
       where
         first_high : IsTail (o.e ∷ o.low) (history doc (suc n))
         first_high =
-            tail_trans (o.e ∷ o.low) (history doc (suc y)) (history doc (suc n)) (answer_high doc near far a e q role steady s.call (Done s.version) s.before y s.position o to) (later_tail doc (suc y) (suc n) (omega (arith, ge)))
+            tail_trans (o.e ∷ o.low) (history doc (suc y)) (history doc (suc n)) (answer_high doc sound.2 near far a e q role steady s.call (Done s.version) s.before y s.position o to) (later_tail doc (suc y) (suc n) (omega (arith, ge)))
 
     -- no such call wrote by a position
     abbrev pub NoneSince : List Entry → Type 0

@@ -11,12 +11,13 @@ use Rattle.kube_objects.specs.declared.object.Object.TheVariants as object
 use Rattle.kube_objects.specs.Answers.{lease_in, versioned, as_kind, answer_get, answer}
 use Rattle.kube_objects.specs.Clocks.{local}
 use Rattle.kube_objects.specs.Document.{Doc, of_seconds, is_controller, lease_seconds, lease_duration}
-use Rattle.kube_objects.specs.Elector.{Fails, Asks, moment, is_valid, updated, follow_get, follow, follow_on, Shown, told, shows, shown, is_known, newly, observed, observed_at}
-use Rattle.kube_objects.specs.Entry.{Entry, Identity, Call, Fact, First, Event, Starts, Stops, Sends, Answers, Delivers, Expires, Leads, Ends, Crashes, Stalls, Ticks, entry}
+use Rattle.kube_objects.specs.Elector.{Fails, Asks, moment, is_valid, updated, follow_get, follow, follow_on, Shown, told, shows, shown, is_known, newly, observed, observed_at, is_blocked}
+use Rattle.kube_objects.specs.Entry.{Entry, Identity, Call, Fact, First, Event, Starts, Stops, Sends, Answers, Delivers, Expires, Leads, Ends, Crashes, Stalls, Ticks, entry, StepsDown, ReleaseBegins, ReleaseEnds, ReleaseStops}
 use Rattle.kube_objects.specs.Identities.{is_by, is_same, is_other, holder_of}
 use Rattle.kube_objects.specs.Newest.{only_if, when, or_zero}
 use Rattle.kube_objects.specs.Process.{call_says}
 use Rattle.kube_objects.specs.Stored.{Held, election, stored}
+use Rattle.kube_objects.proofs.Own.{respected-own}
 use Rattle.history.specs.History.{history}
 use Rattle.history_laws.specs.Tails.{IsTail}
 use Rattle.history_laws.proofs.Plainly.{upper, some_is, none_is, and_both, same_is, same_self}
@@ -55,6 +56,10 @@ shows_none q who Starts is = refl
 shows_none q who Crashes is = refl
 shows_none q who Stops is = refl
 shows_none q who (Stalls beats) is = refl
+shows_none q who StepsDown is = refl
+shows_none q who (ReleaseBegins at_deadline) is = refl
+shows_none q who ReleaseEnds is = refl
+shows_none q who ReleaseStops is = refl
 shows_none q who Ends is = refl
 shows_none q who (Leads version) is = refl
 
@@ -115,7 +120,7 @@ module _ (doc : Doc) (near far b e : ℕ) (q : Identity) (l : LeadsUntil doc nea
       e_high = tail_trans (it.o.e ∷ it.o.low) S (history doc (suc e)) it.o.answered s_high
 
       way : IsWay near far it.o.e.beat d.beat
-      way = reply_way doc near far e c role steady it.o.e it.o.low e_high it.o.step d.beat (beat_before doc e d S d_high) it.o.comes_is
+      way = reply_way doc s.sound.2 near far e c role steady it.o.e it.o.low e_high it.o.step d.beat (beat_before doc e d S d_high) it.o.comes_is
 
       since : k.z.beat ≤ it.o.e.beat
       since = entries_rise doc (suc e) it.o.e it.o.low e_high k.z (in_head k.z k.before it.o.low it.low)
@@ -150,7 +155,7 @@ module _ (doc : Doc) (near far b e : ℕ) (q : Identity) (l : LeadsUntil doc nea
   shows_here = ap (λ t. only_if t (told w.request reply)) (same_self c) ∙ ap (λ request. told request reply) get ∙ ap (λ reply. told (Get election) reply) found
 
   way : IsWay near far o.e.beat r
-  way = reply_way doc near far e c role steady o.e o.low (tail_trans (o.e ∷ o.low) T (history doc (suc e)) o.answered high) o.step r within o.comes_is
+  way = reply_way doc s.sound.2 near far e c role steady o.e o.low (tail_trans (o.e ∷ o.low) T (history doc (suc e)) o.answered high) o.step r within o.comes_is
 
   since : y.beat ≤ o.e.beat
   since = omega (arith, k.beat, entries_rise doc (suc e) o.e o.low (tail_trans (o.e ∷ o.low) T (history doc (suc e)) o.answered high) k.z (in_head k.z k.before o.low k.position))
@@ -199,6 +204,7 @@ module _ (doc : Doc) (near far b e : ℕ) (q : Identity) (l : LeadsUntil doc nea
   pub blocked : follow_on doc c r w.kind w.request reply here ≡ Fails
   blocked =
       ap (λ request. follow c (moment doc c r) (observed_at doc c here) w.kind request reply) get ∙ ap (follow_get c (moment doc c r) (observed_at doc c here)) found
+      ∙ ap (λ l. cond (is_blocked c (local doc c.process r) (observed_at doc c here) l) Fails (Asks (Update election y.version (updated c (moment doc c r) lease)))) (respected-own doc s.sound.2 c r lease)
       ∙ ap (λ t. cond t Fails (Asks (Update election y.version (updated c (moment doc c r) lease)))) (and_both (is_other c lease.holder) (is_valid (local doc c.process r) (observed_at doc c here) lease) differs valid)
     where
       differs : is_other c lease.holder ≡ true

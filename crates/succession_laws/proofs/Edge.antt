@@ -8,8 +8,8 @@ use Rattle.kube_objects.specs.declared.call.Request.TheVariants.{Get, Create, Up
 use Rattle.kube_objects.specs.declared.key.Key.{Key}
 use Rattle.kube_objects.specs.Answers.{answer, written}
 use Rattle.kube_objects.specs.Document.{Doc, is_controller}
-use Rattle.kube_objects.specs.Elector.{Moment, moment, Fails, Asks, Succeeds, is_fast, is_blocked, updated, follow_get, not_done, follow_write, follow, observed_at, succeeds}
-use Rattle.kube_objects.specs.Entry.{Entry, Identity, Call, CallKind, Plain, Fast, Release, Answers, Delivers, entry}
+use Rattle.kube_objects.specs.Elector.{Moment, moment, Fails, Asks, Succeeds, is_fast, is_blocked, updated, follow_get, not_done, follow_write, follow, observed_at, succeeds, respected}
+use Rattle.kube_objects.specs.Entry.{Entry, Identity, Call, CallKind, Plain, Fast, Release, Answers, Delivers, entry, Look, Emptying}
 use Rattle.kube_objects.specs.Newest.{has}
 use Rattle.kube_objects.specs.Stored.{election, stored, at_key, write_of, request_write}
 use Rattle.kube_objects.specs.Wire.{Sent, back_of, reply_arrival}
@@ -51,6 +51,8 @@ no_get r key is write = subst IsWrite is write
 not_done_fast : (kind : CallKind) (key : Key) → not_done kind ≡ Asks (Get key) → is_fast kind ≡ true
 not_done_fast Plain key is = absurd (fails_not (Get key) is)
 not_done_fast Release key is = absurd (fails_not (Get key) is)
+not_done_fast (Look begun) key is = absurd (fails_not (Get key) is)
+not_done_fast (Emptying begun) key is = absurd (fails_not (Get key) is)
 not_done_fast Fast key is = refl
 
 succeeds_asks : (version : Version) (r : Request) → Succeeds version ≡ Asks r → ⊥
@@ -66,7 +68,7 @@ write_fast kind Unchanged key is = not_done_fast kind key is
 
 get_writes : (q : Identity) (m : Moment) (seen : ℕ) (reply : Reply) (key : Key) → follow_get q m seen reply ≡ Asks (Get key) → ⊥
 get_writes q m seen Absent key is = no_get _ key (asks_same _ (Get key) is) tt
-get_writes q m seen (Found version lease) key is = by_test (is_blocked q m.now seen lease) is
+get_writes q m seen (Found version lease) key is = by_test (is_blocked q m.now seen (respected m.respect m.seconds lease)) is
   where
     by_test : (b : Bool) → cond b Fails (Asks (Update election version (updated q m lease))) ≡ Asks (Get key) → ⊥
     by_test true is = fails_not (Get key) is
@@ -110,14 +112,14 @@ module _ (doc : Doc) (near far b e : ℕ) (q : Identity) (l : LeadsUntil doc nea
   x_upto = ⊎_elim (λ lt. omega (arith, lt)) (λ first. omega (arith, first.0)) (entries_are_earlier doc (suc k) x (in_head x S (history doc (suc k)) x_low))
 
   way : IsWay near far x.beat k
-  way = request_way doc near far e c.process (l.others c.process role other) (suc k) x S c w o.begun.arrives x_low role refl o.begun.actor o.begun.fact (omega (arith, x_upto, within)) k o.arrives
+  way = request_way doc s.sound.2 near far e c.process (l.others c.process role other) (suc k) x S c w o.begun.arrives x_low role refl o.begun.actor o.begun.fact (omega (arith, x_upto, within)) k o.arrives
 
   -- its Get was sent in its turn
   in_turn : x.step ≡ 4
   in_turn = by_step made.step_is
     where
       made : MadeSend doc x.beat x.step x.actor w o.begun.arrives S
-      made = subst (λ d. MadeAs doc x.beat x.step x.actor d S) o.begun.fact (are_made doc (suc k) x S x_low)
+      made = subst (λ d. MadeAs doc x.beat x.step x.actor d S) o.begun.fact (are_made doc s.sound.2 (suc k) x S x_low)
 
       mine : made.q ≡ c
       mine = actor_is made.q c (sym made.by ∙ o.begun.actor)
@@ -126,7 +128,7 @@ module _ (doc : Doc) (near far b e : ℕ) (q : Identity) (l : LeadsUntil doc nea
       role_made = ap (λ (p : Identity). is_controller doc p.process) mine ∙ role
 
       sending : (p : Sending doc 0 k c w o.begun.arrives) × (p.f ≡ x) × (p.before ≡ S)
-      sending = sending_of doc near far 0 e k c role (l.others c.process role other) (s.calls c.process role) within s.one w o.begun.arrives x S x_low o.begun.actor o.begun.fact (omega arith)
+      sending = sending_of doc s.sound.2 near far 0 e k c role (l.others c.process role other) (s.calls c.process role) within s.one w o.begun.arrives x S x_low o.begun.actor o.begun.fact (omega arith)
 
       late : 3 ≤ x.step
       late = subst (λ (f : Entry). 3 ≤ f.step) sending.1 sending.0.step
@@ -143,11 +145,11 @@ module _ (doc : Doc) (near far b e : ℕ) (q : Identity) (l : LeadsUntil doc nea
           at_s = subst (λ g. IsTail g (history doc (suc k))) f.is (tail_trans S (x ∷ S) (history doc (suc k)) (inr (tail_all S)) x_low)
 
           from : Origin doc made.q f.waiting f.reply f.before x.beat
-          from = origin doc (suc k) made.q (entry x.beat 3 made.q (Delivers f.waiting f.reply true)) f.before f.waiting f.reply at_s refl refl
+          from = origin doc s.sound.2 (suc k) made.q (entry x.beat 3 made.q (Delivers f.waiting f.reply true)) f.before f.waiting f.reply at_s refl refl
 
           plain : (is_fast f.waiting.kind ≡ false) × (from.begun.f.step ≡ 4 → f.waiting.request ≡ Get election)
           plain =
-              sends_plainly doc slowly (suc k) from.begun.f from.begun.before made.q f.waiting from.begun.arrives
+              sends_plainly doc s.sound.2 slowly (suc k) from.begun.f from.begun.before made.q f.waiting from.begun.arrives
               (tail_trans (from.begun.f ∷ from.begun.before) f.before (history doc (suc k)) from.begun.position (tail_trans f.before _ (history doc (suc k)) (inr (tail_all f.before)) at_s)) from.begun.actor from.begun.fact role_made
 
       by_step : (x.step ≡ 1) ⊎ ((x.step ≡ 3) ⊎ (x.step ≡ 4)) → x.step ≡ 4
@@ -187,7 +189,7 @@ module _ (doc : Doc) (near far b e : ℕ) (q : Identity) (l : LeadsUntil doc nea
     z_step = omega (arith, made.step_is)
       where
         made : MadeAnswer doc z.beat z.step z.actor won.call won.reply won.comes won.wrote Z
-        made = subst (λ d. MadeAs doc z.beat z.step z.actor d Z) won.fact (are_made doc (suc k) z Z at)
+        made = subst (λ d. MadeAs doc z.beat z.step z.actor d Z) won.fact (are_made doc s.sound.2 (suc k) z Z at)
 
     mine : won.who.process ≡ q.process
     mine = writer_is_its doc near far b e q l s k within (omega (arith, last)) quiet z Z at first_below won z_step
@@ -199,18 +201,18 @@ module _ (doc : Doc) (near far b e : ℕ) (q : Identity) (l : LeadsUntil doc nea
     f_high = tail_trans (its.f ∷ its.low) Z (history doc (suc k)) its.asked (tail_trans Z (z ∷ Z) (history doc (suc k)) (inr (tail_all Z)) at)
 
     its_way : IsWay near far its.f.beat z.beat
-    its_way = request_way doc near far (b - 1) q.process l.steady (suc k) its.f its.low its.who its.call (Some z.beat) f_high l.role its.mine its.f_actor its.f_fact (omega (arith, its.early, its.sent)) z.beat refl
+    its_way = request_way doc s.sound.2 near far (b - 1) q.process l.steady (suc k) its.f its.low its.who its.call (Some z.beat) f_high l.role its.mine its.f_actor its.f_fact (omega (arith, its.early, its.sent)) z.beat refl
 
     -- the leader's update was sent after a reply
     f_step : its.f.step ≤ 3
     f_step = by_step made.step_is
       where
         made : MadeSend doc its.f.beat its.f.step its.f.actor its.call (Some z.beat) its.low
-        made = subst (λ d. MadeAs doc its.f.beat its.f.step its.f.actor d its.low) its.f_fact (are_made doc (suc k) its.f its.low f_high)
+        made = subst (λ d. MadeAs doc its.f.beat its.f.step its.f.actor d its.low) its.f_fact (are_made doc s.sound.2 (suc k) its.f its.low f_high)
 
         plain : (is_fast its.call.kind ≡ false) × (its.f.step ≡ 4 → its.call.request ≡ Get election)
         plain =
-            sends_plainly doc slowly (suc k) its.f its.low its.who its.call (Some z.beat) f_high its.f_actor its.f_fact (ap (is_controller doc) its.mine ∙ l.role)
+            sends_plainly doc s.sound.2 slowly (suc k) its.f its.low its.who its.call (Some z.beat) f_high its.f_actor its.f_fact (ap (is_controller doc) its.mine ∙ l.role)
 
         writing : IsWrite its.call.request
         writing = success_writes its.call.request its.reply its.so
@@ -254,13 +256,13 @@ module _ (doc : Doc) (near far b e : ℕ) (q : Identity) (l : LeadsUntil doc nea
     get_at : o.low ≡ two.above
     get_at =
         same_rest o.e _ o.low two.above
-        (answers_differ doc (suc k) o.e _ o.low two.above (record { who = c; call = w; reply = reply; comes = Some y }) (record { who = c; call = w; reply = answer w.request two.above; comes = reply_arrival doc c.process k two.above }) e_high two.position
+        (answers_differ doc s.sound.2 (suc k) o.e _ o.low two.above (record { who = c; call = w; reply = reply; comes = Some y }) (record { who = c; call = w; reply = answer w.request two.above; comes = reply_arrival doc c.process k two.above }) e_high two.position
         (ap (λ d. back_of o.e.actor d) o.fact ∙ ap (λ who. back_of who (Answers w reply (Some y) (written w.request o.low))) o.actor) refl refl refl)
 
     write_at : IsTail (z ∷ Z) two.above
     write_at =
         subst (λ g. IsTail g two.above)
-        (sym (answers_differ doc (suc k) z _ Z two.below (record { who = its.who; call = its.call; reply = its.reply; comes = its.comes })
+        (sym (answers_differ doc s.sound.2 (suc k) z _ Z two.below (record { who = its.who; call = its.call; reply = its.reply; comes = its.comes })
         (record { who = its.who; call = its.call; reply = answer its.call.request two.below; comes = reply_arrival doc its.who.process k two.below }) at
         (tail_trans _ two.above (history doc (suc k)) two.order (tail_trans two.above (answered doc k s_sent two.above) (history doc (suc k)) (inr (tail_all two.above)) two.position))
         (ap (λ d. back_of z.actor d) its.fact ∙ ap (λ who. back_of who (Answers its.call its.reply its.comes its.wrote)) its.actor) refl refl refl)) two.order

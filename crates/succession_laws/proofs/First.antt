@@ -10,6 +10,7 @@ use Rattle.kube_objects.specs.Stored.{election, key_of, Held}
 use Rattle.kube_objects.specs.declared.call.Reply.{Reply}
 use Rattle.kube_objects.specs.declared.call.Reply.TheVariants.{Done}
 use Rattle.kube_objects.specs.declared.call.Request.TheVariants.{Get}
+use Rattle.kube_objects.specs.Own.{IsOwn}
 use Rattle.history.specs.History.{history, at_turn}
 use Rattle.history.specs.Safe.{Acts}
 use Rattle.history.specs.Steps.{restart}
@@ -26,7 +27,7 @@ use Rattle.calm_laws.proofs.Replies.{wrote_by}
 use Rattle.calm_laws.specs.Bounds.{LastsFor}
 use Rattle.calm_laws.proofs.First as first
 
-module _ (doc : Doc) (near far e n : ℕ) (one : 1 ≤ near) (ways : near ≤ far) (within : n ≤ e) (q : Identity) (role : is_controller doc q.process ≡ true)
+module _ (doc : Doc) (rules : IsOwn doc) (near far e n : ℕ) (one : 1 ≤ near) (ways : near ≤ far) (within : n ≤ e) (q : Identity) (role : is_controller doc q.process ≡ true)
     (steady : IsSteady doc near far 0 e q.process) (my_time : IsInTime doc far 0 e q.process) (none : (k : ℕ) → 0 ≤ k → k ≤ n → Acts doc q k → ⊥) (led : (h : List Entry) → IsTail h (history doc (suc n)) → leads q h ≡ false)
     (lasting : ℕ) (top : Option Held) (lasts : LastsFor lasting (object_of top)) (K : ℕ) (some : 1 ≤ K)
     (given : (w : Call) (reply : Reply) (T : List Entry) (y : ℕ) → Origin doc q w reply T y → IsTail T (history doc (suc n)) → w.request ≡ Get election → K ≤ y → y + far ≤ n → reply ≡ answer_get (as_kind lease_in top))
@@ -38,7 +39,7 @@ module _ (doc : Doc) (near far e n : ℕ) (one : 1 ≤ near) (ways : near ≤ fa
   -- its writes aren't accepted: it would act
   refused : (w : Call) (reply : Reply) (T : List Entry) (y : ℕ) → (o : Origin doc q w reply T y) → IsTail T (history doc (suc n)) → IsWrite w.request → o.e.beat + far ≤ n → (version : Version) → reply ≡ Done version → ⊥
   refused w reply T y o high write soon version done =
-      writer_acts doc near far 0 e n q role steady my_time within one none o.e o.low (tail_trans (o.e ∷ o.low) T (history doc (suc n)) o.answered high) o.actor
+      writer_acts doc rules near far 0 e n q role steady my_time within one none o.e o.low (tail_trans (o.e ∷ o.low) T (history doc (suc n)) o.answered high) o.actor
       (subst (WritesElection 0) (sym o.fact) (omega arith, wrote_by w.request o.low version write is_key (sym o.reply_is ∙ done))) soon
     where
       sending : IsTail (o.begun.f ∷ o.begun.before) (history doc (suc n))
@@ -48,11 +49,11 @@ module _ (doc : Doc) (near far e n : ℕ) (one : 1 ≤ near) (ways : near ≤ fa
       unled = led o.begun.before (tail_trans o.begun.before (o.begun.f ∷ o.begun.before) (history doc (suc n)) (inr (tail_all o.begun.before)) sending)
 
       is_key : key_of w.request ≡ election
-      is_key = reason_key doc o.begun.f.beat q w.request o.begun.before (reason_of doc (suc n) q role o.begun.f o.begun.before w o.begun.arrives sending o.begun.actor o.begun.fact unled o.begun.opens).0
+      is_key = reason_key doc o.begun.f.beat q w.request o.begun.before (reason_of doc rules (suc n) q role o.begun.f o.begun.before w o.begun.arrives sending o.begun.actor o.begun.fact unled o.begun.opens).0
 
   pub none_first : alive q.process (restart doc G q.process (at_turn doc q.process G)) ≡ Some q.incarnation → ⊥
   none_first =
-      first.none_first doc near far 0 e n one ways within q role steady my_time none led lasting top lasts K (omega (arith, some))
+      first.none_first doc rules near far 0 e n one ways within q role steady my_time none led lasting top lasts K (omega (arith, some))
       (λ w reply T y o high get late to soon. given w reply T y o high get late to) (λ w reply T y o high write late to. refused w reply T y o high write)
       (λ x T call arrives at actor fact opens. no_writes x T call arrives at actor fact) slow fast wait needed from low_from runs_least runs_most waits wait_is needed_is
       enough most enough_is most_is G after low_wait room (λ call k before. absurd (omega (arith, before)))

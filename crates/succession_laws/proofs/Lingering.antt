@@ -71,7 +71,7 @@ module _ (doc : Doc) (near far b e : ℕ) (q : Identity) (sound : IsSound doc) (
         soon lt = omega (arith, lt)
 
         o : Origin doc q w reply T x.beat
-        o = origin doc (suc n) q x T w reply at actor fact
+        o = origin doc sound.2 (suc n) q x T w reply at actor fact
 
         high : IsTail T (history doc (suc n))
         high = tail_trans T (x ∷ T) (history doc (suc n)) (inr (tail_all T)) at
@@ -83,7 +83,7 @@ module _ (doc : Doc) (near far b e : ℕ) (q : Identity) (sound : IsSound doc) (
         f_high = tail_trans (o.begun.f ∷ o.begun.before) T (history doc (suc n)) o.begun.position high
 
         sent : w.sent ≡ o.begun.f.beat
-        sent = its_call_sent doc (suc n) o.begun.f o.begun.before q w o.begun.arrives f_high o.begun.actor o.begun.fact
+        sent = its_call_sent doc sound.2 (suc n) o.begun.f o.begun.before q w o.begun.arrives f_high o.begun.actor o.begun.fact
 
         done : (version : Version) × (reply ≡ Done version)
         done = done_of w.request reply so
@@ -103,13 +103,13 @@ module _ (doc : Doc) (near far b e : ℕ) (q : Identity) (sound : IsSound doc) (
                 (subst (WritesElection b) (sym o.fact) (le, wrote))
 
         way : IsWay near far o.begun.f.beat o.e.beat
-        way = request_way doc near far (b - 1) q.process l.steady (suc n) o.begun.f o.begun.before q w o.begun.arrives f_high l.role refl o.begun.actor o.begun.fact (omega (arith, early, sent)) o.e.beat o.arrives
+        way = request_way doc sound.2 near far (b - 1) q.process l.steady (suc n) o.begun.f o.begun.before q w o.begun.arrives f_high l.role refl o.begun.actor o.begun.fact (omega (arith, early, sent)) o.e.beat o.arrives
 
         e_upto : o.e.beat ≤ n
         e_upto = omega (arith, way.most, early, sent, room, some_way)
 
         delay : reply_delay q.process o.low ≡ reply_delay q.process (with_events doc o.e.beat)
-        delay = ap (or_else 1) ((forces_stand doc (suc n) o.e o.low e_high (omega (arith, o.step))).0 (reply_delay_of q.process))
+        delay = ap (or_else 1) ((forces_stand doc sound.2 (suc n) o.e o.low e_high (omega (arith, o.step))).0 (reply_delay_of q.process))
 
         late : suc last ≤ x.beat → x.beat ≤ last
         late le =
@@ -138,7 +138,7 @@ module _ (doc : Doc) (near far b e : ℕ) (q : Identity) (sound : IsSound doc) (
     where
       over : b + 2 * far + lasting < k + 2 → ⊥
       over lt =
-          none_acts doc 0 e k end to q l.role awake last (last + lasting) (omega arith) (omega (arith, some_lasting)) (omega (arith, lt, some_way))
+          none_acts doc sound.2 0 e k end to q l.role awake last (last + lasting) (omega arith) (omega (arith, some_lasting)) (omega (arith, lt, some_way))
           (readings_grow doc q.process b e slow (retry_period doc q.process + renew_deadline doc q.process) lasting runs is_enough last (last + lasting) (omega (arith, some_way)) (omega arith) (omega (arith, lt, to, some_way)))
           (success_by k to (omega (arith, lt, some_way))) k (omega (arith, lt, some_way)) (omega arith) acting
 

@@ -1,17 +1,18 @@
 -- A controller other than the leader acts in a span, or none does: for callers.
-use Rattle.std.proofs.Common.{◌≡◌, ◌⊎◌, ◌<◌, ◌≤◌, ℕ, zero, suc, not, Bool, true, false, List, Option, Some, None, refl, sym, ap, ◌∙◌, subst, inl, inr, ⊎_elim, arith}
+use Rattle.std.proofs.Common.{◌≡◌, ◌⊎◌, ◌<◌, ◌≤◌, ℕ, zero, suc, Bool, true, false, List, Option, Some, None, refl, sym, ap, ◌∙◌, subst, inl, inr, ⊎_elim, arith}
 use Rattle.std.proofs.lemmas.Bool.{cases_eq, cases_lt}
 use Rattle.kube_objects.specs.Clocks.{local}
 use Rattle.kube_objects.specs.Document.{Doc, processes, is_controller}
-use Rattle.kube_objects.specs.Elector.{acts, in_term, is_before, deadline, leads}
+use Rattle.kube_objects.specs.Elector.{acts, is_before, deadline, leads}
 use Rattle.kube_objects.specs.Entry.{Entry, Identity}
 use Rattle.kube_objects.specs.Identities.{identity}
-use Rattle.kube_objects.specs.Pauses.{is_paused}
 use Rattle.kube_objects.specs.Process.{alive, is_present}
+use Rattle.kube_objects.specs.Own.{IsOwn}
+use Rattle.lease_laws.proofs.Claims.{term_of}
 use Rattle.history.specs.History.{at_turn, history}
 use Rattle.history.specs.Safe.{Acts}
 use Rattle.history_laws.proofs.Counting.{present_is}
-use Rattle.history_laws.proofs.Plainly.{true_is, false_is, and_left, and_right}
+use Rattle.history_laws.proofs.Plainly.{true_is, false_is, and_left}
 use Rattle.takeover_laws.proofs.Acting.{Searched, search}
 use Rattle.takeover_laws.proofs.Standing.{controllers_first, persists}
 use Rattle.history_laws.specs.Tails.{IsTail}
@@ -22,7 +23,7 @@ use Rattle.calm_laws.proofs.Life.{never_led, restart_same}
 use Rattle.silence_laws.specs.Silence.{LeadsUntil, Bears}
 use Rattle.history.specs.Steps.{restart}
 
-module _ (doc : Doc) (b n : ℕ) (q : Identity) where
+module _ (doc : Doc) (rules : IsOwn doc) (b n : ℕ) (q : Identity) where
   abbrev acting : ℕ → ℕ → Option ℕ → Bool
   acting r k None = false
   acting r k (Some i) = acts doc (identity r i) k (at_turn doc r k)
@@ -36,7 +37,7 @@ module _ (doc : Doc) (b n : ℕ) (q : Identity) where
       up : alive r.process g ≡ Some r.incarnation
       up =
           present_is (alive r.process g) r.incarnation
-          (and_left (is_present (alive r.process g) r.incarnation) (is_before (local doc r.process k) (deadline doc r g)) (and_right (not (is_paused doc r.process k)) (in_term doc r k g) is.1))
+          (and_left (is_present (alive r.process g) r.incarnation) (is_before (local doc r.process k) (deadline doc r g)) (term_of doc rules r k g is.1))
 
   pub record Another : Type 0 where
     pub r : Identity
@@ -119,12 +120,12 @@ module _ (doc : Doc) (near far b e : ℕ) (q : Identity) (l : LeadsUntil doc nea
 
   -- it stays up
   late : (h : List Entry) → IsTail S h → IsTail h (history doc (suc n)) → alive p h ≡ Some i
-  late h low high = persists doc near far 0 e n c role (s.calls p role).deadline (l.others p role other) within none (omega arith) S h s_low low high up
+  late h low high = persists doc s.sound.2 near far 0 e n c role (s.calls p role).deadline (l.others p role other) within none (omega arith) S h s_low low high up
 
   -- and it never leads
   pub led_not : (h : List Entry) → IsTail h (history doc (suc n)) → leads c h ≡ false
   led_not =
-      never_led doc near far 0 e n c role (s.calls p role).deadline (l.others p role other) within none (omega arith)
+      never_led doc s.sound.2 near far 0 e n c role (s.calls p role).deadline (l.others p role other) within none (omega arith)
       (late (history doc (suc n)) (tail_trans S (history doc (suc b)) (history doc (suc n)) s_high (later_tail doc (suc b) (suc n) (omega (arith, later)))) (tail_all (history doc (suc n))))
 
   -- it is up in its turn of a later beat

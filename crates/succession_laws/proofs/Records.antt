@@ -130,7 +130,7 @@ module _ (doc : Doc) (near far b e : ℕ) (q : Identity) (l : LeadsUntil doc nea
     asked_high = tail_trans (w.f ∷ w.low) T (history doc (suc n)) w.asked (tail_trans T (x ∷ T) (history doc (suc n)) (inr (tail_all T)) at)
 
     sent : w.call.sent ≡ w.f.beat
-    sent = (subst (λ o. IfSome o (λ s. (s.call.sent ≡ w.f.beat) × (s.arrives ≡ request_arrival s.who.process w.f.beat w.low))) (sent_is w.f w.who w.call (Some x.beat) w.f_actor w.f_fact) (messages_travel doc (suc n) w.f w.low asked_high).0).0
+    sent = (subst (λ o. IfSome o (λ s. (s.call.sent ≡ w.f.beat) × (s.arrives ≡ request_arrival doc s.who.process w.f.beat w.low))) (sent_is w.f w.who w.call (Some x.beat) w.f_actor w.f_fact) (messages_travel doc s.sound.2 (suc n) w.f w.low asked_high).0).0
 
     -- as its request fits its sender, so does what it writes
     right : SentRight doc (greatest_below doc (length doc.controllers)) (b - 1) (view (history doc (suc (b - 1)))) (record { who = w.who; call = w.call; arrives = Some x.beat })
@@ -148,13 +148,13 @@ module _ (doc : Doc) (near far b e : ℕ) (q : Identity) (l : LeadsUntil doc nea
 
     own : (lease : Lease) → Fit doc (view (history doc (suc (b - 1)))) w.who lease → (lease.holder ≡ holder_of w.who) × (lease.duration ≡ Some (lease_seconds doc w.who.process))
     own lease (inl fit) = fit
-    own lease (inr free) = absurd (omega (arith, free.1, never_stopped doc near far (b - 1) w.who (subst (IsSteady doc near far 0 (b - 1)) (sym mine) l.steady) (history doc (suc (b - 1))) (tail_all (history doc (suc (b - 1))))))
+    own lease (inr free) = absurd (omega (arith, free.1, never_stopped doc s.sound.2 near far (b - 1) w.who (subst (IsSteady doc near far 0 (b - 1)) (sym mine) l.steady) (history doc (suc (b - 1))) (tail_all (history doc (suc (b - 1))))))
 
     wrote_is : w.wrote ≡ written w.call.request T
     wrote_is = made.written_is ∙ ap (λ (c : Call). written c.request T) (sym made.call_is)
       where
         made : MadeAnswer doc x.beat x.step x.actor w.call w.reply w.comes w.wrote T
-        made = subst (λ d. MadeAs doc x.beat x.step x.actor d T) w.fact (are_made doc (suc n) x T at)
+        made = subst (λ d. MadeAs doc x.beat x.step x.actor d T) w.fact (are_made doc s.sound.2 (suc n) x T at)
 
     -- what it writes is what it asked for
     record Written : Type 0 where
@@ -202,7 +202,7 @@ module _ (doc : Doc) (near far b e : ℕ) (q : Identity) (l : LeadsUntil doc nea
     its_beat =
         omega (
           arith,
-          (request_way doc near far (b - 1) q.process l.steady (suc n) w.f w.low w.who w.call (Some x.beat) asked_high l.role mine w.f_actor w.f_fact (omega (arith, early, sent)) x.beat refl).most,
+          (request_way doc s.sound.2 near far (b - 1) q.process l.steady (suc n) w.f w.low w.who w.call (Some x.beat) asked_high l.role mine w.f_actor w.f_fact (omega (arith, early, sent)) x.beat refl).most,
           early,
           sent,
         )
@@ -216,7 +216,7 @@ module _ (doc : Doc) (near far b e : ℕ) (q : Identity) (l : LeadsUntil doc nea
       where
         foreign : (w.who.process ≡ q.process → ⊥) → ⊥
         foreign other =
-            writer_acts doc near far 0 e n w.who w.role (l.others w.who.process w.role other) (s.calls w.who.process w.role) within s.one (λ k from to. idle w.who w.role other k to) x T at w.actor
+            writer_acts doc s.sound.2 near far 0 e n w.who w.role (l.others w.who.process w.role other) (s.calls w.who.process w.role) within s.one (λ k from to. idle w.who w.role other k to) x T at w.actor
             (subst (WritesElection 0) (sym w.fact) (omega arith, ap (λ d. has (at_key election (write_of d))) (sym w.fact) ∙ writes)) late
 
     -- from beat b + far on it is the same

@@ -60,7 +60,7 @@ module _ (doc : Doc) (near far b e : ℕ) (q : Identity) (l : LeadsUntil doc nea
       no_end x T stands fact mine same = by_term (same_or_fresh doc r x.beat (history doc x.beat) T lasts low)
         where
           made : MadeEnd doc x.beat x.step x.actor T
-          made = subst (λ d. MadeAs doc x.beat x.step x.actor d T) fact (are_made doc (suc e) x T stands)
+          made = subst (λ d. MadeAs doc x.beat x.step x.actor d T) fact (are_made doc s.sound.2 (suc e) x T stands)
 
           r : Identity
           r = made.q
@@ -91,11 +91,11 @@ module _ (doc : Doc) (near far b e : ℕ) (q : Identity) (l : LeadsUntil doc nea
           low = (next_above (λ y. x.beat ≤ y.beat) (history doc x.beat) T (history doc (suc e)) x (from_beat doc x.beat (suc e) (omega (arith, within_e))) above_start stands).1
 
           before : (k : ℕ) → suc k ≡ x.beat → deadline doc r (history doc x.beat) ≡ Some made.at → ⊥
-          before k is was = none_is made.at (sym (unled doc near far 0 e (d - 1) r role_r lasts (subst (IsSteady doc near far 0 e) (sym process) steady) (omega (arith, within))
+          before k is was = none_is made.at (sym (unled doc s.sound.2 near far 0 e (d - 1) r role_r lasts (subst (IsSteady doc near far 0 e) (sym process) steady) (omega (arith, within))
               (λ k from to. idle r role_r (λ is. other (sym process ∙ is)) k (omega (arith, to, some))) k (omega arith) (omega (arith, is, same)) (ap (λ k. alive r.process (history doc k)) is ∙ there)) ∙ ap (λ k. deadline doc r (history doc k)) is ∙ was)
             where
               over : Over r (history doc x.beat) → ⊥
-              over o = (over_stays doc (suc e) r (history doc x.beat) T below above_start o).1 made.up
+              over o = (over_stays doc s.sound.2 (suc e) r (history doc x.beat) T below above_start o).1 made.up
 
               there : alive r.process (history doc x.beat) ≡ Some r.incarnation
               there = still_up r (history doc x.beat) (set_counted doc r x.beat made.at was) over
@@ -128,7 +128,7 @@ module _ (doc : Doc) (near far b e : ℕ) (q : Identity) (l : LeadsUntil doc nea
         soon : is_controller doc m.who.process ≡ true → at < d + far
         soon role =
             ⊎_elim (λ same. own x place.0 place.1 m facts.0 facts.1 same role at arrives)
-            (λ other. omega (arith, some, early, (request_way doc near far e m.who.process (l.others m.who.process role other) d x place.0 m.who m.call m.arrives place.1 role refl facts.0 facts.1 (omega (arith, early, within)) at arrives).most))
+            (λ other. omega (arith, some, early, (request_way doc s.sound.2 near far e m.who.process (l.others m.who.process role other) d x place.0 m.who m.call m.arrives place.1 role refl facts.0 facts.1 (omega (arith, early, within)) at arrives).most))
             (cases_eq m.who.process q.process)
 
         by_role : (t : Bool) → is_controller doc m.who.process ≡ t → at < d + far
@@ -163,7 +163,7 @@ module _ (doc : Doc) (near far b e : ℕ) (q : Identity) (l : LeadsUntil doc nea
             passes = steady.passes x.beat (omega arith) (omega (arith, early, within))
 
             made : MadeAnswer doc x.beat x.step x.actor m.call m.reply m.comes facts.wrote place.0
-            made = subst (λ d. MadeAs doc x.beat x.step x.actor d place.0) facts.fact (are_made doc d x place.0 place.1)
+            made = subst (λ d. MadeAs doc x.beat x.step x.actor d place.0) facts.fact (are_made doc s.sound.2 d x place.0 place.1)
 
             whose : made.s.who ≡ m.who
             whose = actor_is made.s.who m.who (sym made.by ∙ facts.by)
@@ -171,7 +171,7 @@ module _ (doc : Doc) (near far b e : ℕ) (q : Identity) (l : LeadsUntil doc nea
             arrival : m.comes ≡ Some (x.beat + reply_delay m.who.process (with_events doc x.beat))
             arrival =
                 made.comes_is ∙ ap (λ (r : Identity). reply_arrival doc r.process x.beat place.0) whose
-                ∙ reply_passes doc near far m.who.process x.beat place.0 passes (forces_stand doc d x place.0 place.1 (omega (arith, made.step_is)))
+                ∙ reply_passes doc near far m.who.process x.beat place.0 passes (forces_stand doc s.sound.2 d x place.0 place.1 (omega (arith, made.step_is)))
                 (steady.passes (x.beat + reply_delay m.who.process (with_events doc x.beat)) (omega arith) (omega (arith, passes.reply_most, early, room, some))).awake
 
         its_own : m.who.process ≡ q.process → at < d + far

@@ -81,7 +81,7 @@ module _ (doc : Doc) (near far b e : ℕ) (q : Identity) (l : LeadsUntil doc nea
   up_last =
       let acting = (it_stays doc near far b e q l s).acts a (omega (arith, (its_lead doc near far b e q l s).to, s.one, s.ways)) (omega arith) in
       let g = at_turn doc q.process a in
-      present_is (alive q.process g) q.incarnation (and_left (is_present (alive q.process g) q.incarnation) (is_before (local doc q.process a) (deadline doc q g)) (term_of doc q a g acting.1))
+      present_is (alive q.process g) q.incarnation (and_left (is_present (alive q.process g) q.incarnation) (is_before (local doc q.process a) (deadline doc q g)) (term_of doc s.sound.2 q a g acting.1))
 
   pub won_success : (z : Entry) (Z : List Entry) → IsTail (z ∷ Z) (history doc (suc a)) → (w : Won doc z Z) → w.who ≡ q → z.beat + 2 * far ≤ a → HasWon z Z
   won_success z Z at w mine room = record {
@@ -102,16 +102,16 @@ module _ (doc : Doc) (near far b e : ℕ) (q : Identity) (l : LeadsUntil doc nea
       my_time = times_before doc near far b e q l s q.process l.role l.steady
 
       sending : Sending doc 0 a q w.call (Some z.beat)
-      sending = (sending_of doc near far 0 a a q l.role l.steady my_time (omega arith) s.one w.call (Some z.beat) w.f w.low asked actor w.f_fact (omega arith)).0
+      sending = (sending_of doc s.sound.2 near far 0 a a q l.role l.steady my_time (omega arith) s.one w.call (Some z.beat) w.f w.low asked actor w.f_fact (omega arith)).0
 
       up_f : alive q.process w.low ≡ Some q.incarnation
-      up_f = let p = sending_of doc near far 0 a a q l.role l.steady my_time (omega arith) s.one w.call (Some z.beat) w.f w.low asked actor w.f_fact (omega arith) in subst (λ h. alive q.process h ≡ Some q.incarnation) p.2 p.0.up
+      up_f = let p = sending_of doc s.sound.2 near far 0 a a q l.role l.steady my_time (omega arith) s.one w.call (Some z.beat) w.f w.low asked actor w.f_fact (omega arith) in subst (λ h. alive q.process h ≡ Some q.incarnation) p.2 p.0.up
 
       f_upto : w.f.beat ≤ a
       f_upto = ⊎_elim (λ lt. omega (arith, lt)) (λ first. omega (arith, first.0)) (entries_are_earlier doc (suc a) w.f (in_head w.f w.low (history doc (suc a)) asked))
 
       way : IsWay near far w.f.beat z.beat
-      way = request_way doc near far a q.process l.steady (suc a) w.f w.low q w.call (Some z.beat) asked l.role refl actor w.f_fact f_upto z.beat refl
+      way = request_way doc s.sound.2 near far a q.process l.steady (suc a) w.f w.low q w.call (Some z.beat) asked l.role refl actor w.f_fact f_upto z.beat refl
 
       n : ℕ
       n = w.f.beat + 2 * far
@@ -124,12 +124,12 @@ module _ (doc : Doc) (near far b e : ℕ) (q : Identity) (l : LeadsUntil doc nea
 
       still : (h : List Entry) → IsTail w.low h → IsTail h (history doc (suc n)) → alive q.process h ≡ Some q.incarnation
       still h low high =
-          up_between doc (suc a) q w.low h (at_turn doc q.process a) low
+          up_between doc s.sound.2 (suc a) q w.low h (at_turn doc q.process a) low
           (tail_trans h (history doc a) (at_turn doc q.process a) (tail_trans h (history doc (suc n)) (history doc a) high (later_tail doc (suc n) a (omega (arith, way.least, s.one, room)))) (before_turn doc q.process a))
           turn_high up_f up_last
 
       r : IsReacted doc near far q w.call (Some z.beat) w.f.beat
-      r = replies_react doc near far 0 a n q l.role l.steady my_time s.one (omega (arith, way.least, room)) w.f w.low w.call (Some z.beat) f_n actor w.f_fact (omega arith) (omega arith) still
+      r = replies_react doc s.sound.2 near far 0 a n q l.role l.steady my_time s.one (omega (arith, way.least, room)) w.f w.low w.call (Some z.beat) f_n actor w.f_fact (omega arith) (omega arith) still
 
       reply : Reply
       reply = answer w.call.request r.round.before
@@ -145,7 +145,7 @@ module _ (doc : Doc) (near far b e : ℕ) (q : Identity) (l : LeadsUntil doc nea
 
       same : z ∷ Z ≡ there ∷ r.round.before
       same =
-          answers_differ doc (suc a) z there Z r.round.before z_back (record { who = q; call = w.call; reply = reply; comes = reply_arrival doc q.process r.round.at r.round.before }) at
+          answers_differ doc s.sound.2 (suc a) z there Z r.round.before z_back (record { who = q; call = w.call; reply = reply; comes = reply_arrival doc q.process r.round.at r.round.before }) at
           (tail_trans (there ∷ r.round.before) (history doc (suc r.round.at)) (history doc (suc a)) r.round.position (later_tail doc (suc r.round.at) (suc a) (omega (arith, r.round.most, way.least, room))))
           z_is refl mine refl
 
@@ -171,7 +171,7 @@ module _ (doc : Doc) (near far b e : ℕ) (q : Identity) (l : LeadsUntil doc nea
         before = r.before;
         position =
             subst (λ reply. IsTail (entry y 3 q (Delivers w.call reply true) ∷ r.before) (history doc (suc y))) done.1
-            (tail_trans (with_reply y q w.call reply r.before) _ (history doc (suc y)) (follow_adds y q (leads q (with_reply y q w.call reply r.before)) (follow_on doc q y w.call.kind w.call.request reply (with_reply y q w.call reply r.before)) (with_reply y q w.call reply r.before)) r.position);
+            (tail_trans (with_reply y q w.call reply r.before) _ (history doc (suc y)) (follow_adds doc y q (leads q (with_reply y q w.call reply r.before)) (follow_on doc q y w.call.kind w.call.request reply (with_reply y q w.call reply r.before)) (with_reply y q w.call reply r.before)) r.position);
         since = omega arith;
         success = ap (succeeds w.call.request) (sym done.1) ∙ ap (succeeds w.call.request) (sym reply_is) ∙ w.so;
       }
@@ -181,7 +181,7 @@ module _ (doc : Doc) (near far b e : ℕ) (q : Identity) (l : LeadsUntil doc nea
 
       same_origin : o.e ∷ o.low ≡ z ∷ Z
       same_origin =
-          answers_differ doc (suc a) o.e z o.low Z (record { who = q; call = w.call; reply = Done done.0; comes = Some y }) z_back
+          answers_differ doc s.sound.2 (suc a) o.e z o.low Z (record { who = q; call = w.call; reply = Done done.0; comes = Some y }) z_back
           (wrote.write_high doc near far 0 a s.sound (calm_before doc near far b e q l s) (times_before doc near far b e q l s) s.one (renewed.end doc near far b e q l s) q l.role l.steady s.renews y to (renewed.g doc near far b e q l s y to hs)) at
           (ap (λ d. back_of o.e.actor d) o.fact ∙ ap (λ who. back_of who (Answers w.call (Done done.0) (Some y) (written w.call.request o.low))) o.actor) z_is (sym mine) refl
 
@@ -312,7 +312,7 @@ module _ (doc : Doc) (near far b e : ℕ) (q : Identity) (l : LeadsUntil doc nea
     answered_step x T at w = omega (arith, made.step_is)
       where
         made : MadeAnswer doc x.beat x.step x.actor w.call w.reply w.comes w.wrote T
-        made = subst (λ d. MadeAs doc x.beat x.step x.actor d T) w.fact (are_made doc (suc m) x T at)
+        made = subst (λ d. MadeAs doc x.beat x.step x.actor d T) w.fact (are_made doc s.sound.2 (suc m) x T at)
 
     known : Waits doc plainly (end_beat doc) (whole_history doc)
     known = whole_known doc s.sound (greatest_below doc (length doc.controllers)) (rates_at_most doc) plainly (λ x h at from late. (omega arith, omega arith))
@@ -361,11 +361,11 @@ module _ (doc : Doc) (near far b e : ℕ) (q : Identity) (l : LeadsUntil doc nea
         f_upto = beat_upto w.f w.low asked
 
         way : IsWay near far w.f.beat x.beat
-        way = request_way doc near far e w.who.process (l.others w.who.process w.role other) (suc m) w.f w.low w.who w.call (Some x.beat) asked w.role refl w.f_actor w.f_fact (omega (arith, f_upto, within)) x.beat refl
+        way = request_way doc s.sound.2 near far e w.who.process (l.others w.who.process w.role other) (suc m) w.f w.low w.who w.call (Some x.beat) asked w.role refl w.f_actor w.f_fact (omega (arith, f_upto, within)) x.beat refl
 
         sent : w.call.sent ≡ w.f.beat
-        sent = (sending_of doc near far 0 e m w.who w.role (l.others w.who.process w.role other) (s.calls w.who.process w.role) within s.one w.call (Some x.beat) w.f w.low asked w.f_actor w.f_fact (omega arith)).0.sent
-            ∙ ap (λ (x : Entry). x.beat) (sending_of doc near far 0 e m w.who w.role (l.others w.who.process w.role other) (s.calls w.who.process w.role) within s.one w.call (Some x.beat) w.f w.low asked w.f_actor w.f_fact (omega arith)).1
+        sent = (sending_of doc s.sound.2 near far 0 e m w.who w.role (l.others w.who.process w.role other) (s.calls w.who.process w.role) within s.one w.call (Some x.beat) w.f w.low asked w.f_actor w.f_fact (omega arith)).0.sent
+            ∙ ap (λ (x : Entry). x.beat) (sending_of doc s.sound.2 near far 0 e m w.who w.role (l.others w.who.process w.role other) (s.calls w.who.process w.role) within s.one w.call (Some x.beat) w.f w.low asked w.f_actor w.f_fact (omega arith)).1
 
         beats : w.call.sent - waited.seen ≤ s.renews.wait + 5 * far - near
         beats = omega (arith, timely x T at step low o, way.least, sent, waited.late.0, s.ways, s.one)

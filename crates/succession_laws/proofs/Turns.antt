@@ -6,19 +6,20 @@ use Rattle.kube_objects.specs.Elector.{is_fast, leads, shown, moment, observed_a
 use Rattle.kube_objects.specs.Entry.{Entry, Identity, CallKind, Plain, Sends, actor_of, Call}
 use Rattle.kube_objects.specs.declared.call.Request.{Request}
 use Rattle.kube_objects.specs.Stored.{election}
+use Rattle.kube_objects.specs.Own.{IsOwn}
 use Rattle.history.specs.History.{history}
 use Rattle.history_laws.specs.Tails.{IsTail}
 use Rattle.calm_laws.proofs.Requests.{no_kubelet}
 use Rattle.calm_laws.proofs.Added.{SentFor, sends_for}
 
-module _ (doc : Doc) (slowly : doc.settings.fast_renew ≡ false) where
+module _ (doc : Doc) (rules : IsOwn doc) (slowly : doc.settings.fast_renew ≡ false) where
   attempt_plain : (q : Identity) (k : ℕ) (h : List Entry) → attempt doc q k h ≡ (Plain, Get election)
   attempt_plain q k h = ap (λ b. cond (b && leads q h) (attempt_from q (moment doc q k) (observed_at doc q h) (shown q h)) (Plain, Get election)) slowly
 
   -- what a controller sends is no renewal without a Get, and in its turn it is a Get
   pub sends_plainly : (k : ℕ) (x : Entry) (before : List Entry) (q : Identity) (call : Call) (arrives : Option ℕ) → IsTail (x ∷ before) (history doc k) → x.actor ≡ actor_of q → x.fact ≡ Sends call arrives → is_controller doc q.process ≡ true
       → (is_fast call.kind ≡ false) × (x.step ≡ 4 → call.request ≡ Get election)
-  sends_plainly k x before q call arrives at by fact role = cases (sends_for doc k x before q call arrives at by fact)
+  sends_plainly k x before q call arrives at by fact role = cases (sends_for doc rules k x before q call arrives at by fact)
     where
       cases : SentFor doc x q call before → (is_fast call.kind ≡ false) × (x.step ≡ 4 → call.request ≡ Get election)
       cases (inl released) = (ap is_fast released.1, λ four. absurd (omega (arith, four, released.0)))

@@ -6,7 +6,9 @@ use Rattle.kube_objects.specs.Clocks.{local}
 use Rattle.kube_objects.specs.Document.{Doc}
 use Rattle.kube_objects.specs.Entry as entry
 use Rattle.kube_objects.specs.Entry.{Entry, Identity}
+use Rattle.kube_objects.specs.Own.{IsOwn}
 use Rattle.kube_objects.specs.Tokens.{base, has_token, is_grown, token_size}
+use Rattle.kube_objects.proofs.Own.{has_token-own}
 use Rattle.rate_bucket.specs.Filling.{Filling, HasToken, after_attempt}
 use Rattle.taint_zones.specs.declared.limit.Limit.{Limit}
 use Rattle.taint_zones.specs.declared.place.Place.{Place}
@@ -29,18 +31,19 @@ test_is a b false both = by_test (nat_le a b) refl
     by_test true is = both.1 (true_le a b is)
 
 -- the token is there as the history says
-pub token_is : (doc : Doc) (q : Identity) (k : ℕ) (h : List Entry) (place : entry.Place) (limit : Limit) (now : ℕ) (taken : Bool) → LimitStands doc q h place (Some limit)
+pub token_is : (doc : Doc) → IsOwn doc → (q : Identity) (k : ℕ) (h : List Entry) (place : entry.Place) (limit : Limit) (now : ℕ) (taken : Bool) → LimitStands doc q h place (Some limit)
     → now ≡ local doc q.process k → IsTrue taken ↔ HasToken limit.bucket now → taken ≡ has_token doc q k place h
 unfolding token_size
-token_is doc q k h place limit now taken s reading both =
+token_is doc own q k h place limit now taken s reading both =
     test_is 1000000000000000 ((now - limit.bucket.base) * limit.bucket.rate) taken both
     ∙ ap (λ r. nat_le 1000000000000000 ((now - limit.bucket.base) * r)) s.rate
     ∙ ap (λ n. nat_le 1000000000000000 ((n - limit.bucket.base) * limit.rate)) reading
     ∙ ap (λ b. nat_le 1000000000000000 ((local doc q.process k - b) * limit.rate)) s.base
     ∙ ap (is_grown (local doc q.process k - local doc q.process (base q place h))) s.rated
+    ∙ sym (has_token-own doc own q k place h)
 
-pub no_token : (doc : Doc) (q : Identity) (k : ℕ) (h : List Entry) (place : entry.Place) → LimitStands doc q h place None → false ≡ has_token doc q k place h
-no_token doc q k h place s = ap (is_grown (local doc q.process k - local doc q.process (base q place h))) s.rated
+pub no_token : (doc : Doc) → IsOwn doc → (q : Identity) (k : ℕ) (h : List Entry) (place : entry.Place) → LimitStands doc q h place None → false ≡ has_token doc q k place h
+no_token doc own q k h place s = ap (is_grown (local doc q.process k - local doc q.process (base q place h))) s.rated ∙ sym (has_token-own doc own q k place h)
 
 module _ (limits new : BTreeMap Place Limit) (place : Place) (limit : Limit) (bucket : Filling) (now : ℕ) (taken : Bool) (found : get zone_cmp limits place ≡ Some limit)
     (u : Updates zone_cmp limits new place (Some (record { state = limit.state; rate = limit.rate; bucket = bucket }))) (after : bucket ≡ after_attempt limit.bucket now taken) where

@@ -5,6 +5,7 @@ ghost use Rattle.kube_objects.specs.Clocks.{local};
 ghost use Rattle.kube_objects.specs.Document.{Doc};
 ghost use Rattle.kube_objects.specs.Entry.{Entry, Identity};
 ghost use Rattle.kube_objects.specs.Entry as entry_words;
+ghost use Rattle.kube_objects.specs.Own.{IsOwn};
 ghost use Rattle.kube_objects.specs.Tokens as tokens;
 
 use crate::{Limit, Place, Queues};
@@ -40,8 +41,8 @@ impl Zones {
     /// Takes the token of a zone, where it is there.
     pub fn try_take(&mut self, place: Place, now: Local) -> bool
         requires { now.0 ≤ most_local }
-        ensures there { (doc : Doc) (q : Identity) (k : ℕ) (h : List Entry) → LimitsStand doc q h self.old → now.0 ≡ local doc q.process k
-            → result ≡ tokens.has_token doc q k (entry_place place) h }
+        ensures there { (doc : Doc) (q : Identity) (k : ℕ) (h : List Entry) → IsOwn doc → LimitsStand doc q h self.old
+            → now.0 ≡ local doc q.process k → result ≡ tokens.has_token doc q k (entry_place place) h }
         ensures kept { result ≡ false → (zone : entry_words.Place) → limit_at self.new zone ≡ limit_at self.old zone }
         ensures taken { result ≡ true → (zone : entry_words.Place)
             → limit_at self.new zone ≡ taken_at place now.0 zone (limit_at self.old zone) }

@@ -46,14 +46,14 @@ search f a (suc n) = by_below (search f a n)
 -- ---- the laws
 
 pub writers_act : WritersAct
-writers_act doc near far a e q one role steady time m x before at mine writes from late = by_search (search (λ k. acts doc q k (at_turn doc q.process k)) a (x.beat + far))
+writers_act doc rules near far a e q one role steady time m x before at mine writes from late = by_search (search (λ k. acts doc q k (at_turn doc q.process k)) a (x.beat + far))
   where
     there : IsTail (x ∷ before) (history doc (suc (x.beat + far)))
     there = tail_trans (x ∷ before) (history doc (suc x.beat)) (history doc (suc (x.beat + far))) (in_own_beat doc m x before at) (later_tail doc (suc x.beat) (suc (x.beat + far)) (omega arith))
 
     by_search : Searched (λ k. acts doc q k (at_turn doc q.process k)) a (x.beat + far) → ActsBetween doc q a (x.beat + far)
     by_search (inl found) = record { k = found.k; from = found.from; to = found.to; acts = (role, found.is) }
-    by_search (inr none) = absurd (writer_acts doc near far a e (x.beat + far) q role steady time late one (λ k from to acting. none k from to acting.1) x before there mine writes (omega arith))
+    by_search (inr none) = absurd (writer_acts doc rules near far a e (x.beat + far) q role steady time late one (λ k from to acting. none k from to acting.1) x before there mine writes (omega arith))
 
 pub records_stay : RecordsStay
 records_stay doc near far a e n sound calm time one ways end within none m from late h low high = record_stays doc near far a e n sound calm end within one ways time none m from late h low high

@@ -8,7 +8,7 @@ use Rattle.kube_objects.specs.declared.deed.Actor.{Actor}
 use Rattle.kube_objects.specs.Clocks.{local}
 use Rattle.kube_objects.specs.Document.{Doc, is_controller, retry_period, renew_deadline}
 use Rattle.kube_objects.specs.Elector.{Follow, timer_says, Fails, shown, observed, leads, lead_says, follow_on, timer_follow, deadline_says, deadline, attempt}
-use Rattle.kube_objects.specs.Entry.{Entry, Identity, Call, Fact, First as FirstPut, Event as Happens, Starts, Stops, Sends, Answers, Delivers, Expires, Leads, Ends, Crashes, Stalls, Ticks, actor_of, entry}
+use Rattle.kube_objects.specs.Entry.{Entry, Identity, Call, Fact, First as FirstPut, Event as Happens, Starts, Stops, Sends, Answers, Delivers, Expires, Leads, Ends, Crashes, Stalls, Ticks, actor_of, entry, StepsDown, ReleaseBegins, ReleaseEnds, ReleaseStops}
 use Rattle.kube_objects.specs.Identities.{is_by}
 use Rattle.kube_objects.specs.Newest.{newest, when, only_if, join, has, or_zero}
 use Rattle.kube_objects.specs.Pauses.{is_paused}
@@ -16,6 +16,8 @@ use Rattle.kube_objects.specs.Process.{alive, last_call, call_in}
 use Rattle.kube_objects.specs.Stored.{election}
 use Rattle.kube_objects.specs.Turns.{expired_in, is_fast_call}
 use Rattle.kube_objects.specs.Wire.{send, next_call, request_arrival}
+use Rattle.kube_objects.specs.Own.{IsOwn}
+use Rattle.kube_objects.proofs.Own.{retry_at-own}
 use Rattle.history.specs.History.{history, at_turn}
 use Rattle.history.specs.Safe.{Acts}
 use Rattle.history.specs.Steps.{turn}
@@ -62,6 +64,10 @@ leads_set doc q (x ∷ h) is = cases x.actor x.fact (leads_set doc q h) is
     cases who Crashes below is = below is
     cases who Stops below is = below is
     cases who (Stalls beats) below is = below is
+    cases who StepsDown below is = below is
+    cases who (ReleaseBegins at_deadline) below is = below is
+    cases who ReleaseEnds below is = below is
+    cases who ReleaseStops below is = below is
     cases who Ends below is = below is
 
 pub leads_on : (q : Identity) (g h : List Entry) → IsTail g h → leads q g ≡ true → leads q h ≡ true
@@ -83,7 +89,7 @@ abbrev pub reply_or : Reply → Fact → Reply
 reply_or x (Delivers d reply counted) = reply
 reply_or x _ = x
 
-module _ (doc : Doc) (near far a e n r : ℕ) (q : Identity) (role : is_controller doc q.process ≡ true) (lasts : 1 ≤ renew_deadline doc q.process) (steady : IsSteady doc near far a e q.process)
+module _ (doc : Doc) (rules : IsOwn doc) (near far a e n r : ℕ) (q : Identity) (role : is_controller doc q.process ≡ true) (lasts : 1 ≤ renew_deadline doc q.process) (steady : IsSteady doc near far a e q.process)
     (within : n ≤ e) (none : (k : ℕ) → a ≤ k → k ≤ n → Acts doc q k → ⊥) (from : a ≤ r)
     (w : Call) (reply : Reply) (T : List Entry) (after : IsTail (with_events doc a) T) (stands : IsTail (entry r 3 q (Delivers w reply true) ∷ T) (history doc (suc n))) (alive_at : alive q.process T ≡ Some q.incarnation)
     (failed : follow_on doc q r w.kind w.request reply (entry r 3 q (Delivers w reply true) ∷ T) ≡ Fails) (last : r ≤ n) where
@@ -97,13 +103,13 @@ module _ (doc : Doc) (near far a e n r : ℕ) (q : Identity) (role : is_controll
   due_at = local doc q.process r + retry_period doc q.process
 
   up : (h : List Entry) → IsTail low h → IsTail h (history doc (suc n)) → alive q.process h ≡ Some q.incarnation
-  up h below high = persists doc near far a e n q role lasts steady within none (omega (arith, from, last)) T h after (tail_trans T low h (inr (tail_all T)) below) high alive_at
+  up h below high = persists doc rules near far a e n q role lasts steady within none (omega (arith, from, last)) T h after (tail_trans T low h (inr (tail_all T)) below) high alive_at
 
   last_unled : leads q (history doc (suc n)) ≡ false
   last_unled = by_test (leads q (history doc (suc n))) refl
     where
       no_set : has (deadline doc q (history doc (suc n))) ≡ true → ⊥
-      no_set set = true_is (sym set ∙ ap has (unled doc near far a e n q role lasts steady within none n (omega (arith, from, last)) (omega arith) (up (history doc (suc n)) stands (tail_all (history doc (suc n))))))
+      no_set set = true_is (sym set ∙ ap has (unled doc rules near far a e n q role lasts steady within none n (omega (arith, from, last)) (omega arith) (up (history doc (suc n)) stands (tail_all (history doc (suc n))))))
 
       by_test : (b : Bool) → leads q (history doc (suc n)) ≡ b → leads q (history doc (suc n)) ≡ false
       by_test false is = is
@@ -120,8 +126,9 @@ module _ (doc : Doc) (near far a e n r : ℕ) (q : Identity) (role : is_controll
   quiet_low = record {
     call = ap (λ b. join (upper (when b None) (last_call q T))) (same_self q);
     timer_is =
-        ap (λ b. or_zero (upper (only_if b (timer_follow (follow_on doc q r w.kind w.request reply low) (leads q T) due_at)) (newest (λ e T. timer_says doc q e T e.fact) T))) (same_self q)
-        ∙ ap (λ f. or_zero (upper (timer_follow f (leads q T) due_at) (newest (λ e T. timer_says doc q e T e.fact) T))) failed;
+        ap (λ b. or_zero (upper (only_if b (timer_follow doc q failure T (leads q T) (follow_on doc q r w.kind w.request reply low))) (newest (λ e T. timer_says doc q e T e.fact) T))) (same_self q)
+        ∙ ap (λ f. or_zero (upper (timer_follow doc q failure T (leads q T) f) (newest (λ e T. timer_says doc q e T e.fact) T))) failed
+        ∙ retry_at-own doc rules (leads q T) q failure T;
     shown_is = refl;
     seen_is = refl;
     expiry = λ k. ap (λ b. join (upper (when b None) (newest (λ e T. when (is_by q e.actor) (expired_in k e.beat e.fact)) T))) (same_self q);
@@ -139,7 +146,7 @@ module _ (doc : Doc) (near far a e n r : ℕ) (q : Identity) (role : is_controll
       position = tail_trans (s.x ∷ s.before) h (history doc (suc n)) s.position high
 
       made : MadeSend doc s.x.beat s.x.step s.x.actor s.call s.arrives s.before
-      made = subst (λ d. MadeAs doc s.x.beat s.x.step s.x.actor d s.before) s.fact (are_made doc (suc n) s.x s.before position)
+      made = subst (λ d. MadeAs doc s.x.beat s.x.step s.x.actor d s.before) s.fact (are_made doc rules (suc n) s.x s.before position)
 
       mine : made.q ≡ q
       mine = actor_is made.q q (sym made.by ∙ s.actor)
@@ -193,7 +200,7 @@ module _ (doc : Doc) (near far a e n r : ℕ) (q : Identity) (role : is_controll
               below f.waiting f.reply refl (ap actor_of mine)
 
       by_step : (s.x.step ≡ 1) ⊎ ((s.x.step ≡ 3) ⊎ (s.x.step ≡ 4)) → HasAsked doc q due_at low h
-      by_step (inr (inr four)) = turned (subst (λ d. IsTurnSend doc s.x.beat q d s.before) s.fact (sends_are_due doc (suc n) s.x s.before position four q s.actor) role)
+      by_step (inr (inr four)) = turned (subst (λ d. IsTurnSend doc s.x.beat q d s.before) s.fact (sends_are_due doc rules (suc n) s.x s.before position four q s.actor) role)
       by_step (inr (inl three)) = absurd (follows (made.replied role_made three))
       by_step (inl one) = absurd (stopped_or (made.free role_made))
         where
@@ -212,7 +219,7 @@ module _ (doc : Doc) (near far a e n r : ℕ) (q : Identity) (role : is_controll
   -- at a beat whose reading has reached the timer it has asked
   pub asks_by : (k : ℕ) → r < k → k ≤ n → due_at ≤ local doc q.process k → HasAsked doc q due_at low (history doc (suc k))
   asks_by k later to reached =
-      get_of (history doc (suc k)) upto (by_turn (quiet_or_asked doc q low due_at (shown q low) (observed q low) (suc n) role never_led up g quiet_low below (tail_trans g (history doc (suc k)) (history doc (suc n)) high upto)))
+      get_of (history doc (suc k)) upto (by_turn (quiet_or_asked doc q low due_at (shown q low) (observed q low) rules (suc n) role never_led up g quiet_low below (tail_trans g (history doc (suc k)) (history doc (suc n)) high upto)))
     where
       g : List Entry
       g = at_turn doc q.process k
@@ -248,21 +255,21 @@ module _ (doc : Doc) (near far a e n r : ℕ) (q : Identity) (role : is_controll
           by_test false is = is
           by_test true is = absurd (omega (arith, ltb-true (local doc q.process k) due_at is, reached))
 
-      tried : Quiet doc q low due_at (shown q low) (observed q low) g → IsTail (send k 4 q (attempt doc q k g).0 (attempt doc q k g).1 g) (history doc (suc k))
+      tried : Quiet doc q low due_at (shown q low) (observed q low) g → IsTail (send doc k 4 q (attempt doc q k g).0 (attempt doc q k g).1 g) (history doc (suc k))
       tried s =
-          tail_trans (send k 4 q (attempt doc q k g).0 (attempt doc q k g).1 g) (turn doc k q.process g) (history doc (suc k))
+          tail_trans (send doc k 4 q (attempt doc q k g).0 (attempt doc q k g).1 g) (turn doc k q.process g) (history doc (suc k))
           (turn_tries doc k q g role awake (up g below (tail_trans g (history doc (suc k)) (history doc (suc n)) high upto)) s.call unset (s.expiry k) (ap (λ at. nat_lt (local doc q.process k) at) s.timer_is ∙ late))
           (turn_tail doc (suc q.process) k (omega (arith, controllers_first doc q.process role)))
 
       by_turn : Quiet doc q low due_at (shown q low) (observed q low) g ⊎ Asked doc q low due_at (shown q low) (observed q low) g → Asked doc q low due_at (shown q low) (observed q low) (history doc (suc k))
       by_turn (inl s) = record {
-        x = entry k 4 q (Sends (next_call q k (attempt doc q k g).0 (attempt doc q k g).1 g) (request_arrival q.process k g));
+        x = entry k 4 q (Sends (next_call q k (attempt doc q k g).0 (attempt doc q k g).1 g) (request_arrival doc q.process k g));
         before = g;
         position = tried s;
         since = below;
         quiet = s;
         call = next_call q k (attempt doc q k g).0 (attempt doc q k g).1 g;
-        arrives = request_arrival q.process k g;
+        arrives = request_arrival doc q.process k g;
         fact = refl;
         actor = refl;
       }
@@ -279,5 +286,5 @@ module _ (doc : Doc) (near far a e n r : ℕ) (q : Identity) (role : is_controll
       }
 
 pub candidates_ask : CandidatesAsk
-candidates_ask doc near far a e n r k q role lasts steady within none from w reply T after stands up failed later to reached =
-    asks_by doc near far a e n r q role lasts steady within none from w reply T after stands up failed (omega (arith, later, to)) k later to reached
+candidates_ask doc rules near far a e n r k q role lasts steady within none from w reply T after stands up failed later to reached =
+    asks_by doc rules near far a e n r q role lasts steady within none from w reply T after stands up failed (omega (arith, later, to)) k later to reached

@@ -15,6 +15,8 @@ use Rattle.kube_objects.specs.Newest.{when, only_if, join}
 use Rattle.kube_objects.specs.Process.{open_as, alive, last_call, call_in, is_present, is_late, answered_call, counted}
 use Rattle.kube_objects.specs.Turns.{react, with_reply}
 use Rattle.kube_objects.specs.Wire.{Back, back_of, next_call, send}
+use Rattle.kube_objects.specs.Own.{IsOwn}
+use Rattle.history.proofs.Own.{react-own}
 use Rattle.history.specs.Steps.{deliver_all, deliver_as, delivered, react_as}
 use Rattle.history_laws.specs.Tails.{In, IsTail}
 use Rattle.history_laws.proofs.Plainly.{upper, same_is, false_is}
@@ -34,29 +36,29 @@ module _ (doc : Doc) (k : ℕ) (q : Identity) (call : Call) where
   other_reply : (p : Identity) (c : Call) (reply : Reply) (h : List Entry) → is_same p q ≡ false → Waits h → Waits (with_reply k p c reply h)
   other_reply p c reply h other w = record { up = w.up; call_is = ap (λ b. join (upper (when b None) (last_call q h))) other ∙ w.call_is }
 
-  other_send : (p : Identity) (request : Request) (h : List Entry) → is_same p q ≡ false → Waits h → Waits (send k 3 p Plain request h)
+  other_send : (p : Identity) (request : Request) (h : List Entry) → is_same p q ≡ false → Waits h → Waits (send doc k 3 p Plain request h)
   other_send p request h other w = record { up = w.up; call_is = ap (λ b. join (upper (when b (open_as Plain (next_call p k Plain request h))) (last_call q h))) other ∙ w.call_is }
 
-  other_follow : (p : Identity) (led : Bool) (f : Follow) (h : List Entry) → is_same p q ≡ false → Waits h → Waits (react k p led f h)
+  other_follow : (p : Identity) (led : Bool) (f : Follow) (h : List Entry) → is_same p q ≡ false → Waits h → Waits (react doc k p led f h)
   other_follow p led Fails h other w = w
   other_follow p led (Asks request) h other w = other_send p request h other w
   other_follow p true (Succeeds version) h other w = w
   other_follow p false (Succeeds version) h other w = record { up = w.up; call_is = w.call_is }
 
-  other_next : (p : Identity) (o : Option Request) (h : List Entry) → is_same p q ≡ false → Waits h → Waits (send_next k p o h)
+  other_next : (p : Identity) (o : Option Request) (h : List Entry) → is_same p q ≡ false → Waits h → Waits (send_next doc k p o h)
   other_next p None h other w = w
   other_next p (Some request) h other w = other_send p request h other w
 
-  other_react : (p : Identity) (c : Call) (reply : Reply) (b : Bool) (h : List Entry) → is_same p q ≡ false → Waits h → Waits (react_as doc k p c reply b h)
-  other_react p c reply true h other w = other_follow p (leads p h) (follow_on doc p k c.kind c.request reply h) h other w
-  other_react p c reply false h other w = other_next p (next_request doc p k c.request reply) h other w
+  other_react : IsOwn doc → (p : Identity) (c : Call) (reply : Reply) (b : Bool) (h : List Entry) → is_same p q ≡ false → Waits h → Waits (react_as doc k p c reply b h)
+  other_react own p c reply true h other w = subst Waits (sym (react-own doc own k p c reply h)) (other_follow p (leads p h) (follow_on doc p k c.kind c.request reply h) h other w)
+  other_react own p c reply false h other w = other_next p (next_request doc p k c.request reply) h other w
 
   ignored : (p : Identity) (c : Call) (reply : Reply) (h : List Entry) → Waits h → Waits (entry k 3 p (Delivers c reply false) ∷ h)
   ignored p c reply h w = record { up = w.up; call_is = w.call_is }
 
-  other_deliver : (p : Identity) (c : Call) (reply : Reply) (o : Option Call) (h : List Entry) → is_same p q ≡ false → Waits h → Waits (deliver_as doc k p c reply o h)
-  other_deliver p c reply None h other w = ignored p c reply h w
-  other_deliver p c reply (Some waiting) h other w = other_react p waiting reply (is_controller doc p.process) (with_reply k p waiting reply h) other (other_reply p waiting reply h other w)
+  other_deliver : IsOwn doc → (p : Identity) (c : Call) (reply : Reply) (o : Option Call) (h : List Entry) → is_same p q ≡ false → Waits h → Waits (deliver_as doc k p c reply o h)
+  other_deliver own p c reply None h other w = ignored p c reply h w
+  other_deliver own p c reply (Some waiting) h other w = other_react own p waiting reply (is_controller doc p.process) (with_reply k p waiting reply h) other (other_reply p waiting reply h other w)
 
   -- a reply to another call of its own doesn't count
   uncounted : (p : Identity) (n : ℕ) (h : List Entry) → p ≡ q → (call.number == n) ≡ false → Waits h → counted doc p k n h ≡ None
@@ -70,11 +72,11 @@ module _ (doc : Doc) (k : ℕ) (q : Identity) (call : Call) where
       none true = refl
       none false = refl
 
-  passes_by : (b : Back) (h : List Entry) → is_for b ≡ false → Waits h → Waits (delivered doc k b h)
-  passes_by b h other w = by_who (is_same b.who q) refl other
+  passes_by : IsOwn doc → (b : Back) (h : List Entry) → is_for b ≡ false → Waits h → Waits (delivered doc k b h)
+  passes_by own b h other w = by_who (is_same b.who q) refl other
     where
       by_who : (t : Bool) → is_same b.who q ≡ t → (t && (call.number == b.call.number)) ≡ false → Waits (delivered doc k b h)
-      by_who false differs other = other_deliver b.who b.call b.reply (counted doc b.who k b.call.number h) h differs w
+      by_who false differs other = other_deliver own b.who b.call b.reply (counted doc b.who k b.call.number h) h differs w
       by_who true same other =
           subst (λ o. Waits (deliver_as doc k b.who b.call b.reply o h)) (sym (uncounted b.who b.call.number h (same_is b.who q same) other w)) (ignored b.who b.call b.reply h w)
 
@@ -97,7 +99,7 @@ module _ (doc : Doc) (k : ℕ) (q : Identity) (call : Call) where
     pub waits : Waits before
     pub position : IsTail (delivered doc k b before) all
 
-module _ (doc : Doc) (k : ℕ) (q : Identity) (call : Call) (adds : (b : Back) (h : List Entry) → IsTail h (delivered doc k b h)) (adds_all : (bs : List Back) (h : List Entry) → IsTail h (deliver_all doc k bs h)) where
+module _ (doc : Doc) (rules : IsOwn doc) (k : ℕ) (q : Identity) (call : Call) (adds : (b : Back) (h : List Entry) → IsTail h (delivered doc k b h)) (adds_all : (bs : List Back) (h : List Entry) → IsTail h (deliver_all doc k bs h)) where
   pub first_for : (R : Back → Type 0) (bs : List Back) (h : List Entry) → Waits doc k q call h → AllComing doc k q call R bs → any_for doc k q call bs ≡ true → First doc k q call R h (deliver_all doc k bs h)
   first_for R [] h w right any = absurd (never any)
     where
@@ -110,7 +112,7 @@ module _ (doc : Doc) (k : ℕ) (q : Identity) (call : Call) (adds : (b : Back) (
           → First doc k q call R h (deliver_all doc k (b ∷ bs) h)
       by_test true is any on = record { b = b; right = right.0; mine = is; before = h; low = tail_all h; waits = w; position = adds_all bs (delivered doc k b h) }
       by_test false is any on =
-          let f = on (passes_by doc k q call b h is w) any in
+          let f = on (passes_by doc k q call rules b h is w) any in
           record { b = f.b; right = f.right; mine = f.mine; before = f.before; low = tail_trans h (delivered doc k b h) f.before (adds b h) f.low; waits = f.waits; position = f.position }
 
 -- ---- the replies of a beat

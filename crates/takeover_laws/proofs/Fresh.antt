@@ -11,14 +11,16 @@ use Rattle.kube_objects.specs.declared.script.Event.{Event}
 use Rattle.kube_objects.specs.Clocks.{local, store_wall, whole_second}
 use Rattle.kube_objects.specs.Document.{Doc, processes, end_beat, is_controller, retry_period, renew_deadline}
 use Rattle.kube_objects.specs.Elector.{succeeds, lead_says, leads, deadline_says, deadline, is_before, in_term, acts}
-use Rattle.kube_objects.specs.Entry.{Entry, Identity, Call, Fact, First, Event as Happens, Starts, Stops, Sends, Answers, Delivers, Expires, Leads, Ends, Crashes, Stalls, Ticks, actor_of, entry, script_entry}
+use Rattle.kube_objects.specs.Entry.{Entry, Identity, Call, Fact, First, Event as Happens, Starts, Stops, Sends, Answers, Delivers, Expires, Leads, Ends, Crashes, Stalls, Ticks, actor_of, entry, script_entry, StepsDown, ReleaseBegins, ReleaseEnds, ReleaseStops}
 use Rattle.kube_objects.specs.Identities.{identity, is_same, is_by, of_process}
 use Rattle.kube_objects.specs.Newest.{newest, added, when, join, has}
 use Rattle.kube_objects.specs.Pauses.{pause_of, is_paused, is_ahead, wait_of, last_wait, reading_of, can_at}
-use Rattle.kube_objects.specs.Process.{gone, life, alive, is_start, starts, call_in, is_late, is_present}
+use Rattle.kube_objects.specs.Process.{gone, life, alive, is_start, starts, call_in, is_late, release_begun, is_present}
 use Rattle.kube_objects.specs.Stamps.{stamped}
-use Rattle.kube_objects.specs.Turns.{expire_call, end_term}
+use Rattle.kube_objects.specs.Turns.{expire_as, expire_call, end_as, end_term}
+use Rattle.kube_objects.specs.Own.{IsOwn}
 use Rattle.kube_objects.proofs.Clocks.{local_up}
+use Rattle.kube_objects.proofs.Own.{expire_as-own, acts-own, end_term-own}
 use Rattle.history.specs.History.{put_all, history, at_turn}
 use Rattle.history.specs.Steps.{if_up, restart_if, restart, expire, finish, turn, turns, controller_turn, kubelet_turn, unpaused_turn}
 use Rattle.history_laws.specs.Tails.{IsTail}
@@ -27,7 +29,7 @@ use Rattle.history_laws.proofs.Lives.{Counted, Over, counted_more, over_more}
 use Rattle.history_laws.proofs.Plainly.{upper, some_is, none_is, false_is, true_is, and_left, and_right, not_true, same_is, same_self, added_more, and_both}
 use Rattle.history_laws.proofs.Tailed.{tail_all, tail_trans}
 use Rattle.history_laws.proofs.Ticks.{walk_tick}
-use Rattle.history_laws.proofs.Walk.{Anyone, KeepsTurn, Keeps, IsNext, LeadIsUp, StartIsNext, all_kinds, all_turns, walk_history, walk_at_turn, walk_any_turns, walk_any_after_end}
+use Rattle.history_laws.proofs.Walk.{Anyone, KeepsTurn, KeepsReleaseTurn, Keeps, KeepsRelease, IsNext, LeadIsUp, StartIsNext, all_kinds, all_release, all_turns, all_release_turns, no_release_turn, walk_history, walk_at_turn, walk_any_turns, walk_any_after_end}
 use Rattle.call_laws.proofs.Above.{Above}
 use Rattle.call_laws.proofs.Making.{MadeAs, are_made}
 
@@ -76,6 +78,10 @@ sets_later doc q k who led Starts at lasts is = absurd (none_is at is)
 sets_later doc q k who led Crashes at lasts is = absurd (none_is at is)
 sets_later doc q k who led Stops at lasts is = absurd (none_is at is)
 sets_later doc q k who led (Stalls beats) at lasts is = absurd (none_is at is)
+sets_later doc q k who led StepsDown at lasts is = absurd (none_is at is)
+sets_later doc q k who led (ReleaseBegins at_deadline) at lasts is = absurd (none_is at is)
+sets_later doc q k who led ReleaseEnds at lasts is = absurd (none_is at is)
+sets_later doc q k who led ReleaseStops at lasts is = absurd (none_is at is)
 sets_later doc q k who led Ends at lasts is = absurd (none_is at is)
 
 -- a deadline that is there and after a reading
@@ -138,6 +144,10 @@ led_more doc x h next up s = record { counts = counted_more x h next s.counts; l
     leads_counted q who Crashes up is = older q is
     leads_counted q who Stops up is = older q is
     leads_counted q who (Stalls beats) up is = older q is
+    leads_counted q who StepsDown up is = older q is
+    leads_counted q who (ReleaseBegins at_deadline) up is = older q is
+    leads_counted q who ReleaseEnds up is = older q is
+    leads_counted q who ReleaseStops up is = older q is
     leads_counted q who Ends up is = older q is
 
     set_leads : (q : Identity) (who : Actor) (d : Fact) → has (upper (deadline_says doc q x.beat who (leads q h) d) (deadline doc q h)) ≡ true → has (upper (lead_says q who d) (newest (λ e T. lead_says q e.actor e.fact) h)) ≡ true
@@ -163,10 +173,17 @@ led_more doc x h next up s = record { counts = counted_more x h next s.counts; l
     set_leads q who Crashes is = s.set q is
     set_leads q who Stops is = s.set q is
     set_leads q who (Stalls beats) is = s.set q is
+    set_leads q who StepsDown is = s.set q is
+    set_leads q who (ReleaseBegins at_deadline) is = s.set q is
+    set_leads q who ReleaseEnds is = s.set q is
+    set_leads q who ReleaseStops is = s.set q is
     set_leads q who Ends is = s.set q is
 
 led_keeps : (doc : Doc) → Keeps doc (λ k step h. LedRight doc h)
 led_keeps doc = all_kinds doc (λ k step h. LedRight doc h) (λ k step h s. s) (λ k h s. s) (λ x h next s. led_more doc x h next.0 next.2 s)
+
+led_release : (doc : Doc) → KeepsRelease doc (λ k step h. LedRight doc h)
+led_release doc = all_release doc (λ k step h. LedRight doc h) (λ x h next s. led_more doc x h next.0 next.2 s)
 
 puts_led : (doc : Doc) (xs : List (Key × Object)) (h : List Entry) → LedRight doc h → LedRight doc (put_all doc xs h)
 puts_led doc [] h s = s
@@ -179,14 +196,14 @@ first_led doc = puts_led doc doc.objects [] (record { counts = λ p i up. absurd
 
 -- who has a deadline was counted
 pub set_counted : (doc : Doc) (q : Identity) (k at : ℕ) → deadline doc q (history doc k) ≡ Some at → q.incarnation ≤ starts q.process (history doc k)
-set_counted doc q k at is = let s = walk_history doc (λ k step h. LedRight doc h) (led_keeps doc) (first_led doc) k in s.led q (s.set q (ap has is))
+set_counted doc q k at is = let s = walk_history doc (λ k step h. LedRight doc h) (led_keeps doc) (led_release doc) (first_led doc) k in s.led q (s.set q (ap has is))
 
 pub turn_counted : (doc : Doc) (q : Identity) (p k at : ℕ) → deadline doc q (at_turn doc p k) ≡ Some at → q.incarnation ≤ starts q.process (at_turn doc p k)
-turn_counted doc q p k at is = let s = walk_at_turn doc (λ k step h. LedRight doc h) (led_keeps doc) (first_led doc) p k in s.led q (s.set q (ap has is))
+turn_counted doc q p k at is = let s = walk_at_turn doc (λ k step h. LedRight doc h) (led_keeps doc) (led_release doc) (first_led doc) p k in s.led q (s.set q (ap has is))
 
 -- who has a deadline at a turn leads
 pub turn_leads : (doc : Doc) (q : Identity) (p k : ℕ) → has (deadline doc q (at_turn doc p k)) ≡ true → leads q (at_turn doc p k) ≡ true
-turn_leads doc q p k = (walk_at_turn doc (λ k step h. LedRight doc h) (led_keeps doc) (first_led doc) p k).set q
+turn_leads doc q p k = (walk_at_turn doc (λ k step h. LedRight doc h) (led_keeps doc) (led_release doc) (first_led doc) p k).set q
 
 -- ---- turns set no deadline, and one past it ends the term
 
@@ -202,33 +219,40 @@ deadline_same doc q o = record {
   ticks = λ k p h acting s. walk_tick doc k p (λ g. deadline doc q g ≡ o) (λ t g made s. s) h s;
 }
 
-pub deadline_turns : (doc : Doc) (q : Identity) (k n : ℕ) (h : List Entry) → deadline doc q (turns doc k n h) ≡ deadline doc q h
-deadline_turns doc q k n h = walk_any_turns doc (λ k g. deadline doc q g ≡ deadline doc q h) (deadline_same doc q (deadline doc q h)) k n h refl
+deadline_release : (doc : Doc) → IsOwn doc → (q : Identity) (o : Option ℕ) → KeepsReleaseTurn doc (λ k h. deadline doc q h ≡ o)
+deadline_release doc rules q o = no_release_turn doc (λ k h. deadline doc q h ≡ o) (ap (λ r. r.release) rules.rules)
+
+pub deadline_turns : (doc : Doc) → IsOwn doc → (q : Identity) (k n : ℕ) (h : List Entry) → deadline doc q (turns doc k n h) ≡ deadline doc q h
+deadline_turns doc rules q k n h = walk_any_turns doc (λ k g. deadline doc q g ≡ deadline doc q h) (deadline_same doc q (deadline doc q h)) (deadline_release doc rules q (deadline doc q h)) k n h refl
 
 over_turns : (doc : Doc) (q : Identity) → KeepsTurn doc Anyone (λ k h. Over q h)
 over_turns doc q = all_turns doc Anyone (λ k h. Over q h) (λ k x h beat step next s. over_more q x h next.0 s)
 
-ended : (doc : Doc) (m : ℕ) (q : Identity) (g : List Entry) (d : ℕ) → alive q.process g ≡ Some q.incarnation → deadline doc q g ≡ Some d → q.incarnation ≤ starts q.process g → nat_lt (local doc q.process m) d ≡ false → Over q (finish doc m q.process g)
-ended doc m q g d up set counted late =
+over_release : (doc : Doc) (q : Identity) → KeepsReleaseTurn doc (λ k h. Over q h)
+over_release doc q = all_release_turns doc (λ k h. Over q h) (λ k x h beat step next s. over_more q x h next.0 s)
+
+ended : (doc : Doc) → IsOwn doc → (m : ℕ) (q : Identity) (g : List Entry) (d : ℕ) → alive q.process g ≡ Some q.incarnation → deadline doc q g ≡ Some d → q.incarnation ≤ starts q.process g → nat_lt (local doc q.process m) d ≡ false → Over q (finish doc m q.process g)
+ended doc rules m q g d up set counted late =
     subst (λ o. Over q (if_up q.process (λ p T. end_term doc m p (deadline doc p T) T) o g)) (sym up)
     (subst (λ o. Over q (end_term doc m q o g)) (sym set)
-    (subst (λ b. Over q (if b then g else entry m 4 q Ends ∷ g)) (sym late)
-    (counted, subst (λ b. join (upper (gone (when b q.incarnation)) (life q.process g)) ≡ Some q.incarnation → ⊥) (sym (eq-eqb q.process q.process refl)) (λ is. none_is q.incarnation is))))
+    (subst (λ b. Over q (if b then g else end_as doc.settings.rules.release doc m q g)) (sym late)
+    (subst (Over q) (sym (end_term-own doc rules m q g))
+    (counted, subst (λ b. join (upper (gone (when b q.incarnation)) (life q.process g)) ≡ Some q.incarnation → ⊥) (sym (eq-eqb q.process q.process refl)) (λ is. none_is q.incarnation is)))))
 
-pub past_ends : (doc : Doc) (m : ℕ) (q : Identity) (h : List Entry) (d : ℕ) → is_controller doc q.process ≡ true → alive q.process h ≡ Some q.incarnation → deadline doc q h ≡ Some d → q.incarnation ≤ starts q.process h → nat_lt (local doc q.process m) d ≡ false → is_paused doc q.process m ≡ false
+pub past_ends : (doc : Doc) → IsOwn doc → (m : ℕ) (q : Identity) (h : List Entry) (d : ℕ) → is_controller doc q.process ≡ true → alive q.process h ≡ Some q.incarnation → deadline doc q h ≡ Some d → q.incarnation ≤ starts q.process h → nat_lt (local doc q.process m) d ≡ false → is_paused doc q.process m ≡ false
     → Over q (turn doc m q.process h)
-past_ends doc m q h d role up set counted late awake =
+past_ends doc rules m q h d role up set counted late awake =
     subst (λ b. Over q (if b then h else unpaused_turn doc m q.process h)) (sym awake)
     (subst (λ b. Over q (if b then controller_turn doc m q.process h else kubelet_turn doc m q.process h)) (sym role)
-    (walk_any_after_end doc (λ k h. Over q h) (over_turns doc q) m q.process role awake (finish doc m q.process (expire doc m q.process (restart doc m q.process h)))
+    (walk_any_after_end doc (λ k h. Over q h) (over_turns doc q) (over_release doc q) m q.process role awake (finish doc m q.process (expire doc m q.process (restart doc m q.process h)))
     (subst (λ o. Over q (finish doc m q.process (expire doc m q.process (restart_if doc m q.process o h)))) (sym up) after)))
   where
-    by_late : (call : Call) (b : Bool) → Over q (finish doc m q.process (if b then entry m 4 q (Expires call) ∷ h else h))
-    by_late call true = ended doc m q (entry m 4 q (Expires call) ∷ h) d up set counted late
-    by_late call false = ended doc m q h d up set counted late
+    by_late : (call : Call) (b : Bool) → Over q (finish doc m q.process (if b then expire_as doc m q call (release_begun doc.settings.rules.release call.kind) h else h))
+    by_late call true = subst (λ g. Over q (finish doc m q.process g)) (sym (expire_as-own doc rules m q call h)) (ended doc rules m q (entry m 4 q (Expires call) ∷ h) d up set counted late)
+    by_late call false = ended doc rules m q h d up set counted late
 
     by_call : (o : Option Call) → Over q (finish doc m q.process (expire_call doc m q o h))
-    by_call None = ended doc m q h d up set counted late
+    by_call None = ended doc rules m q h d up set counted late
     by_call (Some call) = by_late call (is_late doc q m call)
 
     after : Over q (finish doc m q.process (expire doc m q.process h))
@@ -248,14 +272,18 @@ next_start doc k step who (Ticks t) h made = tt
 next_start doc k step who Crashes h made = tt
 next_start doc k step who Stops h made = tt
 next_start doc k step who (Stalls beats) h made = tt
+next_start doc k step who StepsDown h made = absurd made
+next_start doc k step who (ReleaseBegins at_deadline) h made = absurd made
+next_start doc k step who ReleaseEnds h made = absurd made
+next_start doc k step who ReleaseStops h made = absurd made
 next_start doc k step who Ends h made = tt
 next_start doc k step who (Leads version) h made = tt
 
-pub over_stays : (doc : Doc) (m : ℕ) (q : Identity) (g h : List Entry) → IsTail h (history doc m) → IsTail g h → Over q g → Over q h
-over_stays doc m q g [] within at over = subst (Over q) at over
-over_stays doc m q g (x ∷ h) within (inl is) over = subst (Over q) is over
-over_stays doc m q g (x ∷ h) within (inr at) over =
-    over_more q x h (next_start doc x.beat x.step x.actor x.fact h (are_made doc m x h within)) (over_stays doc m q g h (tail_trans h (x ∷ h) (history doc m) (inr (tail_all h)) within) at over)
+pub over_stays : (doc : Doc) → IsOwn doc → (m : ℕ) (q : Identity) (g h : List Entry) → IsTail h (history doc m) → IsTail g h → Over q g → Over q h
+over_stays doc rules m q g [] within at over = subst (Over q) at over
+over_stays doc rules m q g (x ∷ h) within (inl is) over = subst (Over q) is over
+over_stays doc rules m q g (x ∷ h) within (inr at) over =
+    over_more q x h (next_start doc x.beat x.step x.actor x.fact h (are_made doc rules m x h within)) (over_stays doc rules m q g h (tail_trans h (x ∷ h) (history doc m) (inr (tail_all h)) within) at over)
 
 -- who was counted and isn't over is up
 pub still_up : (q : Identity) (h : List Entry) → q.incarnation ≤ starts q.process h → (Over q h → ⊥) → alive q.process h ≡ Some q.incarnation
@@ -273,8 +301,9 @@ still_up q h counted not_over = by_up (alive q.process h) refl
         by_same (inr other) = absurd (differs j is other)
 
 -- who is up, awake and before its deadline acts
-pub acts_before : (doc : Doc) (q : Identity) (k at : ℕ) (h : List Entry) → is_paused doc q.process k ≡ false → alive q.process h ≡ Some q.incarnation → deadline doc q h ≡ Some at → nat_lt (local doc q.process k) at ≡ true → acts doc q k h ≡ true
-acts_before doc q k at h awake up set before =
-    and_both (not (is_paused doc q.process k)) (in_term doc q k h) (ap not awake)
+pub acts_before : (doc : Doc) → IsOwn doc → (q : Identity) (k at : ℕ) (h : List Entry) → is_paused doc q.process k ≡ false → alive q.process h ≡ Some q.incarnation → deadline doc q h ≡ Some at → nat_lt (local doc q.process k) at ≡ true → acts doc q k h ≡ true
+acts_before doc rules q k at h awake up set before =
+    acts-own doc rules q k h
+    ∙ and_both (not (is_paused doc q.process k)) (in_term doc q k h) (ap not awake)
     (and_both (is_present (alive q.process h) q.incarnation) (is_before (local doc q.process k) (deadline doc q h))
     (ap (λ o. is_present o q.incarnation) up ∙ eq-eqb q.incarnation q.incarnation refl) (ap (is_before (local doc q.process k)) set ∙ before))

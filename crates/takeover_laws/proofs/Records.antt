@@ -6,7 +6,7 @@ use Rattle.kube_objects.specs.declared.deed.Actor.{Actor}
 use Rattle.kube_objects.specs.declared.object.Object.{Object}
 use Rattle.kube_objects.specs.Clocks.{rate}
 use Rattle.kube_objects.specs.Document.{Doc, processes, end_beat, is_controller}
-use Rattle.kube_objects.specs.Entry.{Entry, Identity, Call, Fact, First as FirstPut, Event as Happens, Starts, Stops, Sends, Answers, Delivers, Expires, Leads, Ends, Crashes, Stalls, Ticks, actor_of, entry}
+use Rattle.kube_objects.specs.Entry.{Entry, Identity, Call, Fact, First as FirstPut, Event as Happens, Starts, Stops, Sends, Answers, Delivers, Expires, Leads, Ends, Crashes, Stalls, Ticks, actor_of, entry, StepsDown, ReleaseBegins, ReleaseEnds, ReleaseStops}
 use Rattle.kube_objects.specs.Identities.{of_process}
 use Rattle.kube_objects.specs.Keys.{key_eq}
 use Rattle.kube_objects.specs.Newest.{when, join, has}
@@ -73,7 +73,7 @@ module _ (doc : Doc) (near far a e n : ℕ) (sound : IsSound doc) (calm : IsCalm
   no_write x T q position by role writes late = ⊎_elim steady quiet (calm.each q.process role)
     where
       steady : IsSteady doc near far a e q.process → ⊥
-      steady s = writer_acts doc near far a e n q role s (time q.process role s) within one (none q role s) x T position by writes late
+      steady s = writer_acts doc sound.2 near far a e n q role s (time q.process role s) within one (none q role s) x T position by writes late
 
       quiet : IsQuiet doc a e q.process → ⊥
       quiet s = s x (in_tail x (history doc (suc n)) (history doc (suc e)) (later_tail doc (suc n) (suc e) (omega (arith, within))) (in_head x T (history doc (suc n)) position)) (process_is q x by) writes
@@ -101,7 +101,7 @@ module _ (doc : Doc) (near far a e n : ℕ) (sound : IsSound doc) (calm : IsCalm
       arrives = due_at x.beat s.arrives made.arriving.now
 
       sent : s.call.sent ≡ made.arriving.e.beat
-      sent = (subst (λ o. IfSome o (λ s. (s.call.sent ≡ made.arriving.e.beat) × (s.arrives ≡ request_arrival s.who.process made.arriving.e.beat p))) made.arriving.is (messages_travel doc (suc n) made.arriving.e p at_f).0).0
+      sent = (subst (λ o. IfSome o (λ s. (s.call.sent ≡ made.arriving.e.beat) × (s.arrives ≡ request_arrival doc s.who.process made.arriving.e.beat p))) made.arriving.is (messages_travel doc sound.2 (suc n) made.arriving.e p at_f).0).0
 
       early : key_eq (key_of s.call.request) election ≡ true → made.arriving.e.beat < a → ⊥
       early key lt =
@@ -142,6 +142,10 @@ module _ (doc : Doc) (near far a e n : ℕ) (sound : IsSound doc) (calm : IsCalm
   same_stored x T who Crashes actor fact position from late made = refl
   same_stored x T who Stops actor fact position from late made = refl
   same_stored x T who (Stalls beats) actor fact position from late made = refl
+  same_stored x T who StepsDown actor fact position from late made = absurd made
+  same_stored x T who (ReleaseBegins at_deadline) actor fact position from late made = absurd made
+  same_stored x T who ReleaseEnds actor fact position from late made = absurd made
+  same_stored x T who ReleaseStops actor fact position from late made = absurd made
   same_stored x T who Ends actor fact position from late made = refl
   same_stored x T who (Leads version) actor fact position from late made = refl
 
@@ -153,5 +157,5 @@ module _ (doc : Doc) (near far a e n : ℕ) (sound : IsSound doc) (calm : IsCalm
       let position = tail_trans (x ∷ T) (history doc (suc m)) (history doc (suc n)) at (later_tail doc (suc m) (suc n) (omega (arith, late))) in
       let beat : a + far ≤ x.beat = (next_above (λ y. a + far ≤ y.beat) (history doc (a + far)) T (history doc (suc m)) x (from_beat doc (a + far) (suc m) (omega (arith, from))) low at).0 in
       let upto : x.beat < suc m = ⊎_elim (λ lt. lt) (λ first. omega (arith, first.0)) (entries_are_earlier doc (suc m) x (in_head x T (history doc (suc m)) at)) in
-      same_stored x T x.actor x.fact refl refl position beat (omega (arith, upto, late)) (are_made doc (suc n) x T position)
+      same_stored x T x.actor x.fact refl refl position beat (omega (arith, upto, late)) (are_made doc sound.2 (suc n) x T position)
       ∙ record_stays m from late T low (tail_trans T (x ∷ T) (history doc (suc m)) (inr (tail_all T)) at)

@@ -10,6 +10,8 @@ use Rattle.kube_objects.specs.Identities.{identity_of}
 use Rattle.kube_objects.specs.Newest.{has, or_else}
 use Rattle.kube_objects.specs.Pauses.{pause_end, is_paused, resume, held_up}
 use Rattle.kube_objects.specs.Wire.{Sent, Back, sent_as, sent_of, back_of, in_force, request_delay_of, reply_delay_of, request_loss_of, reply_loss_of, request_delay, reply_delay, loses_requests, loses_replies, arrival, request_arrival, reply_arrival}
+use Rattle.kube_objects.specs.Own.{IsOwn}
+use Rattle.kube_objects.proofs.Own.{request_arrival-own}
 use Rattle.history.specs.History.{history}
 use Rattle.history.specs.Steps.{answered, delivered}
 use Rattle.history_laws.specs.Tails.{In, IsTail}
@@ -28,9 +30,10 @@ use Rattle.takeover_laws.specs.Rounds.{IsRound, RoundsAreShort}
 abbrev pub Forces : Doc → ℕ → List Entry → Type 0
 Forces doc k h = ((f : What → Option ℕ) → in_force f h ≡ in_force f (with_events doc k)) × ((f : What → Option Bool) → in_force f h ≡ in_force f (with_events doc k))
 
-pub request_passes : (doc : Doc) (near far p k : ℕ) (h : List Entry) → Passes doc near far p k → Forces doc k h → request_arrival p k h ≡ Some (k + request_delay p (with_events doc k))
-request_passes doc near far p k h passes force =
-    ap (λ b. arrival b k (request_delay p h)) (ap (or_else false) (force.1 (request_loss_of p)) ∙ passes.requests)
+pub request_passes : (doc : Doc) → IsOwn doc → (near far p k : ℕ) (h : List Entry) → Passes doc near far p k → Forces doc k h → request_arrival doc p k h ≡ Some (k + request_delay p (with_events doc k))
+request_passes doc rules near far p k h passes force =
+    request_arrival-own doc rules p k h
+    ∙ ap (λ b. arrival b k (request_delay p h)) (ap (or_else false) (force.1 (request_loss_of p)) ∙ passes.requests)
     ∙ ap (λ n. Some (k + n)) (ap (or_else 1) (force.0 (request_delay_of p)))
 
 resumes : (doc : Doc) (p k : ℕ) → is_paused doc p k ≡ false → resume doc p k ≡ k
@@ -61,10 +64,10 @@ in_answers doc j k x T lt at = let one = with_events doc k in in_tail x one (wit
 -- ---- a call's way
 
 -- where its reply comes in time
-pub rounds_in : (doc : Doc) (near far a e : ℕ) (q : Identity) → IsSteady doc near far a e q.process → 1 ≤ near
+pub rounds_in : (doc : Doc) → IsOwn doc → (near far a e : ℕ) (q : Identity) → IsSteady doc near far a e q.process → 1 ≤ near
     → (m : ℕ) (x : Entry) (T : List Entry) (call : Call) (arrives : Option ℕ) → IsTail (x ∷ T) (history doc m) → x.actor ≡ actor_of q → x.fact ≡ Sends call arrives → 2 ≤ x.step → a ≤ x.beat → x.beat ≤ e
     → ((k : ℕ) → arrives ≡ Some k → k ≤ x.beat + far → k + far ≤ e) → IsRound doc near far q call arrives x.beat
-rounds_in doc near far a e q steady one m x T call arrives stands actor fact step from to back_in = record {
+rounds_in doc rules near far a e q steady one m x T call arrives stands actor fact step from to back_in = record {
   at = k;
   arrives_is = arriving;
   before = answering.before;
@@ -90,8 +93,8 @@ rounds_in doc near far a e q steady one m x T call arrives stands actor fact ste
 
     arriving : arrives ≡ Some k
     arriving =
-        (subst (λ o. IfSome o (λ s. (s.call.sent ≡ x.beat) × (s.arrives ≡ request_arrival s.who.process x.beat T))) (sent_is x q call arrives actor fact) (messages_travel doc m x T stands).0).1
-        ∙ request_passes doc near far q.process x.beat T sending (forces_stand doc m x T stands step)
+        (subst (λ o. IfSome o (λ s. (s.call.sent ≡ x.beat) × (s.arrives ≡ request_arrival doc s.who.process x.beat T))) (sent_is x q call arrives actor fact) (messages_travel doc rules m x T stands).0).1
+        ∙ request_passes doc rules near far q.process x.beat T sending (forces_stand doc rules m x T stands step)
 
     answering : IsAnswered doc k s
     answering =
@@ -112,12 +115,12 @@ rounds_in doc near far a e q steady one m x T call arrives stands actor fact ste
 
     coming : reply_arrival doc q.process k answering.before ≡ Some y
     coming =
-        reply_passes doc near far q.process k answering.before giving (forces_stand doc (suc k) there answering.before answering.position (omega arith))
+        reply_passes doc near far q.process k answering.before giving (forces_stand doc rules (suc k) there answering.before answering.position (omega arith))
         (steady.passes y (omega (arith, from)) (omega (arith, giving.reply_most, last))).awake
 
     back : Back
     back = record { who = q; call = call; reply = answer call.request answering.before; comes = reply_arrival doc q.process k answering.before }
 
 pub rounds_are_short : RoundsAreShort
-rounds_are_short doc near far a e q steady one m x T call arrives stands actor fact step from to =
-    rounds_in doc near far a e q steady one m x T call arrives stands actor fact step from (omega (arith, to)) (λ k is most. omega (arith, most, to))
+rounds_are_short doc rules near far a e q steady one m x T call arrives stands actor fact step from to =
+    rounds_in doc rules near far a e q steady one m x T call arrives stands actor fact step from (omega (arith, to)) (λ k is most. omega (arith, most, to))

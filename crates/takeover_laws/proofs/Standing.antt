@@ -4,11 +4,12 @@ use Rattle.std.proofs.lemmas.Bool.{ltb-true, ltb-false, eqb-true, cases_eq}
 use Rattle.kube_objects.specs.Clocks.{local}
 use Rattle.kube_objects.specs.Document.{Doc, processes, is_controller, renew_deadline}
 use Rattle.kube_objects.specs.Elector.{deadline}
-use Rattle.kube_objects.specs.Entry.{Entry, Identity, Fact, First, Event as Happens, Starts, Stops, Sends, Answers, Delivers, Expires, Leads, Ends, Crashes, Stalls, Ticks}
+use Rattle.kube_objects.specs.Entry.{Entry, Identity, Fact, First, Event as Happens, Starts, Stops, Sends, Answers, Delivers, Expires, Leads, Ends, Crashes, Stalls, Ticks, StepsDown, ReleaseBegins, ReleaseEnds, ReleaseStops}
 use Rattle.kube_objects.specs.Identities.{identity, of_process}
 use Rattle.kube_objects.specs.Newest.{when, join, has}
 use Rattle.kube_objects.specs.Pauses.{is_paused}
 use Rattle.kube_objects.specs.Process.{born, gone, life_says, life, alive, starts}
+use Rattle.kube_objects.specs.Own.{IsOwn}
 use Rattle.history.specs.History.{three_steps, history, at_turn}
 use Rattle.history.specs.Safe.{Acts}
 use Rattle.history_laws.specs.Tails.{In, IsTail}
@@ -38,11 +39,11 @@ since_events doc a n le =
     (above_more (λ e. suc a ≤ e.beat) (IsSince a) (λ e s. inl s) (history doc (suc a)) (history doc (suc n)) (from_beat doc (suc a) (suc n) (omega (arith, le))))
 
 -- who is up stays up, where the entry is no crash, stop or end of its own
-pub lives_on : (doc : Doc) (m : ℕ) (q : Identity) (x : Entry) (T : List Entry) → IsTail (x ∷ T) (history doc m)
+pub lives_on : (doc : Doc) → IsOwn doc → (m : ℕ) (q : Identity) (x : Entry) (T : List Entry) → IsTail (x ∷ T) (history doc m)
     → (x.fact ≡ Crashes → x.step ≡ 1 → has (of_process q.process x.actor) ≡ true → ⊥) → (x.fact ≡ Stops → has (of_process q.process x.actor) ≡ true → ⊥)
     → (x.fact ≡ Ends → (made : MadeEnd doc x.beat x.step x.actor T) → has (of_process q.process x.actor) ≡ true → made.q ≡ q → ⊥)
     → alive q.process T ≡ Some q.incarnation → alive q.process (x ∷ T) ≡ Some q.incarnation
-lives_on doc m q x T stands no_crash no_stop no_end up = cases x.fact refl (are_made doc m x T stands)
+lives_on doc rules m q x T stands no_crash no_stop no_end up = cases x.fact refl (are_made doc rules m x T stands)
   where
     after : Fact → Option ℕ
     after d = join (upper (life_says q.process x.actor d) (life q.process T))
@@ -58,7 +59,7 @@ lives_on doc m q x T stands no_crash no_stop no_end up = cases x.fact refl (are_
         by_test false other = ap (λ o. join (upper (born o) (life q.process T))) (ap (of_process q.process) made.1 ∙ ap (λ b. when b (starts made.0 T + 1)) other) ∙ up
         by_test true is =
             let p : made.0 ≡ q.process = eqb-true made.0 q.process is in
-            absurd (none_is q.incarnation (sym (starts_are_down doc m x T stands fact (identity made.0 (starts made.0 T + 1)) made.1) ∙ ap (λ p. alive p T) p ∙ up))
+            absurd (none_is q.incarnation (sym (starts_are_down doc rules m x T stands fact (identity made.0 (starts made.0 T + 1)) made.1) ∙ ap (λ p. alive p T) p ∙ up))
     cases Crashes fact made = gone_none (of_process q.process x.actor) refl (no_crash fact made)
     cases Stops fact made = gone_none (of_process q.process x.actor) refl (no_stop fact)
     cases Ends fact made = by_test (made.q.process == q.process) refl
@@ -77,9 +78,13 @@ lives_on doc m q x T stands no_crash no_stop no_end up = cases x.fact refl (are_
     cases (Expires call) fact made = up
     cases (Ticks t) fact made = up
     cases (Stalls beats) fact made = up
+    cases StepsDown fact made = absurd made
+    cases (ReleaseBegins at_deadline) fact made = absurd made
+    cases ReleaseEnds fact made = absurd made
+    cases ReleaseStops fact made = absurd made
     cases (Leads version) fact made = up
 
-module _ (doc : Doc) (near far a e n : ℕ) (q : Identity) (role : is_controller doc q.process ≡ true) (lasts : 1 ≤ renew_deadline doc q.process)
+module _ (doc : Doc) (rules : IsOwn doc) (near far a e n : ℕ) (q : Identity) (role : is_controller doc q.process ≡ true) (lasts : 1 ≤ renew_deadline doc q.process)
     (steady : IsSteady doc near far a e q.process) (within : n ≤ e) (none : (k : ℕ) → a ≤ k → k ≤ n → Acts doc q k → ⊥) where
   -- who is up after a beat and didn't act in it has no term
   pub unled : (k : ℕ) → a ≤ k → k ≤ n → alive q.process (history doc (suc k)) ≡ Some q.incarnation → deadline doc q (history doc (suc k)) ≡ None
@@ -95,7 +100,7 @@ module _ (doc : Doc) (near far a e n : ℕ) (q : Identity) (role : is_controller
       awake = (steady.passes k from (omega (arith, to, within))).awake
 
       not_over : (p : ℕ) → p ≤ processes doc → Over q (at_turn doc p k) → ⊥
-      not_over p le over = (over_stays doc (suc k) q (at_turn doc p k) (history doc (suc k)) (tail_all (history doc (suc k))) (turn_tail doc p k le) over).1 up
+      not_over p le over = (over_stays doc rules (suc k) q (at_turn doc p k) (history doc (suc k)) (tail_all (history doc (suc k))) (turn_tail doc p k le) over).1 up
 
       clash : (at : ℕ) → deadline doc q g ≡ Some at → ⊥
       clash at set = by_time (nat_lt (local doc q.process k) at) refl
@@ -108,14 +113,14 @@ module _ (doc : Doc) (near far a e n : ℕ) (q : Identity) (role : is_controller
 
           by_time : (b : Bool) → nat_lt (local doc q.process k) at ≡ b → ⊥
           by_time true before =
-              none k from to (role, acts_before doc q k at g awake there set before)
-          by_time false late = not_over (suc q.process) (omega (arith, below)) (past_ends doc k q g at role there set counted late awake)
+              none k from to (role, acts_before doc rules q k at g awake there set before)
+          by_time false late = not_over (suc q.process) (omega (arith, below)) (past_ends doc rules k q g at role there set counted late awake)
 
       by_deadline : (o : Option ℕ) → deadline doc q (history doc (suc k)) ≡ o → deadline doc q (history doc (suc k)) ≡ None
       by_deadline None is = is
       by_deadline (Some at) is =
           let three = three_steps doc k (history doc k) in
-          absurd (clash at (deadline_turns doc q k q.process three ∙ sym (deadline_turns doc q k (processes doc) three) ∙ is))
+          absurd (clash at (deadline_turns doc rules q k q.process three ∙ sym (deadline_turns doc rules q k (processes doc) three) ∙ is))
 
   placed : (x : Entry) (T : List Entry) → IsTail (x ∷ T) (history doc (suc n)) → In x (history doc (suc e))
   placed x T at = in_tail x (history doc (suc n)) (history doc (suc e)) (later_tail doc (suc n) (suc e) (omega (arith, within))) (in_head x T (history doc (suc n)) at)
@@ -139,7 +144,7 @@ module _ (doc : Doc) (near far a e n : ℕ) (q : Identity) (role : is_controller
         where
           over : Over q (history doc x.beat) → ⊥
           over o =
-              (over_stays doc (suc n) q (history doc x.beat) T (tail_trans T (x ∷ T) (history doc (suc n)) (inr (tail_all T)) stands)
+              (over_stays doc rules (suc n) q (history doc x.beat) T (tail_trans T (x ∷ T) (history doc (suc n)) (inr (tail_all T)) stands)
               (not_before doc x.beat (suc n) x T (omega (arith, is, to)) stands (omega arith) (omega (arith, step))) o).1 up
 
           unset : alive q.process (history doc x.beat) ≡ Some q.incarnation → ⊥
@@ -160,7 +165,7 @@ module _ (doc : Doc) (near far a e n : ℕ) (q : Identity) (role : is_controller
 
   stays_up : (x : Entry) (T : List Entry) → IsTail (x ∷ T) (history doc (suc n)) → IsSince a x → alive q.process T ≡ Some q.incarnation → alive q.process (x ∷ T) ≡ Some q.incarnation
   stays_up x T stands since up =
-      lives_on doc (suc n) q x T stands
+      lives_on doc rules (suc n) q x T stands
       (λ fact first own. let before = steady.crashes x (placed x T stands) fact own in ⊎_elim (λ lt. omega (arith, lt, before)) (λ here. omega (arith, here.1, first)) since)
       (λ fact own. let before = steady.stops x (placed x T stands) fact own in omega (arith, before, from))
       (λ fact made own same. no_ends x T stands from fact own made.step_is made.at up (ap (λ q. deadline doc q T) (sym same) ∙ made.deadline_is) (ap (λ (q : Identity). nat_lt (local doc q.process x.beat) made.at) (sym same) ∙ made.late)) up

@@ -46,7 +46,7 @@ takeovers_end_in_acting doc near far a e n sound calm time one ways end within n
     no_write doc near far a e n sound calm end within one ways time none answer_entry r.before q answer_at refl role (since, wrote) (omega (arith, r.most, late))
   where
     r : IsRound doc near far q call arrives x.beat
-    r = rounds_in doc near far a e q steady one m x T call arrives stands actor fact step from (omega (arith, late, within)) (λ k is most. omega (arith, most, late, within))
+    r = rounds_in doc sound.2 near far a e q steady one m x T call arrives stands actor fact step from (omega (arith, late, within)) (λ k is most. omega (arith, most, late, within))
 
     in_time : r.at + far ≤ n
     in_time = omega (arith, r.most, late)
@@ -59,7 +59,7 @@ takeovers_end_in_acting doc near far a e n sound calm time one ways end within n
 
     since : a ≤ call.sent
     since =
-        let sent : call.sent ≡ x.beat = (subst (λ o. IfSome o (λ s. (s.call.sent ≡ x.beat) × (s.arrives ≡ request_arrival s.who.process x.beat T))) (sent_is x q call arrives actor fact) (messages_travel doc m x T stands).0).0 in
+        let sent : call.sent ≡ x.beat = (subst (λ o. IfSome o (λ s. (s.call.sent ≡ x.beat) × (s.arrives ≡ request_arrival doc s.who.process x.beat T))) (sent_is x q call arrives actor fact) (messages_travel doc sound.2 m x T stands).0).0 in
         omega (arith, sent, from)
 
     same : stored election r.before ≡ stored election (history doc (a + far))

@@ -6,9 +6,9 @@ use Rattle.kube_objects.specs.declared.call.Request.{Request}
 use Rattle.kube_objects.specs.declared.call.Request.TheVariants.{Get}
 use Rattle.kube_objects.specs.declared.deed.Actor.{Actor}
 use Rattle.kube_objects.specs.Clocks.{local}
-use Rattle.kube_objects.specs.Document.{Doc, is_controller, retry_period}
-use Rattle.kube_objects.specs.Elector.{told, is_fast, lead_says, Shown, shown, shows, newly, observed, leads, follow_on, timer_follow, timer_says, timer, deadline, attempt, attempt_from, moment, observed_at, acts}
-use Rattle.kube_objects.specs.Entry.{Entry, Identity, Call, CallKind, Plain, Fact, First as FirstPut, Event as Happens, Starts, Stops, Sends, Answers, Delivers, Expires, Leads, Ends, Crashes, Stalls, Ticks, actor_of}
+use Rattle.kube_objects.specs.Document.{Doc, is_controller}
+use Rattle.kube_objects.specs.Elector.{told, is_fast, lead_says, Shown, shown, shows, newly, observed, leads, follow_on, retry_at, timer_follow, timer_says, timer, deadline, attempt, attempt_from, moment, observed_at, acts}
+use Rattle.kube_objects.specs.Entry.{Entry, Identity, Call, CallKind, Plain, Fact, First as FirstPut, Event as Happens, Starts, Stops, Sends, Answers, Delivers, Expires, Leads, Ends, Crashes, Stalls, Ticks, actor_of, StepsDown, ReleaseBegins, ReleaseEnds, ReleaseStops}
 use Rattle.kube_objects.specs.Identities.{is_by}
 use Rattle.kube_objects.specs.Newest.{newest, when, only_if, join, has, or_zero}
 use Rattle.kube_objects.specs.Pauses.{is_paused}
@@ -17,8 +17,10 @@ use Rattle.kube_objects.specs.Stored.{election}
 use Rattle.kube_objects.specs.Tick.{tick}
 use Rattle.kube_objects.specs.Turns.{expire_call, expired, end_term, expired_in, just_expired, is_fast_call, attempt_if, try}
 use Rattle.kube_objects.specs.Wire.{send}
+use Rattle.kube_objects.specs.Stalls.{is_stalled}
+use Rattle.kube_objects.specs.Own.{IsOwn}
 use Rattle.history.specs.History.{history}
-use Rattle.history.specs.Steps.{if_up, restart_if, restart, expire, finish, attempts, ticks, controller_turn, kubelet_turn, unpaused_turn, turn}
+use Rattle.history.specs.Steps.{if_up, restart_if, restart, expire, finish, attempts, ticks_while, ticks, controller_turn, kubelet_turn, unpaused_turn, turn}
 use Rattle.history_laws.specs.Tails.{IsTail}
 use Rattle.history_laws.proofs.Counting.{counted_is}
 use Rattle.history_laws.proofs.Plainly.{upper, none_is, true_is, same_is, same_self}
@@ -30,7 +32,7 @@ use Rattle.call_laws.proofs.Starting.{starts_are_down}
 -- ---- an own turn with an attempt that is due
 
 pub ticks_add : (doc : Doc) (k p : ℕ) (h : List Entry) → IsTail h (ticks doc k p h)
-ticks_add doc k p h = by_up (alive p h)
+ticks_add doc k p h = by_stall (is_stalled doc k)
   where
     by_test : (i : ℕ) (b : Bool) → IsTail h (if b then tick doc k (record { process = p; incarnation = i }) h else h)
     by_test i true = walk_tick doc k (record { process = p; incarnation = i }) (λ g. IsTail h g) (λ t g made s. inr s) h (tail_all h)
@@ -40,16 +42,20 @@ ticks_add doc k p h = by_up (alive p h)
     by_up None = tail_all h
     by_up (Some i) = by_test i (acts doc (record { process = p; incarnation = i }) k h)
 
+    by_stall : (b : Bool) → IsTail h (ticks_while b doc k p h)
+    by_stall true = tail_all h
+    by_stall false = by_up (alive p h)
+
 -- a turn in which no term ends, no call waits and the timer has come sends what the identity then tries
 pub turn_sends : (doc : Doc) (k : ℕ) (q : Identity) (g : List Entry) → is_controller doc q.process ≡ true → is_paused doc q.process k ≡ false → alive q.process g ≡ Some q.incarnation → call_in q g ≡ None → finish doc k q.process g ≡ g
-    → just_expired q k g ≡ None → nat_lt (local doc q.process k) (timer doc q g) ≡ false → IsTail (send k 4 q (attempt doc q k g).0 (attempt doc q k g).1 g) (turn doc k q.process g)
+    → just_expired q k g ≡ None → nat_lt (local doc q.process k) (timer doc q g) ≡ false → IsTail (send doc k 4 q (attempt doc q k g).0 (attempt doc q k g).1 g) (turn doc k q.process g)
 turn_sends doc k q g role awake up call finishes expiry due =
     subst (λ b. IsTail sent (if b then g else unpaused_turn doc k q.process g)) (sym awake)
     (subst (λ b. IsTail sent (if b then controller_turn doc k q.process g else kubelet_turn doc k q.process g)) (sym role)
     (subst (IsTail sent) (sym whole) (ticks_add doc k q.process sent)))
   where
     sent : List Entry
-    sent = send k 4 q (attempt doc q k g).0 (attempt doc q k g).1 g
+    sent = send doc k 4 q (attempt doc q k g).0 (attempt doc q k g).1 g
 
     restarts : restart doc k q.process g ≡ g
     restarts = ap (λ o. restart_if doc k q.process o g) up
@@ -72,7 +78,7 @@ turn_sends doc k q g role awake up call finishes expiry due =
         ∙ ap (ticks doc k q.process) tries
 
 pub turn_tries : (doc : Doc) (k : ℕ) (q : Identity) (g : List Entry) → is_controller doc q.process ≡ true → is_paused doc q.process k ≡ false → alive q.process g ≡ Some q.incarnation → call_in q g ≡ None → deadline doc q g ≡ None
-    → just_expired q k g ≡ None → nat_lt (local doc q.process k) (timer doc q g) ≡ false → IsTail (send k 4 q (attempt doc q k g).0 (attempt doc q k g).1 g) (turn doc k q.process g)
+    → just_expired q k g ≡ None → nat_lt (local doc q.process k) (timer doc q g) ≡ false → IsTail (send doc k 4 q (attempt doc q k g).0 (attempt doc q k g).1 g) (turn doc k q.process g)
 turn_tries doc k q g role awake up call unset expiry due =
     turn_sends doc k q g role awake up call (ap (λ o. if_up q.process (λ q T. end_term doc k q (deadline doc q T) T) o g) up ∙ ap (λ o. end_term doc k q o g) unset) expiry due
 
@@ -98,6 +104,10 @@ others_call q who Starts other = refl
 others_call q who Crashes other = refl
 others_call q who Stops other = refl
 others_call q who (Stalls beats) other = refl
+others_call q who StepsDown other = refl
+others_call q who (ReleaseBegins at_deadline) other = ap (λ b. when b None) other
+others_call q who ReleaseEnds other = refl
+others_call q who ReleaseStops other = refl
 others_call q who Ends other = refl
 others_call q who (Answers c reply comes wrote) other = refl
 others_call q who (Leads version) other = refl
@@ -107,16 +117,20 @@ others_call q who (Ticks t) other = refl
 pub others_time : (doc : Doc) (q : Identity) (x : Entry) (h : List Entry) (d : Fact) → is_by q x.actor ≡ false → timer_says doc q x h d ≡ None
 others_time doc q x h Starts other = ap (λ b. when b (local doc q.process x.beat)) other
 others_time doc q x h (Leads version) other = ap (λ b. when b (local doc q.process x.beat)) other
-others_time doc q x h (Expires c) other = ap (λ b. when (b && not (is_fast c.kind)) (local doc q.process x.beat + retry_period doc q.process)) other
+others_time doc q x h (Expires c) other = ap (λ b. when (b && not (is_fast c.kind)) (retry_at (leads q h) doc q x h)) other
 others_time doc q x h (Delivers c reply false) other = refl
 others_time doc q x h (Delivers c reply true) other =
-    ap (λ b. only_if b (timer_follow (follow_on doc q x.beat c.kind c.request reply (x ∷ h)) (leads q h) (local doc q.process x.beat + retry_period doc q.process))) other
+    ap (λ b. only_if b (timer_follow doc q x h (leads q h) (follow_on doc q x.beat c.kind c.request reply (x ∷ h)))) other
 others_time doc q x h (Sends c arrives) other = refl
 others_time doc q x h (FirstPut key object) other = refl
 others_time doc q x h (Happens w version) other = refl
 others_time doc q x h Crashes other = refl
 others_time doc q x h Stops other = refl
 others_time doc q x h (Stalls beats) other = refl
+others_time doc q x h StepsDown other = refl
+others_time doc q x h (ReleaseBegins at_deadline) other = refl
+others_time doc q x h ReleaseEnds other = refl
+others_time doc q x h ReleaseStops other = refl
 others_time doc q x h Ends other = refl
 others_time doc q x h (Answers c reply comes wrote) other = refl
 others_time doc q x h (Ticks t) other = refl
@@ -133,6 +147,10 @@ others_show q who Starts other = refl
 others_show q who Crashes other = refl
 others_show q who Stops other = refl
 others_show q who (Stalls beats) other = refl
+others_show q who StepsDown other = refl
+others_show q who (ReleaseBegins at_deadline) other = refl
+others_show q who ReleaseEnds other = refl
+others_show q who ReleaseStops other = refl
 others_show q who Ends other = refl
 others_show q who (Answers c reply comes wrote) other = refl
 others_show q who (Leads version) other = refl
@@ -187,7 +205,7 @@ module _ (doc : Doc) (q : Identity) (low : List Entry) (at : ℕ) (view : Option
           no_reply w reply (sym (ap (λ (e : Entry). e.fact) same) ∙ fact) (sym (ap (λ (e : Entry). e.actor) same) ∙ mine)
       by_place z Z (inr at) below_z w reply fact mine = s.undelivered z Z at below_z w reply fact mine
 
-  module _ (m : ℕ) (role : is_controller doc q.process ≡ true) (unled : (h : List Entry) → IsTail h (history doc m) → leads q h ≡ false)
+  module _ (rules : IsOwn doc) (m : ℕ) (role : is_controller doc q.process ≡ true) (unled : (h : List Entry) → IsTail h (history doc m) → leads q h ≡ false)
       (up : (h : List Entry) → IsTail low h → IsTail h (history doc m) → alive q.process h ≡ Some q.incarnation) where
     by_actor : (who : Actor) (p : Identity) → who ≡ actor_of p → is_by q who ≡ true → p ≡ q
     by_actor who p by mine = same_is p q (sym (ap (is_by q) by) ∙ mine)
@@ -225,7 +243,7 @@ module _ (doc : Doc) (q : Identity) (low : List Entry) (at : ℕ) (view : Option
         own who Starts actor fact mine made =
             let p : Identity = record { process = made.0; incarnation = starts made.0 h + 1 } in
             let same : p ≡ q = by_actor who p made.1 mine in
-            let down : alive p.process h ≡ None = starts_are_down doc m x h position fact p (actor ∙ made.1) in
+            let down : alive p.process h ≡ None = starts_are_down doc rules m x h position fact p (actor ∙ made.1) in
             absurd (none_is q.incarnation (sym down ∙ ap (λ (p : Identity). alive p.process h) same ∙ up h below (tail_trans h (x ∷ h) (history doc m) (inr (tail_all h)) position)))
         own who (Leads version) actor fact mine made =
             absurd (true_is (sym (ap (λ b. has (upper (when b version) (newest (λ e T. lead_says q e.actor e.fact) h))) mine) ∙ led_now))
@@ -238,12 +256,16 @@ module _ (doc : Doc) (q : Identity) (low : List Entry) (at : ℕ) (view : Option
         own who Crashes actor fact mine made = inl (plain Crashes fact refl refl refl (λ k. refl) (λ w r. is_other Crashes w r counts refl refl))
         own who Stops actor fact mine made = inl (plain Stops fact refl refl refl (λ k. refl) (λ w r. is_other Stops w r counts refl refl))
         own who (Stalls beats) actor fact mine made = inl (plain (Stalls beats) fact refl refl refl (λ k. refl) (λ w r. is_other (Stalls beats) w r counts refl refl))
+        own who StepsDown actor fact mine made = absurd made
+        own who (ReleaseBegins at_deadline) actor fact mine made = absurd made
+        own who ReleaseEnds actor fact mine made = absurd made
+        own who ReleaseStops actor fact mine made = absurd made
         own who Ends actor fact mine made = inl (plain Ends fact refl refl refl (λ k. refl) (λ w r. is_other Ends w r counts refl refl))
         own who (Answers c reply comes wrote) actor fact mine made = inl (plain (Answers c reply comes wrote) fact refl refl refl (λ k. refl) (λ w r. is_other (Answers c reply comes wrote) w r counts refl refl))
         own who (Ticks t) actor fact mine made = inl (plain (Ticks t) fact refl refl refl (λ k. refl) (λ w r. is_other (Ticks t) w r counts refl refl))
 
         by_own : (b : Bool) → is_by q x.actor ≡ b → Quiet (x ∷ h) ⊎ Asked (x ∷ h)
-        by_own true mine = own x.actor x.fact refl refl mine (are_made doc m x h position)
+        by_own true mine = own x.actor x.fact refl refl mine (are_made doc rules m x h position)
         by_own false other = inl (foreign other)
 
     -- at each later position all is quiet, or it has asked

@@ -17,8 +17,8 @@ use Rattle.kube_objects.specs.declared.object.Object.TheVariants as object
 use Rattle.kube_objects.specs.Answers.{answer, written, if_done}
 use Rattle.kube_objects.specs.Clocks.{local}
 use Rattle.kube_objects.specs.Document.{Doc, is_controller, call_timeout, retry_period, renew_deadline}
-use Rattle.kube_objects.specs.Elector.{Follow, Fails, Asks, Succeeds, follow_on, leads, succeeds, deadline, acts}
-use Rattle.kube_objects.specs.Entry.{Entry, Identity, Call, CallKind, Fact, First as FirstPut, Event as Happens, Starts, Stops, Sends, Answers, Delivers, Expires, Leads, Ends, Crashes, Stalls, Ticks, actor_of, entry}
+use Rattle.kube_objects.specs.Elector.{Follow, Succeeds, follow_on, leads, succeeds, deadline, acts}
+use Rattle.kube_objects.specs.Entry.{Entry, Identity, Call, CallKind, Fact, First as FirstPut, Event as Happens, Starts, Stops, Sends, Answers, Delivers, Expires, Leads, Ends, Crashes, Stalls, Ticks, actor_of, entry, StepsDown, ReleaseBegins, ReleaseEnds, ReleaseStops}
 use Rattle.kube_objects.specs.Identities.{is_same, is_by, of_process}
 use Rattle.kube_objects.specs.InFlight.{is_due, replies_due}
 use Rattle.kube_objects.specs.Newest.{when, only_if, has}
@@ -27,6 +27,8 @@ use Rattle.kube_objects.specs.Process.{open_as, alive, call_in, is_present, is_l
 use Rattle.kube_objects.specs.Stored.{election, request_write, at_key}
 use Rattle.kube_objects.specs.Turns.{react, with_reply}
 use Rattle.kube_objects.specs.Wire.{Sent, Back, sent_of, back_of, reply_arrival, request_arrival}
+use Rattle.kube_objects.specs.Own.{IsOwn}
+use Rattle.history.proofs.Own.{react-own}
 use Rattle.history.specs.History.{three_steps, history, at_turn}
 use Rattle.history.specs.Safe.{Acts}
 use Rattle.history.specs.Steps.{delivered, deliver_all, deliver_as, react_as, step_three}
@@ -34,9 +36,10 @@ use Rattle.history_laws.specs.Order.{IsWithin}
 use Rattle.history_laws.specs.Tails.{In, IsTail}
 use Rattle.history_laws.proofs.Counting.{counted_is}
 use Rattle.history_laws.proofs.Plainly.{upper, some_is, none_is, false_is, true_is, and_left, and_right, and_both, same_is, same_self, identity_eq}
-use Rattle.history_laws.proofs.Tailed.{tail_all, tail_trans, in_tail, later_tail, turn_tail, turns_add, two_adds, same_head, same_rest}
+use Rattle.history_laws.proofs.Tailed.{tail_all, tail_trans, in_tail, later_tail, turn_tail, turns_add, two_adds, same_head, same_rest, react_adds}
 use Rattle.history_laws.proofs.Order.{entries_are_earlier}
 use Rattle.kube_objects.proofs.Clocks.{local_up}
+use Rattle.kube_objects.proofs.Own.{is_late-own}
 use Rattle.history_laws.proofs.Walk.{Coming}
 use Rattle.span_laws.proofs.Spans.{goes_most}
 use Rattle.call_laws.specs.Answering.{with_events, with_answers}
@@ -97,7 +100,7 @@ wins doc q k kind (Update key given lease) reply h won =
 
 -- a success leaves a deadline later than now
 won_fresh : (doc : Doc) (q : Identity) (k : ℕ) (call : Call) (reply : Reply) (version : Version) (h : List Entry) → 1 ≤ renew_deadline doc q.process → succeeds call.request reply ≡ true
-    → IsFresh doc q k (react k q (leads q (with_reply k q call reply h)) (Succeeds version) (with_reply k q call reply h))
+    → IsFresh doc q k (react doc k q (leads q (with_reply k q call reply h)) (Succeeds version) (with_reply k q call reply h))
 won_fresh doc q k call reply version h lasts so = by_led (leads q h) refl
   where
     next : ℕ
@@ -143,6 +146,10 @@ closed_by q call x T doc C made closes reply_counts expires stops = cases x.fact
     cases Crashes fact made closes = elim closes [ ]
     cases Ends fact made closes = elim closes [ ]
     cases (Stalls beats) fact made closes = elim closes [ ]
+    cases StepsDown fact made closes = absurd made
+    cases (ReleaseBegins at_deadline) fact made closes = absurd made
+    cases ReleaseEnds fact made closes = absurd made
+    cases ReleaseStops fact made closes = absurd made
     cases (Sends w arrives) fact made closes = elim closes [ ]
     cases (Answers w reply comes wrote) fact made closes = elim closes [ ]
     cases (Delivers w reply false) fact made closes = elim closes [ ]
@@ -159,18 +166,16 @@ waits_count doc q k call given h number timely w =
     ∙ ap (λ t. when (not t) call) timely
 
 -- what the reply that counts brings about
-pub delivers : (doc : Doc) (q : Identity) (k : ℕ) (call : Call) (b : Back) (h : List Entry) → is_controller doc q.process ≡ true → b.who ≡ q → (call.number == b.call.number) ≡ true → is_late doc q k call ≡ false → Waits doc k q call h
-    → delivered doc k b h ≡ react k q (leads q (with_reply k q call b.reply h)) (follow_on doc q k call.kind call.request b.reply (with_reply k q call b.reply h)) (with_reply k q call b.reply h)
-delivers doc q k call b h role mine number timely w =
+pub delivers : (doc : Doc) → IsOwn doc → (q : Identity) (k : ℕ) (call : Call) (b : Back) (h : List Entry) → is_controller doc q.process ≡ true → b.who ≡ q → (call.number == b.call.number) ≡ true → is_late doc q k call ≡ false → Waits doc k q call h
+    → delivered doc k b h ≡ react doc k q (leads q (with_reply k q call b.reply h)) (follow_on doc q k call.kind call.request b.reply (with_reply k q call b.reply h)) (with_reply k q call b.reply h)
+delivers doc rules q k call b h role mine number timely w =
     ap (λ p. deliver_as doc k p b.call b.reply (counted doc p k b.call.number h) h) mine
     ∙ ap (λ o. deliver_as doc k q b.call b.reply o h) (waits_count doc q k call b.call.number h number timely w)
     ∙ ap (λ t. react_as doc k q call b.reply t (with_reply k q call b.reply h)) role
+    ∙ react-own doc rules k q call b.reply (with_reply k q call b.reply h)
 
-pub follow_adds : (k : ℕ) (q : Identity) (led : Bool) (f : Follow) (h : List Entry) → IsTail h (react k q led f h)
-follow_adds k q led Fails h = tail_all h
-follow_adds k q led (Asks request) h = inr (tail_all h)
-follow_adds k q true (Succeeds version) h = tail_all h
-follow_adds k q false (Succeeds version) h = inr (tail_all h)
+pub follow_adds : (doc : Doc) (k : ℕ) (q : Identity) (led : Bool) (f : Follow) (h : List Entry) → IsTail h (react doc k q led f h)
+follow_adds doc k q led f h = react_adds doc k q led f h h (tail_all h)
 
 -- ---- the sending that an answer answers
 
@@ -200,6 +205,10 @@ sends_of who Starts s is = absurd (none_is s is)
 sends_of who Crashes s is = absurd (none_is s is)
 sends_of who Stops s is = absurd (none_is s is)
 sends_of who (Stalls beats) s is = absurd (none_is s is)
+sends_of who StepsDown s is = absurd (none_is s is)
+sends_of who (ReleaseBegins at_deadline) s is = absurd (none_is s is)
+sends_of who ReleaseEnds s is = absurd (none_is s is)
+sends_of who ReleaseStops s is = absurd (none_is s is)
 sends_of who Ends s is = absurd (none_is s is)
 sends_of who (Leads version) s is = absurd (none_is s is)
 
@@ -223,7 +232,7 @@ pub record IsReacted (doc : Doc) (near far : ℕ) (q : Identity) (call : Call) (
   pub low : IsTail (with_answers doc round.comes) before
   pub position :
       IsTail
-      (react round.comes q (leads q (with_reply round.comes q call (answer call.request round.before) before))
+      (react doc round.comes q (leads q (with_reply round.comes q call (answer call.request round.before) before))
       (follow_on doc q round.comes call.kind call.request (answer call.request round.before) (with_reply round.comes q call (answer call.request round.before) before))
       (with_reply round.comes q call (answer call.request round.before) before))
       (history doc (suc round.comes))
@@ -240,7 +249,7 @@ since_low doc a n f S at from step = by_beat (cases_lt a f.beat)
         let same : f.beat ≡ a = omega (arith, from, le) in
         subst (λ a. IsTail (with_events doc a) S) same (low_of (IsLate f.beat 2) (with_events doc f.beat) S (above_events doc (suc n) f S at (omega (arith, step))))
 
-module _ (doc : Doc) (near far a e n : ℕ) (q : Identity) (role : is_controller doc q.process ≡ true) (steady : IsSteady doc near far a e q.process) (time : IsInTime doc far a e q.process)
+module _ (doc : Doc) (rules : IsOwn doc) (near far a e n : ℕ) (q : Identity) (role : is_controller doc q.process ≡ true) (steady : IsSteady doc near far a e q.process) (time : IsInTime doc far a e q.process)
     (within : n ≤ e) (one : 1 ≤ near) where
   -- ---- no call is late before its reply can come
 
@@ -262,7 +271,7 @@ module _ (doc : Doc) (near far a e n : ℕ) (q : Identity) (role : is_controller
 
       by_test : (b : Bool) → is_late doc q y call ≡ b → is_late doc q y call ≡ false
       by_test false is = is
-      by_test true is = absurd (omega (arith, ltb-true (local doc q.process call.sent + call_timeout doc q.process) (local doc q.process y) is, least))
+      by_test true is = absurd (omega (arith, ltb-true (local doc q.process call.sent + call_timeout doc q.process) (local doc q.process y) (sym (is_late-own doc rules q y call) ∙ is), least))
 
   -- ---- a call that is answered with a write, and whose reply comes in time, ends in acting
 
@@ -305,13 +314,13 @@ module _ (doc : Doc) (near far a e n : ℕ) (q : Identity) (role : is_controller
     same_back : (g : List Entry) (x : Entry) (b : Back) → IsTail g (history doc (suc n)) → In x g → back_of x.actor x.fact ≡ Some b → b.who ≡ q → b.call.number ≡ call.number → b ≡ back
     same_back g x b within_n stands is who number =
         let p = place_of x g stands in
-        let same = answers_differ doc (suc n) x answer_entry p.before r.before b back (tail_trans (x ∷ p.before) g (history doc (suc n)) p.position within_n) answer_at is refl who number in
+        let same = answers_differ doc rules (suc n) x answer_entry p.before r.before b back (tail_trans (x ∷ p.before) g (history doc (suc n)) p.position within_n) answer_at is refl who number in
         some_is b back (sym is ∙ ap (λ (x : Entry). back_of x.actor x.fact) (same_head x answer_entry p.before r.before same))
 
     -- it still waits as the replies of the beat come
     unclosed : IsClosed q call (s.f ∷ s.before) two → ⊥
     unclosed c =
-        closed_by q call c.e c.before doc ⊥ (are_made doc (suc n) c.e c.before position) c.closes delivers_it expires_it
+        closed_by q call c.e c.before doc ⊥ (are_made doc rules (suc n) c.e c.before position) c.closes delivers_it expires_it
         (λ fact own. omega (arith, since, steady.stops c.e (in_tail c.e (history doc (suc n)) (history doc (suc e)) (later_tail doc (suc n) (suc e) (omega (arith, within))) (in_head c.e c.before (history doc (suc n)) position)) fact own))
       where
         position : IsTail (c.e ∷ c.before) (history doc (suc n))
@@ -345,20 +354,20 @@ module _ (doc : Doc) (near far a e n : ℕ) (q : Identity) (role : is_controller
             let on_time = timely call s.f.beat y s.sent s.from (omega (arith, r.least, r.comes_least)) (omega (arith, r.most, r.comes_most)) (omega (arith, comes, within)) in
             omega (
               arith,
-              ltb-true (local doc q.process call.sent + call_timeout doc q.process) (local doc q.process c.e.beat) late,
-              ltb-false (local doc q.process call.sent + call_timeout doc q.process) (local doc q.process y) on_time,
+              ltb-true (local doc q.process call.sent + call_timeout doc q.process) (local doc q.process c.e.beat) (sym (is_late-own doc rules q c.e.beat call) ∙ late),
+              ltb-false (local doc q.process call.sent + call_timeout doc q.process) (local doc q.process y) (sym (is_late-own doc rules q y call) ∙ on_time),
               local_up doc q.process c.e.beat y upto,
             )
 
     waiting : Waits doc y q call two
     waiting = record {
       up = up_at two (tail_trans s.before (s.f ∷ s.before) two (inr (tail_all s.before)) sent_low) at_two;
-      call_is = ⊎_elim (λ waits. waits) (λ closed. absurd (unclosed closed)) (calls_wait doc (suc n) two at_two q call arrives s.f s.before role sent_low s.actor s.fact s.opens);
+      call_is = ⊎_elim (λ waits. waits) (λ closed. absurd (unclosed closed)) (calls_wait doc rules (suc n) two at_two q call arrives s.f s.before role sent_low s.actor s.fact s.opens);
     }
 
     first : First doc y q call (Coming y two) two (deliver_all doc y (replies_due y two) two)
     first =
-        first_for doc y q call (delivered_adds doc y) (deliveries_add doc y) (Coming y two) (replies_due y two) two waiting (all_coming doc y q call two two (λ e at. at))
+        first_for doc rules y q call (delivered_adds doc y) (deliveries_add doc y) (Coming y two) (replies_due y two) two waiting (all_coming doc y q call two two (λ e at. at))
         (any_coming doc y q call two two answer_entry back (in_answers doc r.at y answer_entry r.before (omega (arith, one, r.comes_least)) r.position) refl
         (subst (λ o. is_due y o ≡ true) (sym r.comes_is) (eq-eqb y y refl)) (and_both (is_same q q) (call.number == call.number) (same_self q) (eq-eqb call.number call.number refl)))
 
@@ -373,13 +382,13 @@ module _ (doc : Doc) (near far a e n : ℕ) (q : Identity) (role : is_controller
 
     abbrev follow_of : Back → List Entry
     follow_of b =
-        react y q (leads q (with_reply y q call b.reply first.before)) (follow_on doc q y call.kind call.request b.reply (with_reply y q call b.reply first.before)) (with_reply y q call b.reply first.before)
+        react doc y q (leads q (with_reply y q call b.reply first.before)) (follow_on doc q y call.kind call.request b.reply (with_reply y q call b.reply first.before)) (with_reply y q call b.reply first.before)
 
     follows_at : IsTail (follow_of first.b) (history doc (suc y))
     follows_at =
         tail_trans (follow_of first.b) (delivered doc y first.b first.before) (history doc (suc y))
         (subst (IsTail (follow_of first.b))
-        (sym (delivers doc q y call first.b first.before role mine number (timely call s.f.beat y s.sent s.from (omega (arith, r.least, r.comes_least)) (omega (arith, r.most, r.comes_most)) (omega (arith, comes, within))) first.waits))
+        (sym (delivers doc rules q y call first.b first.before role mine number (timely call s.f.beat y s.sent s.from (omega (arith, r.least, r.comes_least)) (omega (arith, r.most, r.comes_most)) (omega (arith, comes, within))) first.waits))
         (tail_all (follow_of first.b)))
         (tail_trans (delivered doc y first.b first.before) (step_three doc y two) (history doc (suc y)) first.position (deliveries_position doc y))
 
@@ -396,11 +405,11 @@ module _ (doc : Doc) (near far a e n : ℕ) (q : Identity) (role : is_controller
       abbrev done : List Entry
       done = delivered doc y first.b first.before
 
-      done_is : done ≡ react y q (leads q (with_reply y q call first.b.reply first.before)) (Succeeds success.version) (with_reply y q call first.b.reply first.before)
+      done_is : done ≡ react doc y q (leads q (with_reply y q call first.b.reply first.before)) (Succeeds success.version) (with_reply y q call first.b.reply first.before)
       done_is =
-          delivers doc q y call first.b first.before role mine number
+          delivers doc rules q y call first.b first.before role mine number
           (timely call s.f.beat y s.sent s.from (omega (arith, r.least, r.comes_least)) (omega (arith, r.most, r.comes_most)) (omega (arith, comes, within))) first.waits
-          ∙ ap (λ f. react y q (leads q (with_reply y q call first.b.reply first.before)) f (with_reply y q call first.b.reply first.before)) success.follows
+          ∙ ap (λ f. react doc y q (leads q (with_reply y q call first.b.reply first.before)) f (with_reply y q call first.b.reply first.before)) success.follows
 
       fresh : IsFresh doc q y done
       fresh = subst (IsFresh doc q y) (sym done_is) (won_fresh doc q y call first.b.reply success.version first.before time.deadline success.succeeds_is)
@@ -427,7 +436,7 @@ module _ (doc : Doc) (near far a e n : ℕ) (q : Identity) (role : is_controller
               (tail_trans g (history doc (suc y)) (history doc (suc n)) above (later_tail doc (suc y) (suc n) (omega (arith, comes))))
 
           by_time : (at : ℕ) → deadline doc q g ≡ Some at → local doc q.process y < at → (b : Bool) → nat_lt (local doc q.process y) at ≡ b → acts doc q y g ≡ true
-          by_time at is later true before = acts_before doc q y at g (steady.passes y (omega (arith, s.from, r.least, r.comes_least)) (omega (arith, comes, within))).awake up is before
+          by_time at is later true before = acts_before doc rules q y at g (steady.passes y (omega (arith, s.from, r.least, r.comes_least)) (omega (arith, comes, within))).awake up is before
           by_time at is later false late = absurd (omega (arith, later, ltb-false (local doc q.process y) at late))
 
       pub won_acts : ((k : ℕ) → a ≤ k → k ≤ n → Acts doc q k → ⊥) → ⊥
@@ -440,7 +449,7 @@ module _ (doc : Doc) (near far a e n : ℕ) (q : Identity) (role : is_controller
   sending_of call arrives f S position actor fact from = by_free (made.free (ap (λ (p : Identity). is_controller doc p.process) mine ∙ role))
     where
       made : MadeSend doc f.beat f.step f.actor call arrives S
-      made = subst (λ d. MadeAs doc f.beat f.step f.actor d S) fact (are_made doc (suc n) f S position)
+      made = subst (λ d. MadeAs doc f.beat f.step f.actor d S) fact (are_made doc rules (suc n) f S position)
 
       mine : made.q ≡ q
       mine = actor_is made.q q (sym made.by ∙ actor)
@@ -503,7 +512,7 @@ module _ (doc : Doc) (near far a e n : ℕ) (q : Identity) (role : is_controller
 
         r : IsRound doc near far q s.call s.arrives s_sending.f.beat
         r =
-            rounds_in doc near far a e q steady one (suc n) s_sending.f s_sending.before s.call s.arrives s_sending.position s_sending.actor s_sending.fact (omega (arith, s_sending.step)) s_sending.from
+            rounds_in doc rules near far a e q steady one (suc n) s_sending.f s_sending.before s.call s.arrives s_sending.position s_sending.actor s_sending.fact (omega (arith, s_sending.step)) s_sending.from
             upto (λ k is most. omega (arith, some_is k x.beat (sym is ∙ arrives), late, within))
           where
             upto : s_sending.f.beat ≤ e
@@ -520,13 +529,13 @@ module _ (doc : Doc) (near far a e n : ℕ) (q : Identity) (role : is_controller
 
         same : x ∷ T ≡ there ∷ r.before
         same =
-            answers_differ doc (suc n) x there T r.before mine_back (record { who = q; call = s.call; reply = answer s.call.request r.before; comes = reply_arrival doc q.process r.at r.before }) position
+            answers_differ doc rules (suc n) x there T r.before mine_back (record { who = q; call = s.call; reply = answer s.call.request r.before; comes = reply_arrival doc q.process r.at r.before }) position
             (tail_trans (there ∷ r.before) (history doc (suc r.at)) (history doc (suc n)) r.position (later_tail doc (suc r.at) (suc n) (omega (arith, beat, late))))
             (ap (λ d. back_of x.actor d) fact ∙ ap (λ who. back_of who (Answers call reply comes wrote)) (actor ∙ made.by)) refl whose (ap (λ (c : Call). c.number) made.call_is)
 
         stands : (h : List Entry) → IsTail s_sending.before h → IsTail h (history doc (suc n)) → alive q.process h ≡ Some q.incarnation
         stands h below above =
-            persists doc near far a e n q role time.deadline steady within none (omega (arith, s_sending.from, r.least, beat, late)) s_sending.before h
+            persists doc rules near far a e n q role time.deadline steady within none (omega (arith, s_sending.from, r.least, beat, late)) s_sending.before h
             (since_low doc a n s_sending.f s_sending.before s_sending.position s_sending.from s_sending.step) below above s_sending.up
 
         won : IsWon s.call.request (answer s.call.request r.before)
@@ -543,22 +552,26 @@ module _ (doc : Doc) (near far a e n : ℕ) (q : Identity) (role : is_controller
     writes x T who Crashes actor fact position mine wrote_it late made = absurd wrote_it
     writes x T who Stops actor fact position mine wrote_it late made = absurd wrote_it
     writes x T who (Stalls beats) actor fact position mine wrote_it late made = absurd wrote_it
+    writes x T who StepsDown actor fact position mine wrote_it late made = absurd made
+    writes x T who (ReleaseBegins at_deadline) actor fact position mine wrote_it late made = absurd made
+    writes x T who ReleaseEnds actor fact position mine wrote_it late made = absurd made
+    writes x T who ReleaseStops actor fact position mine wrote_it late made = absurd made
     writes x T who Ends actor fact position mine wrote_it late made = absurd wrote_it
     writes x T who (Leads version) actor fact position mine wrote_it late made = absurd wrote_it
 
     -- who writes it by a call of the calm acts, if the reply can come in time
     pub writer_acts : (x : Entry) (T : List Entry) → IsTail (x ∷ T) (history doc (suc n)) → x.actor ≡ actor_of q → WritesElection a x.fact → x.beat + far ≤ n → ⊥
-    writer_acts x T position mine election_write late = writes x T x.actor x.fact refl refl position mine election_write late (are_made doc (suc n) x T position)
+    writer_acts x T position mine election_write late = writes x T x.actor x.fact refl refl position mine election_write late (are_made doc rules (suc n) x T position)
 
 -- what follows the reply to a call
-pub replies_react : (doc : Doc) (near far a e n : ℕ) (q : Identity) → is_controller doc q.process ≡ true → IsSteady doc near far a e q.process → IsInTime doc far a e q.process → 1 ≤ near → n ≤ e
+pub replies_react : (doc : Doc) → IsOwn doc → (near far a e n : ℕ) (q : Identity) → is_controller doc q.process ≡ true → IsSteady doc near far a e q.process → IsInTime doc far a e q.process → 1 ≤ near → n ≤ e
     → (x : Entry) (T : List Entry) (call : Call) (arrives : Option ℕ) → IsTail (x ∷ T) (history doc (suc n)) → x.actor ≡ actor_of q → x.fact ≡ Sends call arrives → a ≤ x.beat → x.beat + 2 * far ≤ n
     → ((h : List Entry) → IsTail T h → IsTail h (history doc (suc n)) → alive q.process h ≡ Some q.incarnation)
     → IsReacted doc near far q call arrives x.beat
-replies_react doc near far a e n q role steady time one within x T call arrives stands actor fact from to up = by_sending (sending_of doc near far a e n q role steady time within one call arrives x T stands actor fact since)
+replies_react doc rules near far a e n q role steady time one within x T call arrives stands actor fact from to up = by_sending (sending_of doc rules near far a e n q role steady time within one call arrives x T stands actor fact since)
   where
     sent : call.sent ≡ x.beat
-    sent = (subst (λ o. IfSome o (λ s. (s.call.sent ≡ x.beat) × (s.arrives ≡ request_arrival s.who.process x.beat T))) (sent_is x q call arrives actor fact) (messages_travel doc (suc n) x T stands).0).0
+    sent = (subst (λ o. IfSome o (λ s. (s.call.sent ≡ x.beat) × (s.arrives ≡ request_arrival doc s.who.process x.beat T))) (sent_is x q call arrives actor fact) (messages_travel doc rules (suc n) x T stands).0).0
 
     since : a ≤ call.sent
     since = omega (arith, sent, from)
@@ -566,30 +579,30 @@ replies_react doc near far a e n q role steady time one within x T call arrives 
     by_sending : (s : Sending doc a n q call arrives) × (s.f ≡ x) × (s.before ≡ T) → IsReacted doc near far q call arrives x.beat
     by_sending s =
         subst (λ b. IsReacted doc near far q call arrives b) beat
-        (reacted doc near far a e n q role steady time within one call arrives s.0 r (omega (arith, r.most, r.comes_most, to, beat)) (λ h below above. up h (subst (λ g. IsTail g h) s.2 below) above))
+        (reacted doc rules near far a e n q role steady time within one call arrives s.0 r (omega (arith, r.most, r.comes_most, to, beat)) (λ h below above. up h (subst (λ g. IsTail g h) s.2 below) above))
       where
         beat : s.0.f.beat ≡ x.beat
         beat = ap (λ (e : Entry). e.beat) s.1
 
         r : IsRound doc near far q call arrives s.0.f.beat
         r =
-            rounds_in doc near far a e q steady one (suc n) s.0.f s.0.before call arrives s.0.position s.0.actor s.0.fact (omega (arith, s.0.step)) s.0.from (omega (arith, beat, to, within))
+            rounds_in doc rules near far a e q steady one (suc n) s.0.f s.0.before call arrives s.0.position s.0.actor s.0.fact (omega (arith, s.0.step)) s.0.from (omega (arith, beat, to, within))
             (λ k is most. omega (arith, most, beat, to, within))
 
 -- ---- the law
 
 pub replies_count : RepliesCount
-replies_count doc near far a e n q role steady time one within x T call arrives stands actor fact from to up = record {
+replies_count doc rules near far a e n q role steady time one within x T call arrives stands actor fact from to up = record {
   at = y;
   least = omega (arith, s.round.least, s.round.comes_least);
   most = omega (arith, s.round.most, s.round.comes_most);
   reply = answer call.request s.round.before;
   before = s.before;
-  position = tail_trans counted _ (history doc (suc y)) (follow_adds y q (leads q counted) (follow_on doc q y call.kind call.request (answer call.request s.round.before) counted) counted) s.position;
+  position = tail_trans counted _ (history doc (suc y)) (follow_adds doc y q (leads q counted) (follow_on doc q y call.kind call.request (answer call.request s.round.before) counted) counted) s.position;
 }
   where
     s : IsReacted doc near far q call arrives x.beat
-    s = replies_react doc near far a e n q role steady time one within x T call arrives stands actor fact from to up
+    s = replies_react doc rules near far a e n q role steady time one within x T call arrives stands actor fact from to up
 
     y : ℕ
     y = s.round.comes

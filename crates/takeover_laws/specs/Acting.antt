@@ -3,6 +3,7 @@ use Rattle.std.specs.Prelude.{◌≡◌, ◌≤◌, ℕ, suc, ◌+◌, true, Lis
 use Rattle.kube_objects.specs.Document.{Doc, end_beat, is_controller}
 use Rattle.kube_objects.specs.Entry.{Entry, Identity, actor_of}
 use Rattle.kube_objects.specs.Stored.{election, stored}
+use Rattle.kube_objects.specs.Own.{IsOwn}
 use Rattle.history.specs.History.{history}
 use Rattle.history.specs.Safe.{Acts}
 use Rattle.history.specs.Sound.{IsSound}
@@ -28,7 +29,7 @@ AreInTime doc near far a e = (p : ℕ) → is_controller doc p ≡ true → IsSt
 -- way after it
 abbrev pub WritersAct : Type 0
 WritersAct =
-    (doc : Doc) (near far a e : ℕ) (q : Identity) → 1 ≤ near → is_controller doc q.process ≡ true → IsSteady doc near far a e q.process → IsInTime doc far a e q.process
+    (doc : Doc) → IsOwn doc → (near far a e : ℕ) (q : Identity) → 1 ≤ near → is_controller doc q.process ≡ true → IsSteady doc near far a e q.process → IsInTime doc far a e q.process
     → (m : ℕ) (x : Entry) (before : List Entry) → IsTail (x ∷ before) (history doc m) → x.actor ≡ actor_of q → WritesElection a x.fact → a ≤ x.beat → x.beat + far ≤ e
     → ActsBetween doc q a (x.beat + far)
 

@@ -10,7 +10,7 @@ use Rattle.kube_objects.specs.declared.object.Object.{Object}
 use Rattle.kube_objects.specs.declared.object.Object.TheVariants as object
 use Rattle.kube_objects.specs.declared.pod.Operator.TheVariants as operator
 use Rattle.kube_objects.specs.declared.script.Proc.{Proc}
-use Rattle.kube_objects.specs.Document.{Doc}
+use Rattle.kube_objects.specs.Document.{Doc, own_waits_each}
 use Rattle.kube_objects.specs.Stored.{election, node_key, node_lease}
 use Rattle.kube_objects.specs.Tainting.{not_ready, unreachable}
 use Rattle.history.specs.History.{whole_history}
@@ -86,6 +86,7 @@ dead_node_and_failover = record {
   };
   controllers = patient c1 ∷ patient c2 ∷ [];
   kubelets = kubelet n1 ∷ kubelet n2 ∷ kubelet n3 ∷ [];
+  waits = own_waits_each (patient c1 ∷ patient c2 ∷ []);
   objects = objects;
   events = at_beat 22 (crash 4) ∷ at_beat 100 (crash 0) ∷ [];
 }

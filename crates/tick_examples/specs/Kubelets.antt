@@ -3,7 +3,7 @@ use Rattle.std.specs.Prelude.{◌≡◌, true, false, [], ◌∷◌}
 use Rattle.kube_objects.specs.declared.deed.Act.TheVariants as act
 use Rattle.kube_objects.specs.declared.node.ReadyStatus.TheVariants as ready
 use Rattle.kube_objects.specs.declared.node.ZoneState.TheVariants as zone
-use Rattle.kube_objects.specs.Document.{Doc}
+use Rattle.kube_objects.specs.Document.{Doc, own_waits_each}
 use Rattle.kube_objects.specs.Stored.{node_lease}
 use Rattle.history.specs.History.{whole_history}
 use Rattle.history.specs.Printed.{printed}
@@ -17,6 +17,7 @@ silent_kubelet = record {
   settings = long_lease (settings 504);
   controllers = steady c1 ∷ [];
   kubelets = kubelet n1 ∷ [];
+  waits = own_waits_each (steady c1 ∷ []);
   objects = bare_node n1
       ∷ [];
   events = at_beat 100 (crash 1)
@@ -46,6 +47,7 @@ lost_calls = record {
   settings = long_lease (settings 206);
   controllers = steady c1 ∷ [];
   kubelets = kubelet n1 ∷ [];
+  waits = own_waits_each (steady c1 ∷ []);
   objects = bare_node n1
       ∷ [];
   events = at_beat 0 (loss 1 true false)

@@ -3,7 +3,7 @@ use Rattle.std.specs.Prelude.{◌≡◌, true, false, [], ◌∷◌, ◌++◌}
 use Rattle.kube_objects.specs.declared.deed.Act.TheVariants as act
 use Rattle.kube_objects.specs.declared.node.ReadyStatus.TheVariants as ready
 use Rattle.kube_objects.specs.declared.node.ZoneState.TheVariants as zone
-use Rattle.kube_objects.specs.Document.{Doc}
+use Rattle.kube_objects.specs.Document.{Doc, own_waits_each}
 use Rattle.kube_objects.specs.Stored.{node_key}
 use Rattle.kube_objects.specs.Tainting.{not_ready, unreachable}
 use Rattle.history.specs.History.{whole_history}
@@ -19,6 +19,7 @@ taint_after_failover = record {
   settings = settings 370;
   controllers = c1 ∷ c2 ∷ [];
   kubelets = [];
+  waits = own_waits_each (c1 ∷ c2 ∷ []);
   objects = node n1 zone_a ready.False []
       ∷ node n2 zone_a ready.False []
       ∷ node n3 zone_a ready.True []

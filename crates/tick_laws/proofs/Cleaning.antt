@@ -1,5 +1,5 @@
 -- The phase of untaints and swaps.
-use Rattle.std.proofs.Common.{◌≡◌, ◌∙◌, ℕ, ◌==◌, Bool, true, false, List, Option, Some, None, refl, sym, ap, subst, Less}
+use Rattle.std.proofs.Common.{◌≡◌, ◌∙◌, ℕ, ◌==◌, Bool, true, false, List, Option, Some, None, refl, sym, ap, subst, Less, ◌||◌}
 use Rattle.std.specs.Prelude.{if◌then◌else◌}
 use Rattle.std.specs.Ordering.{nat_cmp}
 use Rattle.kube_base.specs.declared.numbers.Version.{Version}
@@ -13,8 +13,9 @@ use Rattle.kube_objects.specs.Modes.{mode}
 use Rattle.kube_objects.specs.Seen.{seen_node, seen_pod, is_stale, node_names}
 use Rattle.kube_objects.specs.Stored.{next_version, node_key}
 use Rattle.kube_objects.specs.Tainting.{Wants, Nothing, Wanted, Whatever, wants, waits}
-use Rattle.kube_objects.specs.Tick.{add, for_each, clean_as, clean_seen, clean, add_untaint, add_swap}
+use Rattle.kube_objects.specs.Tick.{add, for_each, clean_as, clean_seen, clean, add_untaint, add_swap, is_stripped}
 use Rattle.kube_objects.specs.Tries.{try_node}
+use Rattle.kube_objects.specs.Own.{IsOwn}
 use Rattle.history_laws.proofs.Plainly.{false_is}
 use Rattle.tick_laws.specs.Changes.{IsChange, IsCleaningOn, noted_by, refused_by, IsGiven, cleaning, cleaned_node}
 use Rattle.tick_laws.specs.Judged.{cleans, dirty_as, is_dirty, seen_due}
@@ -59,7 +60,12 @@ dirty_seen q name h is = by_seen (is_stale q (node_key name) h) (seen_node q nam
     by_seen false None is sees = absurd (false_is is)
     by_seen false (Some x) is sees = (x, sees)
 
-module _ (doc : Doc) (k : ℕ) (q : Identity) where
+-- under the project's own rules
+module _ (doc : Doc) (own : IsOwn doc) (k : ℕ) (q : Identity) where
+  -- no node is stripped as it is first seen
+  kept : (name : ℕ) (h : List Entry) → is_stripped doc.settings.rules.first_sight k q name h ≡ false
+  kept name h = ap (λ r. is_stripped r.first_sight k q name h) own.rules
+
   -- a node that isn't dirty adds nothing
   pub clean_idle : (name : ℕ) (h : List Entry) → is_dirty q name h ≡ false → clean doc k q name h ≡ h
   clean_idle name h = by_stale (is_stale q (node_key name) h) (seen_node q name h)
@@ -72,7 +78,7 @@ module _ (doc : Doc) (k : ℕ) (q : Identity) where
       by_stale : (b : Bool) (o : Option (Version × Node)) → dirty_as b (mode q h) o ≡ false → clean_seen doc k q name b o h ≡ h
       by_stale true o quiet = refl
       by_stale false None quiet = refl
-      by_stale false (Some x) quiet = by_wants x.0 x.1 (wants (mode q h) x.1) quiet
+      by_stale false (Some x) quiet = ap (λ b. clean_as doc k q name x.0 x.1 (wants (b || mode q h) x.1) h) (kept name h) ∙ by_wants x.0 x.1 (wants (mode q h) x.1) quiet
 
   -- a dirty one is seen, and adds one entry
   pub clean_adds : (name : ℕ) (h : List Entry) (x : Version × Node) → is_dirty q name h ≡ true → seen_node q name h ≡ Some x
@@ -88,7 +94,7 @@ module _ (doc : Doc) (k : ℕ) (q : Identity) where
 
       by_stale : (b : Bool) → dirty_as b (mode q h) (Some x) ≡ true → clean_seen doc k q name b (Some x) h ≡ add k q (cleaning doc k q name x.0 x.1 (wants (mode q h) x.1) (try_node q name x.0 h)) h
       by_stale true busy = absurd (false_is busy)
-      by_stale false busy = by_wants (wants (mode q h) x.1) busy
+      by_stale false busy = ap (λ b. clean_as doc k q name x.0 x.1 (wants (b || mode q h) x.1) h) (kept name h) ∙ by_wants (wants (mode q h) x.1) busy
 
   pub cleaning_is : (name : ℕ) (given : Version) (node : Node) (w : Wants) (a : Option Answer) → IsCleaningOn name (cleaned_node doc k q node w) a (cleaning doc k q name given node w a)
   cleaning_is name given node Nothing a = untaint_is name given (cleaned_node doc k q node Nothing) a

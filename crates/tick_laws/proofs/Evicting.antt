@@ -18,6 +18,8 @@ use Rattle.kube_objects.specs.Tainting.{waits}
 use Rattle.kube_objects.specs.Tick.{add, for_each, evict_due, evict_on, evict_seen, evict, add_delete}
 use Rattle.kube_objects.specs.Tolerations.{due}
 use Rattle.kube_objects.specs.Tries.{try_delete}
+use Rattle.kube_objects.specs.Own.{IsOwn}
+use Rattle.kube_objects.proofs.Own.{evict-own}
 use Rattle.history_laws.proofs.Plainly.{false_is}
 use Rattle.history_laws.proofs.Ticks.{Each, IsPodKey, pods_only}
 use Rattle.tick_laws.specs.Changes.{IsChange, gone_by, refused_by}
@@ -112,10 +114,11 @@ due_of q pod h x y kind fresh sees sees_node =
     ∙ ap (λ o. due_as q false o h) sees
     ∙ ap (due_on x.1) sees_node
 
-module _ (doc : Doc) (k : ℕ) (q : Identity) where
+-- under the project's own rules
+module _ (doc : Doc) (own : IsOwn doc) (k : ℕ) (q : Identity) where
   -- a pod that isn't due by now adds nothing
   pub evict_idle : (pod : Key) (h : List Entry) → is_pod pod.kind ≡ true → is_by_now (wall doc q.process k) (seen_due q pod h) ≡ false → evict doc k q pod h ≡ h
-  evict_idle pod h kind quiet = by_stale (is_stale q pod h) (seen_pod q pod h) (sym (ap (λ b. is_by_now (wall doc q.process k) (due_as q (not b || is_stale q pod h) (seen_pod q pod h) h)) kind) ∙ quiet)
+  evict_idle pod h kind quiet = evict-own doc own k q pod h ∙ by_stale (is_stale q pod h) (seen_pod q pod h) (sym (ap (λ b. is_by_now (wall doc q.process k) (due_as q (not b || is_stale q pod h) (seen_pod q pod h) h)) kind) ∙ quiet)
     where
       by_due : (given : Version) (node : ℕ) (node_given : Version) (d : Due) → is_by_now (wall doc q.process k) d ≡ false → evict_due doc k q pod given node node_given d h ≡ h
       by_due given node node_given Never quiet = refl
@@ -134,7 +137,8 @@ module _ (doc : Doc) (k : ℕ) (q : Identity) where
   pub evict_adds : (pod : Key) (h : List Entry) (at : ℕ) (s : SeenDue q pod h at) → nat_le at (wall doc q.process k) ≡ true
       → evict doc k q pod h ≡ add k q (Delete pod s.x.0 s.y.0 at (try_delete q pod s.x.0 s.x.1.node s.y.0 h)) h
   evict_adds pod h at s now =
-      ap (λ b. evict_seen doc k q pod b (seen_pod q pod h) h) s.fresh
+      evict-own doc own k q pod h
+      ∙ ap (λ b. evict_seen doc k q pod b (seen_pod q pod h) h) s.fresh
       ∙ ap (λ o. evict_seen doc k q pod false o h) s.sees
       ∙ ap (λ o. evict_on doc k q pod s.x o h) s.sees_node
       ∙ ap (λ d. evict_due doc k q pod s.x.0 s.x.1.node s.y.0 d h) s.time
@@ -151,7 +155,7 @@ module _ (doc : Doc) (k : ℕ) (q : Identity) where
 
   -- an eviction leaves the history, or adds one delete of the pod
   pub evict_either : (pod : Key) (h : List Entry) (P : List Entry → Type 0) → P h → ((given node_given : Version) (at : ℕ) (a : Option Answer) → P (add k q (Delete pod given node_given at a) h)) → P (evict doc k q pod h)
-  evict_either pod h P same more = by_stale (is_stale q pod h) (seen_pod q pod h)
+  evict_either pod h P same more = subst P (sym (evict-own doc own k q pod h)) (by_stale (is_stale q pod h) (seen_pod q pod h))
     where
       by_test : (given : Version) (node : ℕ) (node_given : Version) (at : ℕ) (b : Bool) → P (if b then add_delete k q pod given node node_given at h else h)
       by_test given node node_given at true = more given node_given at (try_delete q pod given node node_given h)

@@ -1,5 +1,5 @@
 -- Which entries each phase of a tick adds, and what a phase leaves as it was.
-use Rattle.std.proofs.Common.{◌≡◌, ◌∙◌, ℕ, ◌&&◌, not, Bool, true, false, List, [], ◌∷◌, Option, Some, None, refl, sym, ap, subst}
+use Rattle.std.proofs.Common.{◌≡◌, ◌∙◌, ℕ, ◌&&◌, not, Bool, true, false, List, [], ◌∷◌, Option, Some, None, refl, sym, ap, subst, ◌||◌}
 use Rattle.std.specs.Prelude.{if◌then◌else◌}
 use Rattle.std.specs.List.{list_any}
 use Rattle.kube_base.specs.declared.numbers.Version.{Version}
@@ -9,7 +9,7 @@ use Rattle.kube_objects.specs.declared.key.Key.{Key}
 use Rattle.kube_objects.specs.declared.node.Node.{Node}
 use Rattle.kube_objects.specs.declared.node.ZoneState.{ZoneState}
 use Rattle.kube_objects.specs.Document.{Doc}
-use Rattle.kube_objects.specs.Entry.{Entry, Identity, Place, Fact, Ticks, Tick, Sync, Pass, Mark, Mode, Zone, Untaint, Swap, Head, Delete}
+use Rattle.kube_objects.specs.Entry.{Entry, Identity, Place, Fact, Ticks, Tick, Sync, Pass, Mark, Mode, Zone, Untaint, Swap, Head, Delete, Skip}
 use Rattle.kube_objects.specs.Health.{is_pass_due, mark_of, last_pass, pass_says}
 use Rattle.kube_objects.specs.InForce.{watches}
 use Rattle.kube_objects.specs.Modes.{nodes, places, place_eq, state_in, rate_in, all_full, mode}
@@ -18,11 +18,13 @@ use Rattle.kube_objects.specs.Identities.{is_by}
 use Rattle.kube_objects.specs.Seen.{seen_node, is_fresh, is_stale, is_refused, node_names, pod_keys}
 use Rattle.kube_objects.specs.Stored.{node_key}
 use Rattle.kube_objects.specs.Tainting.{Wants, Nothing, Wanted, Whatever, wants, has_condition, is_opposite}
-use Rattle.kube_objects.specs.Tick.{add, for_each, sync, mark_as, mark_seen, mark, is_same_mode, mode_as, set_mode, zone_as, zone, set_zones, marks, pass, clean_as, clean_seen, clean, cleaned, taint, tainted, evict, evicted, tick, whole_pass, add_untaint, add_swap}
+use Rattle.kube_objects.specs.Tick.{add, for_each, has_settled, is_stripped, sync, mark_as, mark_seen, mark, is_same_mode, mode_as, set_mode, zone_as, zone, set_zones, marks, pass, clean_as, clean_seen, clean, cleaned, taint, tainted, evict, evicted, tick, whole_pass, add_untaint, add_swap}
 use Rattle.kube_objects.specs.Tokens.{is_zone, rated_says, rated, is_rated, has_rate, is_base, base}
 use Rattle.kube_objects.specs.Tries.{try_node}
+use Rattle.kube_objects.specs.Own.{IsOwn}
+use Rattle.kube_objects.proofs.Own.{cleaned-own, tainted-own, evicted-own}
 use Rattle.history_laws.proofs.Plainly.{false_is, true_is, none_is, some_is}
-use Rattle.history_laws.proofs.Ticks.{IsDelete, MadeTick, Each, IsPodKey, pods_only, evict_step, walk_sync, walk_pass, walk_cleaned, walk_tainted, walk_evicted, walk_tick}
+use Rattle.history_laws.proofs.Ticks.{IsDelete, IsDeleteBy, MadeTick, Each, IsPodKey, pods_only, evict_step, walk_sync, walk_pass, walk_cleaned, walk_tainted, walk_evicted, walk_tick}
 use Rattle.tick_laws.specs.Judged.{waits_since}
 use Rattle.tick_laws.specs.Rows.{no_heads, IsFresh}
 use Rattle.tick_laws.specs.Since.{IsReached, AreReached}
@@ -49,6 +51,7 @@ is_cleaning _ = false
 
 abbrev pub is_heading : Tick → Bool
 is_heading (Head place name wanted given written a) = true
+is_heading (Skip place name) = true
 is_heading _ = false
 
 abbrev pub is_deleting : Tick → Bool
@@ -62,7 +65,7 @@ every f P keeps (x ∷ xs) h p = every f P keeps xs (f x h) (keeps x h p)
 
 module _ (doc : Doc) (k : ℕ) (q : Identity) (P : List Entry → Type 0) where
   pub sync_keeps : ((h : List Entry) → P h → P (add k q Sync h)) → (h : List Entry) → P h → P (sync doc k q h)
-  sync_keeps more h p = by_test (watches doc q.process h && not (is_fresh q h))
+  sync_keeps more h p = by_test (has_settled doc k q h && (watches doc q.process h && not (is_fresh q h)))
     where
       by_test : (b : Bool) → P (if b then add k q Sync h else h)
       by_test true = more h p
@@ -135,29 +138,31 @@ module _ (doc : Doc) (k : ℕ) (q : Identity) (P : List Entry → Type 0) where
         by_stale : (b : Bool) (o : Option (Version × Node)) → seen_node q name h ≡ o → P (clean_seen doc k q name b o h)
         by_stale true o is = p
         by_stale false None is = p
-        by_stale false (Some x) is = by_wants x is (wants (mode q h) x.1)
+        by_stale false (Some x) is = by_wants x is (wants (is_stripped doc.settings.rules.first_sight k q name h || mode q h) x.1)
 
-    pub cleaned_keeps : (h : List Entry) → P h → P (cleaned doc k q h)
-    cleaned_keeps h p = every (clean doc k q) P clean_step (node_names h) h p
+    pub cleaned_keeps : IsOwn doc → (h : List Entry) → P h → P (cleaned doc k q h)
+    cleaned_keeps own h p = subst P (sym (cleaned-own doc own k q h)) (every (clean doc k q) P clean_step (node_names h) h p)
 
   module _ (more : (t : Tick) (h : List Entry) → is_heading t ≡ true → MadeTick doc k q t h → P h → P (add k q t h)) where
     pub taint_step : (place : Place) (h : List Entry) → P h → P (taint doc k q place h)
     taint_step place h p =
         taint_either doc k q place h P p (λ at n wanted w token head. more (heading doc k q place n wanted w.x (try_node q n w.x.0 h)) h refl (token, (w.x.1, w.sees, refl)) p)
 
-    pub tainted_keeps : (h : List Entry) → P h → P (tainted doc k q h)
-    tainted_keeps h p = every (taint doc k q) P taint_step (places (nodes q h)) h p
+    pub tainted_keeps : IsOwn doc → (h : List Entry) → P h → P (tainted doc k q h)
+    tainted_keeps own h p = subst P (sym (tainted-own doc own k q h)) (every (taint doc k q) P taint_step (places (nodes q h)) h p)
 
   module _ (more : (pod : Key) (given node_given : Version) (at : ℕ) (a : Option Answer) (h : List Entry) → IsDelete doc k q pod given node_given at a h → P h → P (add k q (Delete pod given node_given at a) h)) where
-    pub evict_keeps : (pod : Key) (h : List Entry) → IsPodKey pod → P h → P (evict doc k q pod h)
-    evict_keeps pod h kind p = evict_step doc k q P pod h kind p (λ given node_given at a made. more pod given node_given at a h made p)
+    pub evict_keeps : IsOwn doc → (pod : Key) (h : List Entry) → IsPodKey pod → P h → P (evict doc k q pod h)
+    evict_keeps own pod h kind p =
+        evict_step doc k q P pod h kind p
+        (λ given node_given at a made. more pod given node_given at a h (subst (λ r. IsDeleteBy r doc k q pod given node_given at a h) (ap (λ r. r.evict_from) own.rules) made) p)
 
-    pub evicted_keeps : (h : List Entry) → P h → P (evicted doc k q h)
-    evicted_keeps h p = each (pod_keys h) h (pods_only h) p
+    pub evicted_keeps : IsOwn doc → (h : List Entry) → P h → P (evicted doc k q h)
+    evicted_keeps own h p = subst P (sym (evicted-own doc own k q h)) (each (pod_keys h) h (pods_only h) p)
       where
         each : (keys : List Key) (h : List Entry) → Each IsPodKey keys → P h → P (for_each (evict doc k q) keys h)
         each [] h all p = p
-        each (key ∷ keys) h all p = each keys (evict doc k q key h) all.1 (evict_keeps key h all.0 p)
+        each (key ∷ keys) h all p = each keys (evict doc k q key h) all.1 (evict_keeps own key h all.0 p)
 
 -- ---- what an entry leaves that is of another kind
 
@@ -173,6 +178,7 @@ rated_kept q k h t is place = refl
 pub base_kept : (q : Identity) (k : ℕ) (h : List Entry) (t : Tick) → is_passing t ≡ false → is_heading t ≡ false → (place : Place) → base q place (add k q t h) ≡ base q place h
 base_kept q k h (Zone p s rate) is other place = absurd (true_is is)
 base_kept q k h (Head p name wanted given written a) is other place = absurd (true_is other)
+base_kept q k h (Skip p name) is other place = absurd (true_is other)
 base_kept q k h t is other place = refl
 
 pub mode_kept : (q : Identity) (k : ℕ) (h : List Entry) (t : Tick) → is_passing t ≡ false → mode q (add k q t h) ≡ mode q h
@@ -210,32 +216,34 @@ cleaning_alone t is = absurd (false_is is)
 
 heading_alone : (t : Tick) → is_heading t ≡ true → is_passing t ≡ false
 heading_alone (Head place name wanted given written a) is = refl
+heading_alone (Skip place name) is = refl
 heading_alone t is = absurd (false_is is)
 
 passing_alone : (t : Tick) → is_passing t ≡ true → is_heading t ≡ false
 passing_alone (Head place name wanted given written a) is = absurd (false_is is)
+passing_alone (Skip place name) is = absurd (false_is is)
 passing_alone t is = refl
 
-module _ (doc : Doc) (k : ℕ) (q : Identity) (h : List Entry) where
+module _ (doc : Doc) (own : IsOwn doc) (k : ℕ) (q : Identity) (h : List Entry) where
   pub sync_limits : KeepsLimits q h (sync doc k q h)
   sync_limits = sync_keeps doc k q (KeepsLimits q h) (λ g s. limits_more q k h g Sync refl refl s) h (limits_same q h)
 
   pub cleaned_limits : KeepsLimits q h (cleaned doc k q h)
   cleaned_limits =
-      cleaned_keeps doc k q (KeepsLimits q h) (λ t g is made s. limits_more q k h g t (cleaning_alone t is).0 (cleaning_alone t is).1 s) h (limits_same q h)
+      cleaned_keeps doc k q (KeepsLimits q h) (λ t g is made s. limits_more q k h g t (cleaning_alone t is).0 (cleaning_alone t is).1 s) own h (limits_same q h)
 
   pub evicted_limits : KeepsLimits q h (evicted doc k q h)
-  evicted_limits = evicted_keeps doc k q (KeepsLimits q h) (λ pod given node_given at a g made s. limits_more q k h g (Delete pod given node_given at a) refl refl s) h (limits_same q h)
+  evicted_limits = evicted_keeps doc k q (KeepsLimits q h) (λ pod given node_given at a g made s. limits_more q k h g (Delete pod given node_given at a) refl refl s) own h (limits_same q h)
 
   -- queued taints take tokens, and leave the rest of this
   pub tainted_passed : last_pass q (tainted doc k q h) ≡ last_pass q h
-  tainted_passed = tainted_keeps doc k q (λ g. last_pass q g ≡ last_pass q h) (λ t g is made s. pass_kept q k g t (heading_alone t is) ∙ s) h refl
+  tainted_passed = tainted_keeps doc k q (λ g. last_pass q g ≡ last_pass q h) (λ t g is made s. pass_kept q k g t (heading_alone t is) ∙ s) own h refl
 
   pub tainted_rated : (place : Place) → rated q place (tainted doc k q h) ≡ rated q place h
-  tainted_rated place = tainted_keeps doc k q (λ g. rated q place g ≡ rated q place h) (λ t g is made s. rated_kept q k g t (heading_alone t is) place ∙ s) h refl
+  tainted_rated place = tainted_keeps doc k q (λ g. rated q place g ≡ rated q place h) (λ t g is made s. rated_kept q k g t (heading_alone t is) place ∙ s) own h refl
 
   pub tainted_mode : mode q (tainted doc k q h) ≡ mode q h
-  tainted_mode = tainted_keeps doc k q (λ g. mode q g ≡ mode q h) (λ t g is made s. mode_kept q k g t (heading_alone t is) ∙ s) h refl
+  tainted_mode = tainted_keeps doc k q (λ g. mode q g ≡ mode q h) (λ t g is made s. mode_kept q k g t (heading_alone t is) ∙ s) own h refl
 
   -- ---- before the queued taints there are none
 
@@ -246,7 +254,7 @@ module _ (doc : Doc) (k : ℕ) (q : Identity) (h : List Entry) where
   pass_heads = pass_keeps doc k q (λ g. no_heads q k g ≡ true) (λ t g is s. heads_kept q k g t (passing_alone t is) s) h
 
   pub cleaned_heads : no_heads q k h ≡ true → no_heads q k (cleaned doc k q h) ≡ true
-  cleaned_heads = cleaned_keeps doc k q (λ g. no_heads q k g ≡ true) (λ t g is made s. heads_kept q k g t (cleaning_alone t is).1 s) h
+  cleaned_heads = cleaned_keeps doc k q (λ g. no_heads q k g ≡ true) (λ t g is made s. heads_kept q k g t (cleaning_alone t is).1 s) own h
 
   -- ---- deletes leave since when nodes wait
 
@@ -258,48 +266,49 @@ module _ (doc : Doc) (k : ℕ) (q : Identity) (h : List Entry) where
         delete_key q k place name pod given node_given at a g made.kind s.1 ∙ s.0,
         fresh_same q k place name (Delete pod given node_given at a) g (delete_key q k place name pod given node_given at a g made.kind s.1) s.1,
       ))
-      h (refl, fresh place name)
+      own h (refl, fresh place name)
 
 -- ---- stale keys are reached, through each phase
 
-made_reached : (doc : Doc) (k : ℕ) (q : Identity) (t : Tick) (h : List Entry) → MadeTick doc k q t h → AreReached q h → AreReached q (add k q t h)
-made_reached doc k q Sync h made old = sync_reached q k h
-made_reached doc k q (Untaint name given written a) h made old = own_reached q k h (Untaint name given written a) refl old (λ key is. by_test key (is_refused a) refl is)
+made_reached : (doc : Doc) → IsOwn doc → (k : ℕ) (q : Identity) (t : Tick) (h : List Entry) → MadeTick doc k q t h → AreReached q h → AreReached q (add k q t h)
+made_reached doc own k q Sync h made old = sync_reached q k h
+made_reached doc own k q (Untaint name given written a) h made old = own_reached q k h (Untaint name given written a) refl old (λ key is. by_test key (is_refused a) refl is)
   where
     by_test : (key : Key) (b : Bool) → is_refused a ≡ b → when b (node_key name) ≡ Some key → IsReached q h key
     by_test key false refused is = absurd (none_is key is)
     by_test key true refused is = subst (IsReached q h) (some_is (node_key name) key is) (refused_node_reached q name h (given, made.0) made.1 (ap is_refused (sym made.2) ∙ refused))
-made_reached doc k q (Swap name wanted given written a) h made old = own_reached q k h (Swap name wanted given written a) refl old (λ key is. by_test key (is_refused a) refl is)
+made_reached doc own k q (Swap name wanted given written a) h made old = own_reached q k h (Swap name wanted given written a) refl old (λ key is. by_test key (is_refused a) refl is)
   where
     by_test : (key : Key) (b : Bool) → is_refused a ≡ b → when b (node_key name) ≡ Some key → IsReached q h key
     by_test key false refused is = absurd (none_is key is)
     by_test key true refused is = subst (IsReached q h) (some_is (node_key name) key is) (refused_node_reached q name h (given, made.0) made.1 (ap is_refused (sym made.2) ∙ refused))
-made_reached doc k q (Delete pod given node_given at a) h made old = own_reached q k h (Delete pod given node_given at a) refl old (λ key is. by_test key (is_refused a) refl is)
+made_reached doc own k q (Delete pod given node_given at a) h made old = own_reached q k h (Delete pod given node_given at a) refl old (λ key is. by_test key (is_refused a) refl is)
   where
     by_test : (key : Key) (b : Bool) → is_refused a ≡ b → when b pod ≡ Some key → IsReached q h key
     by_test key false refused is = absurd (none_is key is)
     by_test key true refused is =
-        subst (IsReached q h) (some_is pod key is) (refused_pod_reached q pod h (given, made.x) (node_given, made.y) made.sees made.sees_node (ap is_refused (sym made.is) ∙ refused))
-made_reached doc k q t h made old = own_reached q k h t refl old (λ key is. absurd (none_is key is))
+        let d : IsDelete doc k q pod given node_given at a h = subst (λ r. IsDeleteBy r doc k q pod given node_given at a h) (ap (λ r. r.evict_from) own.rules) made in
+        subst (IsReached q h) (some_is pod key is) (refused_pod_reached q pod h (given, d.x) (node_given, d.y) d.sees d.sees_node (ap is_refused (sym d.is) ∙ refused))
+made_reached doc own k q t h made old = own_reached q k h t refl old (λ key is. absurd (none_is key is))
 
-module _ (doc : Doc) (k : ℕ) (q : Identity) (h : List Entry) (old : AreReached q h) where
+module _ (doc : Doc) (own : IsOwn doc) (k : ℕ) (q : Identity) (h : List Entry) (old : AreReached q h) where
   pub reached_after_sync : AreReached q (sync doc k q h)
-  reached_after_sync = walk_sync doc k q (AreReached q) (made_reached doc k q) h old
+  reached_after_sync = walk_sync doc k q (AreReached q) (made_reached doc own k q) h old
 
   pub reached_after_pass : AreReached q (pass doc k q h)
-  reached_after_pass = walk_pass doc k q (AreReached q) (made_reached doc k q) h old
+  reached_after_pass = walk_pass doc k q (AreReached q) (made_reached doc own k q) h old
 
   pub reached_after_cleaned : AreReached q (cleaned doc k q h)
-  reached_after_cleaned = walk_cleaned doc k q (AreReached q) (made_reached doc k q) h old
+  reached_after_cleaned = walk_cleaned doc k q (AreReached q) (made_reached doc own k q) h old
 
   pub reached_after_tainted : AreReached q (tainted doc k q h)
-  reached_after_tainted = walk_tainted doc k q (AreReached q) (made_reached doc k q) h old
+  reached_after_tainted = walk_tainted doc k q (AreReached q) (made_reached doc own k q) h old
 
   pub reached_after_evicted : AreReached q (evicted doc k q h)
-  reached_after_evicted = walk_evicted doc k q (AreReached q) (made_reached doc k q) h old
+  reached_after_evicted = walk_evicted doc k q (AreReached q) (made_reached doc own k q) h old
 
   pub reached_after_tick : AreReached q (tick doc k q h)
-  reached_after_tick = walk_tick doc k q (AreReached q) (made_reached doc k q) h old
+  reached_after_tick = walk_tick doc k q (AreReached q) (made_reached doc own k q) h old
 
 -- ---- an entry that is no own entry of a tick
 
@@ -336,6 +345,7 @@ foreign_limits q h e other =
     base_tick : (place : Place) (who : Actor) (t : Tick) → is_by q who ≡ false → is_base q place who (Ticks t) h ≡ false
     base_tick place who (Zone at state rate) is = ap (λ b. place_eq at place && (b && not (has_rate rate (rated q place h)))) is ∙ and_false (place_eq at place)
     base_tick place who (Head at node wanted given written a) is = ap (λ b. place_eq at place && b) is ∙ and_false (place_eq at place)
+    base_tick place who (Skip at node) is = ap (λ b. place_eq at place && b) is ∙ and_false (place_eq at place)
     base_tick place who t is = refl
 
     by_base : (place : Place) (who : Actor) (d : Fact) → is_tick_by q who d ≡ false → is_base q place who d h ≡ false

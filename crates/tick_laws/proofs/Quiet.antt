@@ -14,6 +14,8 @@ use Rattle.kube_objects.specs.Seen.{is_fresh, is_synced, node_names, pod_keys}
 use Rattle.kube_objects.specs.Tainting.{waits, queued, queued_as, first, Queued, head_of}
 use Rattle.kube_objects.specs.Tick.{add, for_each, sync, pass, clean, cleaned, taint, tainted, evict, evicted, tick_after, tick, whole_pass, phases}
 use Rattle.kube_objects.specs.Tokens.{has_token}
+use Rattle.kube_objects.specs.Own.{IsOwn}
+use Rattle.kube_objects.proofs.Own.{cleaned-own, tainted-own, evicted-own}
 use Rattle.tick_laws.specs.Judged.{key_if, is_dirty, seen_due, is_by_now}
 use Rattle.tick_laws.specs.Quiet.{IsQuietTerm, IsQuietTick}
 use Rattle.tick_laws.specs.Ticked.{IsTicked}
@@ -23,6 +25,7 @@ use Rattle.tick_laws.proofs.Evicting.{by_now_seen, due_seen, evict_adds, evict_e
 use Rattle.tick_laws.proofs.Named.{node_is_named, pod_is_named}
 use Rattle.tick_laws.proofs.Orders.{names_strict, keys_strict, places_strict}
 use Rattle.tick_laws.proofs.Phases.{pass_rest}
+use Rattle.tick_laws.proofs.Syncing.{sync_own}
 use Rattle.tick_laws.proofs.Tainting.{taint_no_token, taint_nobody, taint_adds, taint_either, taint_end, since_waits, waiting, waiting_place}
 use Rattle.tick_laws.proofs.Heads.{head_waits}
 use Rattle.tick_laws.proofs.Ticked.{ticked_keeps, sync_ticked, pass_ticked, cleaned_ticked, tainted_ticked, evicted_ticked, clean_ticked, taint_ticked, evict_ticked}
@@ -68,31 +71,33 @@ head_some q place h n wanted now (m ∷ ms) (inr there) = by_first (queued_as (q
 
 -- ---- each phase
 
-module _ (doc : Doc) (k : ℕ) (q : Identity) (h : List Entry) where
+-- under the project's own rules
+module _ (doc : Doc) (own : IsOwn doc) (k : ℕ) (q : Identity) (h : List Entry) where
   pub sync_none : (watches doc q.process h && not (is_fresh q h)) ≡ false → sync doc k q h ≡ h
-  sync_none is = ap (λ b. (if b then add k q Sync h else h)) is
+  sync_none is = sync_own doc own k q h ∙ ap (λ b. (if b then add k q Sync h else h)) is
 
   pub sync_grows : (watches doc q.process h && not (is_fresh q h)) ≡ true → length h < length (sync doc k q h)
-  sync_grows is = subst (λ b. length h < length (if b then add k q Sync h else h)) (sym is) (omega arith)
+  sync_grows is = subst (λ g. length h < length g) (sym (sync_own doc own k q h ∙ ap (λ b. (if b then add k q Sync h else h)) is)) (omega arith)
 
   pub pass_none : is_pass_due doc k q h ≡ false → pass doc k q h ≡ h
   pass_none is = ap (λ b. (if b then whole_pass doc k q h else h)) is
 
   pub cleaned_none : ((name : ℕ) → is_dirty q name h ≡ false) → cleaned doc k q h ≡ h
-  cleaned_none none = ap (λ names. for_each (clean doc k q) names h) (sym (after_none nat_cmp names_strict (node_names h))) ∙ clean_end doc k q None h h (λ m later. none m)
+  cleaned_none none = cleaned-own doc own k q h ∙ ap (λ names. for_each (clean doc k q) names h) (sym (after_none nat_cmp names_strict (node_names h))) ∙ clean_end doc own k q None h h (λ m later. none m)
 
   pub cleaned_grows : (name : ℕ) → is_dirty q name h ≡ true → length h < length (cleaned doc k q h)
   cleaned_grows name dirty =
       let x = dirty_seen q name h dirty in
-      some_grows (clean doc k q) (λ name g. ticked_longer q k g (clean doc k q name g) (clean_ticked doc k q name g)) h either name (grows name dirty) (node_names h) (node_is_named q name h x.0 x.1)
+      subst (λ g. length h < length g) (sym (cleaned-own doc own k q h))
+      (some_grows (clean doc k q) (λ name g. ticked_longer q k g (clean doc k q name g) (clean_ticked doc k q own name g)) h either name (grows name dirty) (node_names h) (node_is_named q name h x.0 x.1))
     where
       grows : (name : ℕ) → is_dirty q name h ≡ true → length h < length (clean doc k q name h)
       grows name dirty =
           let x = dirty_seen q name h dirty in
-          subst (λ g. length h < length g) (sym (clean_adds doc k q name h x.0 dirty x.1)) (omega arith)
+          subst (λ g. length h < length g) (sym (clean_adds doc own k q name h x.0 dirty x.1)) (omega arith)
 
       by_dirty : (name : ℕ) (b : Bool) → is_dirty q name h ≡ b → (clean doc k q name h ≡ h) ⊎ (length h < length (clean doc k q name h))
-      by_dirty name false is = inl (clean_idle doc k q name h is)
+      by_dirty name false is = inl (clean_idle doc own k q name h is)
       by_dirty name true is = inr (grows name is)
 
       either : (name : ℕ) → (clean doc k q name h ≡ h) ⊎ (length h < length (clean doc k q name h))
@@ -107,7 +112,8 @@ module _ (doc : Doc) (k : ℕ) (q : Identity) (h : List Entry) where
 
   pub tainted_none : ((place : Place) (name : ℕ) → has_token doc q k place h ≡ true → waits q place name h ≡ None) → tainted doc k q h ≡ h
   tainted_none none =
-      ap (λ names. for_each (taint doc k q) names h) (sym (after_none place_cmp places_strict (places (nodes q h)))) ∙ taint_end doc k q None h h (λ place later. quiet_zone place (none place))
+      tainted-own doc own k q h
+      ∙ ap (λ names. for_each (taint doc k q) names h) (sym (after_none place_cmp places_strict (places (nodes q h)))) ∙ taint_end doc k q None h h (λ place later. quiet_zone place (none place))
 
   pub tainted_grows : (place : Place) (name wanted : ℕ) → has_token doc q k place h ≡ true → waits q place name h ≡ Some wanted → length h < length (tainted doc k q h)
   tainted_grows place name wanted token now =
@@ -115,26 +121,28 @@ module _ (doc : Doc) (k : ℕ) (q : Identity) (h : List Entry) where
       let head = head_some q place h name wanted now (node_names h) (node_is_named q name h w.x w.sees) in
       let found = since_waits q place head.0.1 head.0.0 h (head_waits q place (node_names h) h head.0 head.1) in
       let x = waiting q place head.0.1 found.0 h found.1 in
-      some_grows (taint doc k q) (λ place g. ticked_longer q k g (taint doc k q place g) (taint_ticked doc k q place g)) h either place
+      subst (λ g. length h < length g) (sym (tainted-own doc own k q h))
+      (some_grows (taint doc k q) (λ place g. ticked_longer q k g (taint doc k q place g) (taint_ticked doc k q place g)) h either place
       (subst (λ g. length h < length g) (sym (taint_adds doc k q place h head.0.0 head.0.1 found.0 x.x token head.1 found.1 x.sees)) (omega arith))
-      (places (nodes q h)) (waiting_place q place name wanted h now)
+      (places (nodes q h)) (waiting_place q place name wanted h now))
     where
       either : (place : Place) → (taint doc k q place h ≡ h) ⊎ (length h < length (taint doc k q place h))
       either place = taint_either doc k q place h (λ g. (g ≡ h) ⊎ (length h < length g)) (inl refl) (λ at n wanted w token head. inr (omega arith))
 
   pub evicted_none : ((key : Key) → is_by_now (wall doc q.process k) (seen_due q key h) ≡ false) → evicted doc k q h ≡ h
-  evicted_none none = ap (λ keys. for_each (evict doc k q) keys h) (sym (after_none key_cmp keys_strict (pod_keys h))) ∙ evict_end doc k q None h h (λ key later. none key)
+  evicted_none none = evicted-own doc own k q h ∙ ap (λ keys. for_each (evict doc k q) keys h) (sym (after_none key_cmp keys_strict (pod_keys h))) ∙ evict_end doc own k q None h h (λ key later. none key)
 
   pub evicted_grows : (key : Key) → is_by_now (wall doc q.process k) (seen_due q key h) ≡ true → length h < length (evicted doc k q h)
   evicted_grows key now =
       let found = by_now_seen (wall doc q.process k) q key h now in
       let s = due_seen q key h found.0 found.1 in
-      some_grows (evict doc k q) (λ key g. ticked_longer q k g (evict doc k q key g) (evict_ticked doc k q key g)) h either key
-      (subst (λ g. length h < length g) (sym (evict_adds doc k q key h found.0 s found.2)) (omega arith))
-      (pod_keys h) (pod_is_named q key h s.x s.kind s.sees)
+      subst (λ g. length h < length g) (sym (evicted-own doc own k q h))
+      (some_grows (evict doc k q) (λ key g. ticked_longer q k g (evict doc k q key g) (evict_ticked doc k q own key g)) h either key
+      (subst (λ g. length h < length g) (sym (evict_adds doc own k q key h found.0 s found.2)) (omega arith))
+      (pod_keys h) (pod_is_named q key h s.x s.kind s.sees))
     where
       either : (key : Key) → (evict doc k q key h ≡ h) ⊎ (length h < length (evict doc k q key h))
-      either key = evict_either doc k q key h (λ g. (g ≡ h) ⊎ (length h < length g)) (inl refl) (λ given node_given at a. inr (omega arith))
+      either key = evict_either doc own k q key h (λ g. (g ≡ h) ⊎ (length h < length g)) (inl refl) (λ given node_given at a. inr (omega arith))
 
 -- a pass adds its own entry at least
 pub pass_grows : (doc : Doc) (k : ℕ) (q : Identity) (h : List Entry) → is_pass_due doc k q h ≡ true → length h < length (pass doc k q h)
@@ -144,23 +152,23 @@ pass_grows doc k q h due =
 
 -- ---- the tick
 
-pub quiet_adds_nothing : (doc : Doc) (k : ℕ) (q : Identity) (h : List Entry) → IsQuietTick doc k q h → tick doc k q h ≡ h
-quiet_adds_nothing doc k q h quiet = ap (tick_after doc k q) (sync_none doc k q h quiet.sync) ∙ by_synced (is_synced q h) refl
+pub quiet_adds_nothing : (doc : Doc) → IsOwn doc → (k : ℕ) (q : Identity) (h : List Entry) → IsQuietTick doc k q h → tick doc k q h ≡ h
+quiet_adds_nothing doc own k q h quiet = ap (tick_after doc k q) (sync_none doc own k q h quiet.sync) ∙ by_synced (is_synced q h) refl
   where
     by_synced : (b : Bool) → is_synced q h ≡ b → (if b then phases doc k q h else h) ≡ h
     by_synced false synced = refl
     by_synced true synced =
         let s = quiet.term synced in
-        ap (λ g. evicted doc k q (tainted doc k q (cleaned doc k q g))) (pass_none doc k q h s.pass)
-        ∙ ap (λ g. evicted doc k q (tainted doc k q g)) (cleaned_none doc k q h s.nodes)
-        ∙ ap (evicted doc k q) (tainted_none doc k q h s.heads)
-        ∙ evicted_none doc k q h s.pods
+        ap (λ g. evicted doc k q (tainted doc k q (cleaned doc k q g))) (pass_none doc own k q h s.pass)
+        ∙ ap (λ g. evicted doc k q (tainted doc k q g)) (cleaned_none doc own k q h s.nodes)
+        ∙ ap (evicted doc k q) (tainted_none doc own k q h s.heads)
+        ∙ evicted_none doc own k q h s.pods
 
 is_no : (b : Bool) → (b ≡ true → ⊥) → b ≡ false
 is_no true none = absurd (none refl)
 is_no false none = refl
 
-module _ (doc : Doc) (k : ℕ) (q : Identity) where
+module _ (doc : Doc) (own : IsOwn doc) (k : ℕ) (q : Identity) where
   sync_longer : (h : List Entry) → length h ≤ length (sync doc k q h)
   sync_longer h = ticked_longer q k h (sync doc k q h) (sync_ticked doc k q h)
 
@@ -198,7 +206,7 @@ module _ (doc : Doc) (k : ℕ) (q : Identity) where
             omega (arith, still, pass_grows doc k q h due, cleaned_longer a, tainted_longer b, evicted_longer (tainted doc k q b))
 
     without_pass : length (evicted doc k q (tainted doc k q (cleaned doc k q h))) ≡ length h
-    without_pass = ap (λ g. length (evicted doc k q (tainted doc k q (cleaned doc k q g)))) (sym (pass_none doc k q h still_pass)) ∙ still
+    without_pass = ap (λ g. length (evicted doc k q (tainted doc k q (cleaned doc k q g)))) (sym (pass_none doc own k q h still_pass)) ∙ still
 
     still_nodes : (name : ℕ) → is_dirty q name h ≡ false
     still_nodes name = is_no (is_dirty q name h) busy
@@ -206,26 +214,26 @@ module _ (doc : Doc) (k : ℕ) (q : Identity) where
         busy : is_dirty q name h ≡ true → ⊥
         busy dirty =
             let b = cleaned doc k q h in
-            omega (arith, without_pass, cleaned_grows doc k q h name dirty, tainted_longer b, evicted_longer (tainted doc k q b))
+            omega (arith, without_pass, cleaned_grows doc own k q h name dirty, tainted_longer b, evicted_longer (tainted doc k q b))
 
     without_cleaned : length (evicted doc k q (tainted doc k q h)) ≡ length h
-    without_cleaned = ap (λ g. length (evicted doc k q (tainted doc k q g))) (sym (cleaned_none doc k q h still_nodes)) ∙ without_pass
+    without_cleaned = ap (λ g. length (evicted doc k q (tainted doc k q g))) (sym (cleaned_none doc own k q h still_nodes)) ∙ without_pass
 
     still_heads : (place : Place) (name : ℕ) → has_token doc q k place h ≡ true → waits q place name h ≡ None
     still_heads place name token = by_now (waits q place name h) refl
       where
         by_now : (o : Option ℕ) → waits q place name h ≡ o → o ≡ None
         by_now None now = refl
-        by_now (Some wanted) now = absurd (omega (arith, without_cleaned, tainted_grows doc k q h place name wanted token now, evicted_longer (tainted doc k q h)))
+        by_now (Some wanted) now = absurd (omega (arith, without_cleaned, tainted_grows doc own k q h place name wanted token now, evicted_longer (tainted doc k q h)))
 
     without_tainted : length (evicted doc k q h) ≡ length h
-    without_tainted = ap (λ g. length (evicted doc k q g)) (sym (tainted_none doc k q h still_heads)) ∙ without_cleaned
+    without_tainted = ap (λ g. length (evicted doc k q g)) (sym (tainted_none doc own k q h still_heads)) ∙ without_cleaned
 
     still_pods : (key : Key) → is_by_now (wall doc q.process k) (seen_due q key h) ≡ false
     still_pods key = is_no (is_by_now (wall doc q.process k) (seen_due q key h)) busy
       where
         busy : is_by_now (wall doc q.process k) (seen_due q key h) ≡ true → ⊥
-        busy now = omega (arith, without_tainted, evicted_grows doc k q h key now)
+        busy now = omega (arith, without_tainted, evicted_grows doc own k q h key now)
 
     pub still_term : IsQuietTerm doc k q h
     still_term = record { pass = still_pass; nodes = still_nodes; heads = still_heads; pods = still_pods }
@@ -237,7 +245,7 @@ module _ (doc : Doc) (k : ℕ) (q : Identity) where
       unsynced = is_no (watches doc q.process h && not (is_fresh q h)) busy
         where
           busy : (watches doc q.process h && not (is_fresh q h)) ≡ true → ⊥
-          busy due = omega (arith, ap length still, sync_grows doc k q h due, term_longer (sync doc k q h) (is_synced q (sync doc k q h)))
+          busy due = omega (arith, ap length still, sync_grows doc own k q h due, term_longer (sync doc k q h) (is_synced q (sync doc k q h)))
 
       by_synced : is_synced q h ≡ true → IsQuietTerm doc k q h
-      by_synced synced = still_term h (ap length (sym (ap (λ b. (if b then phases doc k q h else h)) synced) ∙ sym (ap (tick_after doc k q) (sync_none doc k q h unsynced)) ∙ still))
+      by_synced synced = still_term h (ap length (sym (ap (λ b. (if b then phases doc k q h else h)) synced) ∙ sym (ap (tick_after doc k q) (sync_none doc own k q h unsynced)) ∙ still))

@@ -22,6 +22,8 @@ use Rattle.kube_objects.specs.Tainting.{Wants, Nothing, Wanted, Whatever, is_con
 use Rattle.kube_objects.specs.Tick.{add, for_each, new_taint, tainted_with, taint_as, taint_head, taint, taint_first}
 use Rattle.kube_objects.specs.Tokens.{is_base, base, rated, is_grown, has_token}
 use Rattle.kube_objects.specs.Tries.{try_node}
+use Rattle.kube_objects.specs.Own.{IsOwn}
+use Rattle.kube_objects.proofs.Own.{has_token-own}
 use Rattle.history_laws.proofs.Plainly.{none_is, some_is}
 use Rattle.tick_laws.specs.Changes.{IsChange, noted_by}
 use Rattle.tick_laws.specs.Judged.{key_if, waits_since, is_dirty, seen_due}
@@ -254,8 +256,11 @@ module _ (doc : Doc) (k : ℕ) (q : Identity) where
     pub heading_base_elsewhere : (other : Place) → place_eq place other ≡ false → base q other (add k q (heading place n wanted w.x (try_node q n w.x.0 h)) h) ≡ base q other h
     heading_base_elsewhere other apart = ap (λ b. or_zero (upper (when (b && is_by q (actor_of q)) k) (newest (λ e T. when (is_base q other e.actor e.fact T) e.beat) h))) apart
 
-    pub heading_token : (other : Place) → place_eq place other ≡ false → has_token doc q k other (add k q (heading place n wanted w.x (try_node q n w.x.0 h)) h) ≡ has_token doc q k other h
-    heading_token other apart = ap (λ (b : ℕ). is_grown (local doc q.process k - local doc q.process b) (rated q other h)) (heading_base_elsewhere other apart)
+    pub heading_token : IsOwn doc → (other : Place) → place_eq place other ≡ false → has_token doc q k other (add k q (heading place n wanted w.x (try_node q n w.x.0 h)) h) ≡ has_token doc q k other h
+    heading_token own other apart =
+        has_token-own doc own q k other (add k q (heading place n wanted w.x (try_node q n w.x.0 h)) h)
+        ∙ ap (λ (b : ℕ). is_grown (local doc q.process k - local doc q.process b) (rated q other h)) (heading_base_elsewhere other apart)
+        ∙ sym (has_token-own doc own q k other h)
 
   -- ---- the walk over zones; h is the history at the phase's start, and now the one that is reached
 

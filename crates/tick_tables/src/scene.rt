@@ -6,7 +6,7 @@ use crate::change::{Change, EPOCH, write};
 use crate::rows::{Pace, Renewals, Row, Span};
 use controller_core::Term;
 use kube_base::{Beat, Local, NoMemory, ProcId, Steps, Version, Wall};
-use kube_objects::{Reply, Settings2};
+use kube_objects::{Reply, TickSettings};
 use leader_elector::{Candidate, CandidateNext, Leading, Timing};
 use object_store::Store;
 use std::alloc::Global;
@@ -43,10 +43,10 @@ fn time(pace: Pace, beat: u16) -> Wall {
     Wall(EPOCH + millis(pace, beat) * 1_000)
 }
 
-fn settings(row: &Row) -> Settings2
+fn settings(row: &Row) -> TickSettings
     ensures { result.secondary_rate ≤ result.primary_rate }
 {
-    Settings2 {
+    TickSettings {
         monitor_period_millis: 5_000,
         grace_period_millis: row.grace_millis,
         startup_grace_millis: 60_000,

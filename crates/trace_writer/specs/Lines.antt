@@ -115,6 +115,7 @@ act_text names act.Crash = codes "crash"
 act_text names act.Stop = codes "stop"
 act_text names act.End = codes "end"
 act_text names (act.Pause beats) = codes "pause beats=" ++ decimal beats
+act_text names (act.Stall beats) = codes "stall beats=" ++ decimal beats
 act_text names (act.Lead version) = codes "lead v=" ++ decimal version.0
 act_text names (act.Create key a transitions) = codes "create " ++ lease_text names key a transitions
 act_text names (act.Update key a transitions) = codes "update " ++ lease_text names key a transitions

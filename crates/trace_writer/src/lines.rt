@@ -81,6 +81,7 @@ fn add_act(alloc: Global, text: &mut Vec<u8>, names: &Names, act: Act) -> Result
         Act::Stop => add(text, b"stop"),
         Act::End => add(text, b"end"),
         Act::Pause(beats) => add_pause(text, beats),
+        Act::Stall(beats) => add_stall(text, beats),
         Act::Lead(version) => add_version(text, b"lead v=", version),
         Act::Create(key, answer, changes) => add_lease(
             text, b"create ", names, &key, answer, changes,
@@ -106,6 +107,14 @@ fn add_pause(text: &mut Vec<u8>, beats: u32) -> Result<(), NoMemory>
     ensures { OnOk result (text.new.items ≡ text.old.items ++ (codes "pause beats=" ++ decimal beats)) }
 {
     add(text, b"pause beats=")?;
+    add_number(text, u64::from(beats))
+}
+
+/// Adds for how many beats the store stands still.
+fn add_stall(text: &mut Vec<u8>, beats: u32) -> Result<(), NoMemory>
+    ensures { OnOk result (text.new.items ≡ text.old.items ++ (codes "stall beats=" ++ decimal beats)) }
+{
+    add(text, b"stall beats=")?;
     add_number(text, u64::from(beats))
 }
 

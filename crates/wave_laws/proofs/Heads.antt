@@ -1,4 +1,4 @@
--- Where a zone's token is there, its head is tainted and leaves the queue; who isn't tainted keeps its place.
+-- Where a zone's token is there, its head is tainted and leaves the queue; who isn't tainted keeps its place: under the project's own rules.
 use Rattle.std.proofs.Common.{◌≡◌, ◌∙◌, ◌⊎◌, ◌≤◌, ◌<◌, ℕ, ◌-◌, ◌*◌, ◌==◌, not, nat_lt, Bool, true, false, cond, List, [], ◌∷◌, Option, Some, None, refl, sym, ap, subst, inl, inr, ⊎_elim, arith, Less}
 use Rattle.std.proofs.lemmas.Bool.{eq-eqb, eqb-true, leb-true, cases_lt}
 use Rattle.std.proofs.lemmas.Bool.Decides.{nat_tests}
@@ -13,12 +13,14 @@ use Rattle.kube_objects.specs.Document.{Doc}
 use Rattle.kube_objects.specs.Entry.{Entry, Identity, Place, Ticks, Tick, Head, entry}
 use Rattle.kube_objects.specs.Modes.{place_eq, nodes, places}
 use Rattle.kube_objects.specs.Newest.{only_if}
+use Rattle.kube_objects.specs.Own.{IsOwn}
 use Rattle.kube_objects.specs.Seen.{seen_node, node_names}
 use Rattle.kube_objects.specs.Stored.{Held, node_key, stored, next_version}
 use Rattle.kube_objects.specs.Tainting.{waits, Queued, queued, queued_as, first, head_of}
 use Rattle.kube_objects.specs.Tick.{add, for_each, new_taint, tainted_with, taint}
 use Rattle.kube_objects.specs.Tokens.{Rated, rated, base, token_size, is_grown, has_token}
 use Rattle.kube_objects.specs.Tries.{as_answer, try_node}
+use Rattle.kube_objects.proofs.Own.{tainted-own, has_token-own}
 use Rattle.history_laws.specs.Tails.{IsTail}
 use Rattle.history_laws.proofs.Plainly.{none_is, some_is, true_is, false_is}
 use Rattle.eviction_laws.proofs.Early.{versioned_is}
@@ -114,7 +116,7 @@ accepted q h name x s sees = by_held (stored (node_key name) h) refl (ap (as_kin
         ∙ ap (λ (v : Version). as_answer (answer_update (next_version h) v (Some held))) (sym (versioned_is held.version x.0 x.1 (node_in held.object) now))
         ∙ ap (λ b. as_answer (cond b (reply.Done (next_version h)) (reply.Conflict held.version))) (eq-eqb held.version.0 held.version.0 refl)
 
-module _ (doc : Doc) (q : Identity) (k : ℕ) (place : Place) where
+module _ (doc : Doc) (own : IsOwn doc) (q : Identity) (k : ℕ) (place : Place) where
   -- a node's place in the queue is as it was, or the node is tainted and waits no more
   abbrev pub Stays : ℕ → List Entry → List Entry → Type 0
   Stays name h g = (waits_since q place name g ≡ waits_since q place name h) ⊎ ((waits_since q place name g ≡ None) × Taken q place name k g)
@@ -171,7 +173,8 @@ module _ (doc : Doc) (q : Identity) (k : ℕ) (place : Place) where
   pub stays : IsAttended doc q k → (name : ℕ) → Stays name (queue_at doc q k) (served_at doc q k)
   stays attended name =
       let h = queue_at doc q k in
-      (every (taint doc k q) (λ g. Current q g × Stays name h g) (zone_stays h name) (places (nodes q h)) h (queue_current doc q k attended, inl refl)).1
+      subst (Stays name h) (sym (tainted-own doc own k q h))
+      (every (taint doc k q) (λ g. Current q g × Stays name h g) (zone_stays h name) (places (nodes q h)) h (queue_current doc own q k attended, inl refl)).1
 
   -- ---- where the token isn't there the base stays
 
@@ -186,7 +189,7 @@ module _ (doc : Doc) (q : Identity) (k : ℕ) (place : Place) where
       by_zone : (n wanted : ℕ) (w : IsWaiting q zone n wanted h) → has_token doc q k zone h ≡ true → (b : Bool) → place_eq zone place ≡ b → Idle (add k q (heading doc k q zone n wanted w.x (try_node q n w.x.0 h)) h)
       by_zone n wanted w token true inside = absurd (true_is (sym token ∙ ap (λ zone. has_token doc q k zone h) (same_place zone place inside) ∙ s.token))
       by_zone n wanted w token false apart = record {
-        token = heading_token doc k q zone h n wanted w place apart ∙ s.token;
+        token = heading_token doc k q zone h n wanted w own place apart ∙ s.token;
         base = heading_base_elsewhere doc k q zone h n wanted w place apart ∙ s.base;
         since = λ name. heading_since_elsewhere doc k q zone h n wanted w place apart name ∙ s.since name;
       }
@@ -194,7 +197,8 @@ module _ (doc : Doc) (q : Identity) (k : ℕ) (place : Place) where
   pub idle : has_token doc q k place (queue_at doc q k) ≡ false → Idle (served_at doc q k)
   idle none =
       let h = queue_at doc q k in
-      every (taint doc k q) Idle zone_idle (places (nodes q h)) h (record { token = none; base = refl; since = λ name. refl })
+      subst Idle (sym (tainted-own doc own k q h))
+      (every (taint doc k q) Idle zone_idle (places (nodes q h)) h (record { token = none; base = refl; since = λ name. refl }))
 
   -- ---- where it is there the head goes
 
@@ -221,12 +225,12 @@ module _ (doc : Doc) (q : Identity) (k : ℕ) (place : Place) where
       (λ at n wanted w token head. record {
         current = current_more q k (heading doc k q zone n wanted w.x (try_node q n w.x.0 h)) h s.current;
         since = λ name. heading_since_elsewhere doc k q zone h n wanted w place apart name ∙ s.since name;
-        token = heading_token doc k q zone h n wanted w place apart ∙ s.token;
+        token = heading_token doc k q zone h n wanted w own place apart ∙ s.token;
       })
 
   -- after it the token is gone
   no_token : (h : List Entry) → base q place h ≡ k → has_token doc q k place h ≡ true → ⊥
-  no_token h at token = by_rated (rated q place h) (subst (λ b. is_grown (local doc q.process k - local doc q.process b) (rated q place h) ≡ true) at token)
+  no_token h at token = by_rated (rated q place h) (subst (λ b. is_grown (local doc q.process k - local doc q.process b) (rated q place h) ≡ true) at (sym (has_token-own doc own q k place h) ∙ token))
     where
       by_rated : (o : Option Rated) → is_grown (local doc q.process k - local doc q.process k) o ≡ true → ⊥
       by_rated None is = false_is is
@@ -299,4 +303,5 @@ module _ (doc : Doc) (q : Identity) (k : ℕ) (place : Place) where
   spent attended n at mine token =
       let h = queue_at doc q k in
       let found = since_waits q place n at h mine in
-      reach n at mine (places (nodes q h)) h (waiting_place q place n found.0 h found.1) (record { current = queue_current doc q k attended; since = λ name. refl; token = token })
+      subst (Spent n at) (sym (tainted-own doc own k q h))
+      (reach n at mine (places (nodes q h)) h (waiting_place q place n found.0 h found.1) (record { current = queue_current doc own q k attended; since = λ name. refl; token = token }))

@@ -1,4 +1,4 @@
--- A node with the opposite of its wanted taint is swapped at once.
+-- A node with the opposite of its wanted taint is swapped at once, under the project's own rules.
 use Rattle.std.proofs.Common.{◌≡◌, ◌∙◌, ◌⊎◌, ℕ, suc, ◌==◌, ◌&&◌, not, Bool, true, false, List, [], ◌∷◌, Option, Some, None, refl, sym, ap, subst, inl, inr, if◌then◌else◌}
 use Rattle.std.specs.Prelude.{if◌then◌else◌}
 use Rattle.std.proofs.lemmas.Bool.{eqb-true, eq-eqb}
@@ -7,15 +7,19 @@ use Rattle.kube_objects.specs.declared.call.Answer.{Answer}
 use Rattle.kube_objects.specs.declared.call.Answer.TheVariants as answer
 use Rattle.kube_objects.specs.declared.key.Key.{Key}
 use Rattle.kube_objects.specs.declared.node.Node.{Node}
+use Rattle.kube_objects.specs.declared.rules.EvictRule.TheVariants.{Added}
 use Rattle.kube_objects.specs.Document.{Doc}
 use Rattle.kube_objects.specs.Entry.{Entry, Identity, Ticks, Tick, Sync, Untaint, Swap, Delete, entry}
+use Rattle.kube_objects.specs.InForce.{watches}
 use Rattle.kube_objects.specs.Modes.{mode}
 use Rattle.kube_objects.specs.Newest.{newest, only_if, or_else}
+use Rattle.kube_objects.specs.Own.{IsOwn}
 use Rattle.kube_objects.specs.Seen.{seen_node, is_fresh, stale_tick, stale_says, is_stale, node_names}
 use Rattle.kube_objects.specs.Stored.{node_key, next_version}
 use Rattle.kube_objects.specs.Tainting.{Wanted, wants}
 use Rattle.kube_objects.specs.Tick.{add, for_each, new_taint, swapped, clean}
 use Rattle.kube_objects.specs.Tries.{try_node}
+use Rattle.kube_objects.proofs.Own.{has_settled-own, cleaned-own}
 use Rattle.history.specs.Evictions.{after_turn}
 use Rattle.history.specs.History.{history, at_turn}
 use Rattle.history_laws.specs.Tails.{IsTail}
@@ -23,7 +27,7 @@ use Rattle.history_laws.proofs.Plainly.{upper, same_self, true_is, false_is}
 use Rattle.history_laws.proofs.Tailed.{tail_trans}
 use Rattle.history_laws.proofs.Walk.{Ticking, walk_to_tick, walk_at_turn}
 use Rattle.eviction_laws.proofs.Current.{Unstale}
-use Rattle.eviction_laws.proofs.Turns.{unstale_keeps, put_unstale}
+use Rattle.eviction_laws.proofs.Turns.{unstale_keeps, unstale_release, put_unstale}
 use Rattle.outage_laws.specs.Attended.{IsAttended}
 use Rattle.outage_laws.specs.Passes.{synced_at}
 use Rattle.outage_laws.proofs.Turns.{ready}
@@ -42,14 +46,19 @@ use Rattle.wave_laws.proofs.Heads.{accepted}
 
 -- ---- before its untaints and swaps an attended tick has no stale key
 
-module _ (doc : Doc) (q : Identity) (k : ℕ) (here : IsAttended doc q k) (key : Key) where
+module _ (doc : Doc) (own : IsOwn doc) (q : Identity) (k : ℕ) (here : IsAttended doc q k) (key : Key) where
+  added : doc.settings.rules.evict_from ≡ Added
+  added = ap (λ r. r.evict_from) own.rules
+
   begun_unstale : Unstale q (begun doc q k)
   begun_unstale =
-      walk_to_tick doc (Ticking doc) (λ k. Unstale q) (unstale_keeps doc q).turns k q.process here.0.0 (ready doc q k here).awake (at_turn doc q.process k)
-      (walk_at_turn doc (λ k step. Unstale q) (unstale_keeps doc q) (put_unstale doc q doc.objects [] (λ is key. absurd (false_is is))) q.process k)
+      walk_to_tick doc (Ticking doc) (λ k. Unstale q) (unstale_keeps doc added q).turns (unstale_release doc added q).turns k q.process here.0.0 (ready doc own q k here).awake (at_turn doc q.process k)
+      (walk_at_turn doc (λ k step. Unstale q) (unstale_keeps doc added q) (unstale_release doc added q) (put_unstale doc added q doc.objects [] (λ is key. absurd (false_is is))) q.process k)
 
   synced_unstale : is_stale q key (synced_at doc q k) ≡ false
-  synced_unstale = subst (λ b. is_stale q key (if (b && not (is_fresh q (begun doc q k))) then add k q Sync (begun doc q k) else begun doc q k) ≡ false) (sym (ready doc q k here).watching) (by_test (is_fresh q (begun doc q k)) refl)
+  synced_unstale =
+      subst (λ b. is_stale q key (if (b && (watches doc q.process (begun doc q k) && not (is_fresh q (begun doc q k)))) then add k q Sync (begun doc q k) else begun doc q k) ≡ false) (sym (has_settled-own doc own k q (begun doc q k)))
+      (subst (λ b. is_stale q key (if (b && not (is_fresh q (begun doc q k))) then add k q Sync (begun doc q k) else begun doc q k) ≡ false) (sym (ready doc own q k here).watching) (by_test (is_fresh q (begun doc q k)) refl))
     where
       by_test : (b : Bool) → is_fresh q (begun doc q k) ≡ b → is_stale q key (if (not b) then add k q Sync (begun doc q k) else begun doc q k) ≡ false
       by_test true is = begun_unstale is key
@@ -70,7 +79,7 @@ module _ (doc : Doc) (q : Identity) (k : ℕ) (here : IsAttended doc q k) (key :
 
 -- ---- the walk over the names
 
-module _ (doc : Doc) (q : Identity) (n wanted k : ℕ) (x : Version × Node) where
+module _ (doc : Doc) (own : IsOwn doc) (q : Identity) (n wanted k : ℕ) (x : Version × Node) where
   -- an accepted swap of the node stands in a history
   record Stands (h : List Entry) : Type 0 where
     given : Version
@@ -95,7 +104,7 @@ module _ (doc : Doc) (q : Identity) (n wanted k : ℕ) (x : Version × Node) whe
 
   other : (m : ℕ) → (m == n) ≡ false → (h : List Entry) → Ahead h → Ahead (clean doc k q m h)
   other m apart h s =
-      clean_either doc k q m h Ahead s
+      clean_either doc own k q m h Ahead s
       (λ t written a is given.
       let change = cleaning_change q k h m written a t is given in
       record {
@@ -107,7 +116,7 @@ module _ (doc : Doc) (q : Identity) (n wanted k : ℕ) (x : Version × Node) whe
 
   swap_now : (h : List Entry) → Ahead h → Stands (clean doc k q n h)
   swap_now h s =
-      subst Stands (sym (clean_adds doc k q n h x s.dirty s.sees))
+      subst Stands (sym (clean_adds doc own k q n h x s.dirty s.sees))
       (subst (λ w. Stands (add k q (cleaning doc k q n x.0 x.1 w (try_node q n x.0 h)) h)) (sym s.wants_it)
       (record {
         given = x.0;
@@ -118,7 +127,7 @@ module _ (doc : Doc) (q : Identity) (n wanted k : ℕ) (x : Version × Node) whe
       }))
 
   stands_on : (m : ℕ) (h : List Entry) → Stands h → Stands (clean doc k q m h)
-  stands_on m h s = ticked_keeps q k Stands (λ t g s. record { given = s.given; written = s.written; version = s.version; before = s.before; stands = inr s.stands }) h (clean doc k q m h) (clean_ticked doc k q m h) s
+  stands_on m h s = ticked_keeps q k Stands (λ t g s. record { given = s.given; written = s.written; version = s.version; before = s.before; stands = inr s.stands }) h (clean doc k q m h) (clean_ticked doc k q own m h) s
 
   reach : (names : List ℕ) (h : List Entry) → Among n names → Ahead h → Stands (for_each (clean doc k q) names h)
   reach [] h there s = absurd there
@@ -133,13 +142,13 @@ module _ (doc : Doc) (q : Identity) (n wanted k : ℕ) (x : Version × Node) whe
       by_name below true same = every (clean doc k q) Stands stands_on ms (clean doc k q m h) (subst (λ m. Stands (clean doc k q m h)) (sym (eqb-true m n same)) (swap_now h s))
 
 pub swaps_are_at_once : SwapsAreAtOnce
-swaps_are_at_once doc q n wanted k here x sees wants_it opposite =
+swaps_are_at_once doc own q n wanted k here x sees wants_it opposite =
     record {
       given = s.given;
       written = s.written;
       version = s.version;
       before = s.before;
-      stands = tail_trans _ (queue_at doc q k) (history doc (suc k)) s.stands (tail_trans (queue_at doc q k) (after_turn doc q.process k) (history doc (suc k)) (queue_tail doc q k here) (in_history doc q k here));
+      stands = tail_trans _ (queue_at doc q k) (history doc (suc k)) s.stands (tail_trans (queue_at doc q k) (after_turn doc q.process k) (history doc (suc k)) (queue_tail doc own q k here) (in_history doc own q k here));
     }
   where
     h : List Entry
@@ -147,10 +156,12 @@ swaps_are_at_once doc q n wanted k here x sees wants_it opposite =
 
     dirty : is_dirty q n (judged_at doc q k) ≡ true
     dirty =
-        ap (λ b. dirty_as b (mode q (judged_at doc q k)) (seen_node q n (judged_at doc q k))) (judged_unstale doc q k here (node_key n))
+        ap (λ b. dirty_as b (mode q (judged_at doc q k)) (seen_node q n (judged_at doc q k))) (judged_unstale doc own q k here (node_key n))
         ∙ ap (dirty_as false (mode q (judged_at doc q k))) sees
         ∙ ap (λ w. cleans w x.1) wants_it
         ∙ opposite
 
-    s : Stands doc q n wanted k x (queue_at doc q k)
-    s = reach doc q n wanted k x (node_names (judged_at doc q k)) (judged_at doc q k) (node_is_named q n (judged_at doc q k) x sees) (record { current = judged_current doc q k here; dirty = dirty; sees = sees; wants_it = wants_it })
+    s : Stands doc own q n wanted k x (queue_at doc q k)
+    s =
+        subst (Stands doc own q n wanted k x) (sym (cleaned-own doc own k q h))
+        (reach doc own q n wanted k x (node_names h) h (node_is_named q n h x sees) (record { current = judged_current doc own q k here; dirty = dirty; sees = sees; wants_it = wants_it }))

@@ -1,17 +1,19 @@
--- A zone's base while its rate stays, and when its token is there.
+-- A zone's base while its rate stays, and when its token is there, under the project's own rules.
 use Rattle.std.proofs.Common.{◌≡◌, ◌∙◌, ◌≤◌, ◌<◌, ℕ, suc, ◌+◌, ◌-◌, ◌*◌, ◌&&◌, not, Bool, true, false, List, Option, Some, None, refl, sym, ap, subst, inr, ⊎_elim, arith}
 use Rattle.std.proofs.lemmas.Bool.{eqb-true, leb-true, le-leb, cases_eq}
 use Rattle.std.proofs.Math.Nat.{mul-le-mul_right}
 use Rattle.kube_objects.specs.declared.node.ZoneState.{ZoneState}
 use Rattle.kube_objects.specs.Clocks.{local}
 use Rattle.kube_objects.specs.Document.{Doc}
-use Rattle.kube_objects.specs.Entry.{Entry, Identity, Place, Tick, Zone, Head, actor_of}
+use Rattle.kube_objects.specs.Entry.{Entry, Identity, Place, Tick, Zone, Head, Skip, actor_of}
 use Rattle.kube_objects.specs.Identities.{is_by}
 use Rattle.kube_objects.specs.Modes.{place_eq}
 use Rattle.kube_objects.specs.Newest.{newest, when, join, or_zero}
+use Rattle.kube_objects.specs.Own.{IsOwn}
 use Rattle.kube_objects.specs.Tick.{add, pass}
 use Rattle.kube_objects.specs.Tokens.{Rated, rated_says, rated, has_rate, is_base, base, token_size, is_grown, has_token}
 use Rattle.kube_objects.proofs.Clocks.{local_up}
+use Rattle.kube_objects.proofs.Own.{has_token-own}
 use Rattle.history.specs.History.{history}
 use Rattle.history_laws.specs.Tails.{IsTail}
 use Rattle.history_laws.proofs.Plainly.{upper, same_self, false_is}
@@ -46,19 +48,20 @@ module _ (q : Identity) (place : Place) (rate k : ℕ) where
   passing_base : (t : Tick) (h : List Entry) → is_passing t ≡ true → has_rate rate (rated q place h) ≡ true → has_rate rate (rated q place (add k q t h)) ≡ true → base q place (add k q t h) ≡ base q place h
   passing_base (Zone zone state r) h is old new = ap (λ b. or_zero (upper (when b k) (newest (λ e T. when (is_base q place e.actor e.fact T) e.beat) h))) (zone_base zone state r h old new)
   passing_base (Head at name wanted given written tried) h is old new = absurd (false_is is)
+  passing_base (Skip at name) h is old new = absurd (false_is is)
   passing_base t h is old new = refl
 
 -- ---- beats in which the zone keeps its rate
 
-module _ (doc : Doc) (q : Identity) (place : Place) (rate y e : ℕ) (first : IsAttended doc q y) (keeps : KeepsRate doc q place rate y e) where
+module _ (doc : Doc) (own : IsOwn doc) (q : Identity) (place : Place) (rate y e : ℕ) (first : IsAttended doc q y) (keeps : KeepsRate doc q place rate y e) where
   pub rate_at : (k : ℕ) → y ≤ k → k ≤ e → IsAttended doc q k → has_rate rate (rated q place (queue_at doc q k)) ≡ true
-  rate_at k from to here = keeps (queue_at doc q k) (⊎_elim (λ same. subst (λ k. IsTail (queue_at doc q y) (queue_at doc q k)) same (tail_all (queue_at doc q y))) later (cases_eq y k)) (queue_in doc q k e here to)
+  rate_at k from to here = keeps (queue_at doc q k) (⊎_elim (λ same. subst (λ k. IsTail (queue_at doc q y) (queue_at doc q k)) same (tail_all (queue_at doc q y))) later (cases_eq y k)) (queue_in doc own q k e here to)
     where
       later : (y ≡ k → ⊥) → IsTail (queue_at doc q y) (queue_at doc q k)
-      later differs = tail_trans (queue_at doc q y) (history doc k) (queue_at doc q k) (earlier_queue doc q y k first (omega (arith, from, differs))) (old_queue doc q k here)
+      later differs = tail_trans (queue_at doc q y) (history doc k) (queue_at doc q k) (earlier_queue doc own q y k first (omega (arith, from, differs))) (old_queue doc own q k here)
 
   pass_base : (k : ℕ) → y < k → k ≤ e → IsAttended doc q k → base q place (pass doc k q (synced_at doc q k)) ≡ base q place (synced_at doc q k)
-  pass_base k lt to here = (pass_keeps doc k q P more a (tail_all a, λ at. refl)).1 (tail_trans (pass doc k q a) (queue_at doc q k) (history doc (suc e)) (pass_tail doc q k) (queue_in doc q k e here to))
+  pass_base k lt to here = (pass_keeps doc k q P more a (tail_all a, λ at. refl)).1 (tail_trans (pass doc k q a) (queue_at doc q k) (history doc (suc e)) (pass_tail doc q k) (queue_in doc own q k e here to))
     where
       a : List Entry
       a = synced_at doc q k
@@ -67,7 +70,7 @@ module _ (doc : Doc) (q : Identity) (place : Place) (rate y e : ℕ) (first : Is
       P h = IsTail a h × (IsTail h (history doc (suc e)) → base q place h ≡ base q place a)
 
       start : IsTail (queue_at doc q y) a
-      start = tail_trans (queue_at doc q y) (history doc k) a (earlier_queue doc q y k first lt) (old_synced doc q k here)
+      start = tail_trans (queue_at doc q y) (history doc k) a (earlier_queue doc own q y k first lt) (old_synced doc own q k here)
 
       more : (t : Tick) (h : List Entry) → is_passing t ≡ true → IsTail a h × (IsTail h (history doc (suc e)) → base q place h ≡ base q place a)
           → IsTail a (add k q t h) × (IsTail (add k q t h) (history doc (suc e)) → base q place (add k q t h) ≡ base q place a)
@@ -81,15 +84,15 @@ module _ (doc : Doc) (q : Identity) (place : Place) (rate y e : ℕ) (first : Is
   -- only queued taints change the base
   pub queue_base : (k : ℕ) → y ≤ k → suc k ≤ e → IsAttended doc q k → IsAttended doc q (suc k) → base q place (queue_at doc q (suc k)) ≡ base q place (served_at doc q k)
   queue_base k from to here next =
-      (cleaned_limits doc (suc k) q (pass doc (suc k) q (synced_at doc q (suc k)))).base place
+      (cleaned_limits doc own (suc k) q (pass doc (suc k) q (synced_at doc q (suc k)))).base place
       ∙ pass_base (suc k) (omega (arith, from)) to next
-      ∙ (sync_limits doc (suc k) q (begun doc q (suc k))).base place
-      ∙ next_base doc q k here next place
+      ∙ (sync_limits doc own (suc k) q (begun doc q (suc k))).base place
+      ∙ next_base doc own q k here next place
 
   -- the token is there once its interval is over since the base
   pub token_there : (interval k : ℕ) → IsEnough rate token_size interval → y ≤ k → k ≤ e → IsAttended doc q k → local doc q.process (base q place (queue_at doc q k)) + interval ≤ local doc q.process k
       → has_token doc q k place (queue_at doc q k) ≡ true
-  token_there interval k enough from to here over = by_rated (rated q place (queue_at doc q k)) (rate_at k from to here)
+  token_there interval k enough from to here over = has_token-own doc own q k place (queue_at doc q k) ∙ by_rated (rated q place (queue_at doc q k)) (rate_at k from to here)
     where
       span : ℕ
       span = local doc q.process k - local doc q.process (base q place (queue_at doc q k))
@@ -106,7 +109,7 @@ module _ (doc : Doc) (q : Identity) (place : Place) (rate y e : ℕ) (first : Is
   pub token_over : (interval k : ℕ) → IsNeeded rate token_size interval → y ≤ k → k ≤ e → IsAttended doc q k → has_token doc q k place (queue_at doc q k) ≡ true
       → local doc q.process (base q place (queue_at doc q k)) + interval ≤ local doc q.process k
   token_over interval k needed from to here there =
-      omega (arith, local_up doc q.process (base q place (queue_at doc q k)) k (base_within doc q k here place), by_rated (rated q place (queue_at doc q k)) (rate_at k from to here) there)
+      omega (arith, local_up doc q.process (base q place (queue_at doc q k)) k (base_within doc own q k here place), by_rated (rated q place (queue_at doc q k)) (rate_at k from to here) (sym (has_token-own doc own q k place (queue_at doc q k)) ∙ there))
     where
       by_rated : (o : Option Rated) → has_rate rate o ≡ true → is_grown (local doc q.process k - local doc q.process (base q place (queue_at doc q k))) o ≡ true
           → interval ≤ local doc q.process k - local doc q.process (base q place (queue_at doc q k))

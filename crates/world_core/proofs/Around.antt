@@ -1,18 +1,19 @@
 -- Layer 3, the world around one process: all but one process stand through the quiet entries of that one.
-use Rattle.std.proofs.Common.{◌≡◌, ℕ, ◌+◌, ◌<◌, ◌≤◌, ◌==◌, ◌&&◌, nat_lt, Bool, true, false, List, [], ◌∷◌, Option, Some, None, refl, sym, ap, ◌∙◌, arith}
+use Rattle.std.proofs.Common.{◌≡◌, ℕ, ◌+◌, ◌<◌, ◌≤◌, ◌==◌, ◌&&◌, nat_lt, Bool, true, false, List, [], ◌∷◌, Option, Some, None, refl, sym, ap, ◌∙◌, subst, arith}
 use Rattle.std.specs.Prelude.{if◌then◌else◌}
 use Rattle.kube_objects.specs.declared.deed.Actor.{Actor}
 use Rattle.kube_objects.specs.declared.deed.Actor.TheVariants as actor
 use Rattle.kube_objects.specs.Clocks.{local}
 use Rattle.kube_objects.specs.Document.{Doc, is_controller, processes}
 use Rattle.kube_objects.specs.Elector.{deadline}
-use Rattle.kube_objects.specs.Entry.{Entry, Identity, Call, Fact, First, Event, Starts, Crashes, Stops, Stalls, Ends, Sends, Answers, Delivers, Expires, Leads, Ticks, entry}
+use Rattle.kube_objects.specs.Entry.{Entry, Identity, Call, Fact, First, Event, Starts, Crashes, Stops, Stalls, Ends, StepsDown, ReleaseBegins, ReleaseEnds, ReleaseStops, Sends, Answers, Delivers, Expires, Leads, Ticks, entry}
 use Rattle.kube_objects.specs.Identities.{identity, is_by, of_process}
 use Rattle.kube_objects.specs.Newest.{join, when}
-use Rattle.kube_objects.specs.Process.{life_says, life, alive, born, gone, starts, call_in, is_late, ended, is_restart_due}
+use Rattle.kube_objects.specs.Process.{life_says, life, alive, born, gone, starts, call_in, is_late, release_begun, ended, is_restart_due}
 use Rattle.kube_objects.specs.Stored.{write_of}
-use Rattle.kube_objects.specs.Turns.{expire_call, end_term}
+use Rattle.kube_objects.specs.Turns.{expire_as, expire_call, end_as, end_term}
 use Rattle.kube_objects.specs.Wire.{Sent, Back}
+use Rattle.kube_objects.proofs.Own.{end_term-own, expire_as-own}
 use Rattle.history.specs.Steps.{start, restart_if, restart, if_up, expire, finish}
 use Rattle.object_store.proofs.Keeps.{store-beside}
 use Rattle.wire_calls.specs.WireStands.{is_of_wire}
@@ -111,6 +112,10 @@ says-not p i who Crashes other is = gone-is p i (of_process p who) is
 says-not p i who (Stalls beats) other is = cc
 says-not p i who Stops other is = gone-is p i (of_process p who) is
 says-not p i who Ends other is = gone-is p i (of_process p who) is
+says-not p i who StepsDown other is = cc
+says-not p i who (ReleaseBegins at_deadline) other is = cc
+says-not p i who ReleaseEnds other is = gone-is p i (of_process p who) is
+says-not p i who ReleaseStops other is = cc
 says-not p i who (Sends call arrives) other is = cc
 says-not p i who (Answers call reply comes written) other is = cc
 says-not p i who (Delivers call reply counted) other is = cc
@@ -154,8 +159,10 @@ around-restart doc k i arriving coming h w within s = by_life (alive i h)
 around-expire : (doc : Doc) (k i : ℕ) (arriving : List Sent) (coming : List Back) (h : List Entry) (w : World) → i < processes doc → Around doc k i arriving coming h w → Around doc k i arriving coming (expire doc k i h) w
 around-expire doc k i arriving coming h w within s = by_life (alive i h) refl
   where
-    by_late : (j : ℕ) → IsKnown (processes doc) h (identity i j) → (call : Call) (b : Bool) → Around doc k i arriving coming (if b then entry k 4 (identity i j) (Expires call) ∷ h else h) w
-    by_late j known call true = around-own doc k i k 4 arriving coming (identity i j) (Expires call) h w refl refl (known-later (processes doc) (entry k 4 (identity i j) (Expires call)) h (identity i j) known) s
+    by_late : (j : ℕ) → IsKnown (processes doc) h (identity i j) → (call : Call) (b : Bool) → Around doc k i arriving coming (if b then expire_as doc k (identity i j) call (release_begun doc.settings.rules.release call.kind) h else h) w
+    by_late j known call true =
+        subst (λ g. Around doc k i arriving coming g w) (sym (expire_as-own doc s.rest.document.own k (identity i j) call h))
+        (around-own doc k i k 4 arriving coming (identity i j) (Expires call) h w refl refl (known-later (processes doc) (entry k 4 (identity i j) (Expires call)) h (identity i j) known) s)
     by_late j known call false = s
 
     by_call : (j : ℕ) → IsKnown (processes doc) h (identity i j) → (call : Option Call) → Around doc k i arriving coming (expire_call doc k (identity i j) call h) w
@@ -169,9 +176,11 @@ around-expire doc k i arriving coming h w within s = by_life (alive i h) refl
 around-finish : (doc : Doc) (k i : ℕ) (arriving : List Sent) (coming : List Back) (h : List Entry) (w : World) → i < processes doc → Around doc k i arriving coming h w → Around doc k i arriving coming (finish doc k i h) w
 around-finish doc k i arriving coming h w within s = by_life (alive i h) refl
   where
-    by_time : (j : ℕ) → IsKnown (processes doc) h (identity i j) → (b : Bool) → Around doc k i arriving coming (if b then h else entry k 4 (identity i j) Ends ∷ h) w
+    by_time : (j : ℕ) → IsKnown (processes doc) h (identity i j) → (b : Bool) → Around doc k i arriving coming (if b then h else end_as doc.settings.rules.release doc k (identity i j) h) w
     by_time j known true = s
-    by_time j known false = around-own doc k i k 4 arriving coming (identity i j) Ends h w refl refl (known-later (processes doc) (entry k 4 (identity i j) Ends) h (identity i j) known) s
+    by_time j known false =
+        subst (λ g. Around doc k i arriving coming g w) (sym (end_term-own doc s.rest.document.own k (identity i j) h))
+        (around-own doc k i k 4 arriving coming (identity i j) Ends h w refl refl (known-later (processes doc) (entry k 4 (identity i j) Ends) h (identity i j) known) s)
 
     by_deadline : (j : ℕ) → IsKnown (processes doc) h (identity i j) → (at : Option ℕ) → Around doc k i arriving coming (end_term doc k (identity i j) at h) w
     by_deadline j known None = s

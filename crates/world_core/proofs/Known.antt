@@ -3,7 +3,7 @@ use Rattle.std.proofs.Common.{IfSome, ◌≡◌, ℕ, ◌<◌, ◌≤◌, nat_lt
 use Rattle.kube_objects.specs.declared.call.Reply.{Reply}
 use Rattle.kube_objects.specs.declared.deed.Actor.{Actor}
 use Rattle.kube_objects.specs.declared.deed.Actor.TheVariants as actor
-use Rattle.kube_objects.specs.Entry.{Entry, Identity, Call, Fact, First, Event, Starts, Crashes, Stops, Stalls, Ends, Sends, Answers, Delivers, Expires, Leads, Ticks}
+use Rattle.kube_objects.specs.Entry.{Entry, Identity, Call, Fact, First, Event, Starts, Crashes, Stops, Stalls, Ends, StepsDown, ReleaseBegins, ReleaseEnds, ReleaseStops, Sends, Answers, Delivers, Expires, Leads, Ticks}
 use Rattle.kube_objects.specs.Identities.{identity, identity_of, is_same, is_by}
 use Rattle.kube_objects.specs.InFlight.{is_due, and_request, requests_due, and_reply, replies_due}
 use Rattle.kube_objects.specs.Process.{starts}
@@ -78,6 +78,10 @@ sent-actor P who Crashes x is some = cc
 sent-actor P who (Stalls beats) x is some = cc
 sent-actor P who Stops x is some = cc
 sent-actor P who Ends x is some = cc
+sent-actor P who StepsDown x is some = cc
+sent-actor P who (ReleaseBegins at_deadline) x is some = cc
+sent-actor P who ReleaseEnds x is some = cc
+sent-actor P who ReleaseStops x is some = cc
 sent-actor P who (Sends call arrives) x is some = sent-who P call arrives (identity_of who) x is some
 sent-actor P who (Answers call reply comes written) x is some = cc
 sent-actor P who (Delivers call reply counted) x is some = cc
@@ -93,6 +97,10 @@ back-actor P who Crashes x is some = cc
 back-actor P who (Stalls beats) x is some = cc
 back-actor P who Stops x is some = cc
 back-actor P who Ends x is some = cc
+back-actor P who StepsDown x is some = cc
+back-actor P who (ReleaseBegins at_deadline) x is some = cc
+back-actor P who ReleaseEnds x is some = cc
+back-actor P who ReleaseStops x is some = cc
 back-actor P who (Sends call arrives) x is some = cc
 back-actor P who (Answers call reply comes written) x is some = back-who P call reply comes (identity_of who) x is some
 back-actor P who (Delivers call reply counted) x is some = cc

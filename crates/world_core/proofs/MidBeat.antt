@@ -12,11 +12,12 @@ use Rattle.kube_objects.specs.Document.{Doc, processes, is_up_first}
 use Rattle.kube_objects.specs.Entry.{Entry, Identity, CallKind, Sends, Answers, Delivers, entry, actor_of}
 use Rattle.kube_objects.specs.Identities.{identity}
 use Rattle.kube_objects.specs.Process.{starts}
-use Rattle.kube_objects.specs.Wire.{Sent, Back, send, next_call, request_arrival, reply_arrival}
+use Rattle.kube_objects.specs.Wire.{Sent, Back, send, next_call, reply_arrival}
+use Rattle.kube_objects.proofs.Own.{request_arrival-own}
 use Rattle.history.specs.Printed.{printed, deeds_of, answer_act}
 use Rattle.history.specs.Steps.{answered, delivered, start_first, start}
 use Rattle.object_store.proofs.Keeps.{store-beside}
-use Rattle.wire_calls.specs.WireStands.{WireStands}
+use Rattle.wire_calls.specs.WireStands.{WireStands, request_travel}
 use Rattle.world_process.specs.declared.process.Process.{Process}
 use Rattle.world_process.specs.declared.moves.Received.{Received}
 use Rattle.world_process.specs.declared.moves.Turn.{Turn}
@@ -75,6 +76,7 @@ doc-same doc k w v same count s =
       micros = same.micros ∙ s.micros;
       events = same.events ∙ s.events;
       controllers = same.controllers ∙ s.controllers;
+      own = s.own;
     }
 
 doc-moved : (doc : Doc) (k i : ℕ) (c0 c1 : Process) (w v : World) → Moved i c0 c1 w v → DocStands doc k w → DocStands doc k v
@@ -101,11 +103,12 @@ within-sent : (doc : Doc) (k step i : ℕ) (arriving : List Sent) (coming : List
 within-sent doc k step i arriving coming h next c0 c1 w v ask m sends a within asked =
     let q = identity i (incarnation_of c1) in
     let call = next_call q k asked.kind ask.request h in
-    let d = Sends call (request_arrival i k h) in
+    let d = Sends call (request_travel i k h) in
     let e = entry k step q d in
     let last : incarnation_of c1 ≡ starts i h = process-incarnation doc i (entry k step q (Sends call None) ∷ h) c1 (asked.stands None) in
     let known : IsKnown (processes doc) h q = record { within = within; started = omega (arith, last) } in
-    subst (λ x. WorldWithin doc k arriving coming x v) (sym asked.sent)
+    let sent : next ≡ e ∷ h = asked.sent ∙ ap (λ o. entry k step q (Sends call o) ∷ h) (request_arrival-own doc a.rest.document.own i k h) in
+    subst (λ x. WorldWithin doc k arriving coming x v) (sym sent)
     (record {
       rest = record {
         document = doc-moved doc k i c0 c1 w v m a.rest.document;
@@ -115,7 +118,7 @@ within-sent doc k step i arriving coming h next c0 c1 w v ask m sends a within a
         in_force = subst (InForceStands doc (e ∷ h)) (sym m.in_force) (in_force-beside doc e h w.in_force refl a.rest.in_force);
       };
       processes = subst (EachStands doc (e ∷ h)) (sym m.now)
-          (each-set doc i (e ∷ h) w.processes.items c0 c1 m.was (λ p c other is. process-others doc p k step q d h c (λ same. other (sym same)) refl (a.others p c other is)) (asked.stands (request_arrival i k h)));
+          (each-set doc i (e ∷ h) w.processes.items c0 c1 m.was (λ p c other is. process-others doc p k step q d h c (λ same. other (sym same)) refl (a.others p c other is)) (asked.stands (request_travel i k h)));
     })
 
 -- what a process asks was sent, where it asks
@@ -126,13 +129,13 @@ within-asked doc k step i arriving coming h next c0 c1 w v None m same a within 
 within-asked doc k step i arriving coming h next c0 c1 w v (Some ask) m sends a within asked =
     within-sent doc k step i arriving coming h next c0 c1 w v ask m sends a within asked
 
-printed-sent : (k step : ℕ) (q : Identity) (kind : CallKind) (ask : Ask) (h next : List Entry) → next ≡ send k step q kind ask.request h → printed next ≡ printed h
-printed-sent k step q kind ask h next is = ap printed is ∙ append-nil (printed h)
+printed-sent : (doc : Doc) (k step : ℕ) (q : Identity) (kind : CallKind) (ask : Ask) (h next : List Entry) → next ≡ send doc k step q kind ask.request h → printed next ≡ printed h
+printed-sent doc k step q kind ask h next is = ap printed is ∙ append-nil (printed h)
 
 -- what is asked isn't printed
 pub printed-asked : (doc : Doc) (k step i : ℕ) (h next : List Entry) (c : Process) (ask : Option Ask) → AsksOn doc k step i h next c ask → printed next ≡ printed h
 printed-asked doc k step i h next c None asks = ap printed asks.0
-printed-asked doc k step i h next c (Some ask) asked = printed-sent k step (identity i (incarnation_of c)) asked.kind ask h next asked.sent
+printed-asked doc k step i h next c (Some ask) asked = printed-sent doc k step (identity i (incarnation_of c)) asked.kind ask h next asked.sent
 
 pub told-more : (before deeds new more : List Deed) (h next : List Entry) → before ++ deeds ≡ printed h → new ≡ deeds ++ more → printed next ≡ printed h ++ more → before ++ new ≡ printed next
 told-more before deeds new more h next told new_is is = ap (λ ds. before ++ ds) new_is ∙ sym (append_assoc before deeds more) ∙ ap (λ ds. ds ++ more) told ∙ sym is

@@ -37,7 +37,7 @@ stopped-kept doc k id h y z t keeps same s =
     subst (λ i. moves.StoppedAs doc k id h i (λ g. ProcessStands doc id.0 g z) t) (sym same)
     (record {
       told = s.told;
-      asks = asks-kept k 1 (identity id.0 (incarnation_of y)) (moves.stopped doc k id h) (happens doc k (what.Stop id) h) (λ g. ProcessStands doc id.0 g y) (λ g. ProcessStands doc id.0 g z) (λ g. keeps doc id.0 g) t.ask s.asks;
+      asks = asks-kept doc k 1 (identity id.0 (incarnation_of y)) (moves.stopped doc k id h) (happens doc k (what.Stop id) h) (λ g. ProcessStands doc id.0 g y) (λ g. ProcessStands doc id.0 g z) (λ g. keeps doc id.0 g) t.ask s.asks;
     })
 
 reply-kept : (doc : Doc) (k : ℕ) (q : Identity) (b : Back) (h : List Entry) (S T : List Entry → Type 0) → ((g : List Entry) → S g → T g) → (ask : Option Ask) → moves.AsksOnReply doc k q b h S ask → moves.AsksOnReply doc k q b h T ask

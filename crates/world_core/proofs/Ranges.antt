@@ -24,6 +24,7 @@ fit doc (what.Stop id) lawful = tt
 fit doc (what.Watch id on) lawful = tt
 fit doc (what.Ready id status) lawful = tt
 fit doc (what.Pause id beats) lawful = tt
+fit doc (what.Stall beats) lawful = tt
 fit doc (what.Put key object) lawful = lawful.1
 fit doc (what.Remove key) lawful = tt
 

@@ -66,11 +66,12 @@ running-event doc k before deeds new arriving coming h w v event version r besid
 
 -- it changes nothing in the world and is not printed
 pub running-plain : (doc : Doc) (k : ℕ) (before deeds : List Deed) (arriving : List Sent) (coming : List Back) (h : List Entry) (w : World) (event : What) → MidBeat doc k before arriving coming h w deeds → is_of_wire (Event event None) ≡ false → write_of (Event event None) ≡ None → sets_standing event ≡ false →
-    ((p : ℕ) → cancels doc p k event ≡ false) → MidBeat doc k before arriving coming (scripted k event None h) w deeds
-running-plain doc k before deeds arriving coming h w event r wire write standing beside =
+    event_act event None ≡ None → ((p : ℕ) → cancels doc p k event ≡ false) → MidBeat doc k before arriving coming (scripted k event None h) w deeds
+running-plain doc k before deeds arriving coming h w event r wire write standing untold beside =
     let e = script_entry k 1 (Event event None) in
     running-event doc k before deeds deeds arriving coming h w w event None r beside (unmoved-self w) (in_force-beside doc e h w.in_force standing r.world.rest.in_force)
-    (store-beside h e w.store r.world.rest.store write) (wire-beside (processes doc) k arriving coming h e w.wire wire r.world.rest.wire) (sym (append-nil deeds))
+    (store-beside h e w.store r.world.rest.store write) (wire-beside (processes doc) k arriving coming h e w.wire wire r.world.rest.wire)
+    (sym (append-nil deeds) ∙ ap (λ a. deeds ++ deeds_of k actor.Script a) (sym untold))
 
 -- ---- an event on a controller
 
@@ -150,7 +151,7 @@ running-stalled doc k before deeds new arriving coming h w id beats i up r withi
     g = scripted k (what.Pause id beats) None h
 
     base : MidBeat doc k before arriving coming g w deeds
-    base = running-plain doc k before deeds arriving coming h w (what.Pause id beats) r refl refl refl (λ p. refl)
+    base = running-plain doc k before deeds arriving coming h w (what.Pause id beats) r refl refl refl refl (λ p. refl)
 
     by_life : (b : Bool) → alive id.0 h ≡ when b i → new ≡ deeds ++ deeds_of k (actor_of (identity id.0 i)) (when b (act.Pause beats)) → MidBeat doc k before arriving coming (stall k id.0 beats (when b i) g) w new
     by_life false lives new_is = subst (MidBeat doc k before arriving coming g w) (sym (new_is ∙ append-nil deeds)) base

@@ -9,9 +9,10 @@ use Rattle.kube_objects.specs.Identities.{identity}
 use Rattle.kube_objects.specs.Modes.{nodes}
 use Rattle.kube_objects.specs.Pauses.{is_paused}
 use Rattle.kube_objects.specs.Process.{alive}
+use Rattle.kube_objects.specs.Stalls.{is_stalled}
 use Rattle.kube_objects.specs.Tick.{add, sync, tick}
 use Rattle.kube_objects.specs.Wire.{Sent, Back}
-use Rattle.history.specs.Steps.{if_up, turn, controller_turn, kubelet_turn, unpaused_turn}
+use Rattle.history.specs.Steps.{if_up, ticks_while, turn, controller_turn, kubelet_turn, unpaused_turn}
 use Rattle.history_laws.proofs.Ticks.{walk_tick}
 use Rattle.beat_laws.specs.Unticked.{IsUntickedFrom}
 use Rattle.beat_laws.proofs.Names.{nodes_are_named}
@@ -109,8 +110,12 @@ module _ (doc : Doc) (k p : ℕ) (arriving : List Sent) (coming : List Back) (w 
       by_life None is = s
       by_life (Some i) is = by_test i is (acts doc (identity p i) k h)
 
+      by_stall : (b : Bool) → Beside doc k p arriving coming (ticks_while b doc k p h) w
+      by_stall true = s
+      by_stall false = by_life (alive p h) refl
+
       by_sort : (b : Bool) → Beside doc k p arriving coming (own_ticks_as doc k p b h) w
-      by_sort true = by_life (alive p h) refl
+      by_sort true = by_stall (is_stalled doc k)
       by_sort false = s
 
 -- the world with another store
@@ -124,7 +129,7 @@ around-ticks doc k p arriving coming h w s within r store =
     let b = beside-ticks doc k p arriving coming w h within (record { plain = r.rest.plain; wire = r.rest.wire; in_force = r.rest.in_force; others = λ o x other is. r.processes o x is }) in
     record {
       rest = record {
-        document = record { at = d.at; restart = d.restart; count = d.count; epoch = d.epoch; micros = d.micros; events = d.events; controllers = d.controllers };
+        document = record { at = d.at; restart = d.restart; count = d.count; epoch = d.epoch; micros = d.micros; events = d.events; controllers = d.controllers; own = d.own };
         plain = b.plain;
         store = store;
         wire = b.wire;
@@ -157,7 +162,7 @@ keeps-stored w v s keeps r =
 -- no tick
 pub running-unticked : (doc : Doc) (k p : ℕ) (before deeds : List Deed) (arriving : List Sent) (coming : List Back) (h : List Entry) (w : World) → in_term_now doc k p h ≡ false
     → MidBeat doc k before arriving coming h w deeds → MidBeat doc k before arriving coming (own_ticks doc k p h) w deeds
-running-unticked doc k p before deeds arriving coming h w none r = subst (λ g. MidBeat doc k before arriving coming g w deeds) (sym (ticks-none doc k p h none)) r
+running-unticked doc k p before deeds arriving coming h w none r = subst (λ g. MidBeat doc k before arriving coming g w deeds) (sym (ticks-none doc r.world.rest.document.own k p h none)) r
 
 -- ---- a turn is its tick after the rest
 

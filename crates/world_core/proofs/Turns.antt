@@ -22,9 +22,9 @@ use Rattle.world_core.proofs.MidBeat.{Moved, within-moved}
 pub same-twice : (x y z : Process) → SameProcess x y → SameProcess y z → SameProcess x z
 same-twice x y z a b = record { me = b.me ∙ a.me; clock = b.clock ∙ a.clock }
 
-pub asks-kept : (k step : ℕ) (q : Identity) (h next : List Entry) (S T : List Entry → Type 0) → ((g : List Entry) → S g → T g) → (ask : Option Ask) → moves.AsksOn k step q h next S ask → moves.AsksOn k step q h next T ask
-asks-kept k step q h next S T keeps None s = (s.0, keeps h s.1)
-asks-kept k step q h next S T keeps (Some ask) s = record { kind = s.kind; sent = s.sent; number = s.number; stands = λ arrives. keeps _ (s.stands arrives) }
+pub asks-kept : (doc : Doc) (k step : ℕ) (q : Identity) (h next : List Entry) (S T : List Entry → Type 0) → ((g : List Entry) → S g → T g) → (ask : Option Ask) → moves.AsksOn doc k step q h next S ask → moves.AsksOn doc k step q h next T ask
+asks-kept doc k step q h next S T keeps None s = (s.0, keeps h s.1)
+asks-kept doc k step q h next S T keeps (Some ask) s = record { kind = s.kind; sent = s.sent; number = s.number; stands = λ arrives. keeps _ (s.stands arrives) }
 
 -- a history for which it stands
 stands-for : (doc : Doc) (k step p : ℕ) (h next : List Entry) (x : Process) (ask : Option Ask) → AsksOn doc k step p h next x ask → (g : List Entry) × ProcessStands doc p g x
@@ -41,7 +41,7 @@ turned-kept doc k p h x y t keeps turned =
     let next = moves.own_turn_as doc k p sort h in
     let same = same-incarnation doc p x y keeps (stands-for doc k 4 p base next x t.ask turned.asks) in
     subst (λ i. moves.TurnedAs doc k p sort h i (λ g. ProcessStands doc p g y) t) same
-    (record { told = turned.told; asks = asks-kept k 4 (identity p (incarnation_of x)) base next (λ g. ProcessStands doc p g x) (λ g. ProcessStands doc p g y) keeps t.ask turned.asks })
+    (record { told = turned.told; asks = asks-kept doc k 4 (identity p (incarnation_of x)) base next (λ g. ProcessStands doc p g x) (λ g. ProcessStands doc p g y) keeps t.ask turned.asks })
 
 -- ---- the world with a process that did nothing but to keep that beat
 

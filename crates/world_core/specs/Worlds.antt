@@ -16,7 +16,8 @@ use Rattle.kube_objects.specs.Document.{Doc, processes, restart_delay, beat_micr
 use Rattle.kube_objects.specs.Entry.{Entry, Identity, Call, Answers, Sends, entry}
 use Rattle.kube_objects.specs.InFlight.{requests_due, replies_due}
 use Rattle.kube_objects.specs.Kinds.{IsOfKind}
-use Rattle.kube_objects.specs.Wire.{Sent, Back, reply_arrival, request_arrival}
+use Rattle.kube_objects.specs.Own.{IsOwn}
+use Rattle.kube_objects.specs.Wire.{Sent, Back, reply_arrival}
 use Rattle.history.specs.History.{beat}
 use Rattle.history.specs.Printed.{printed}
 use Rattle.history.specs.Steps.{happens, happen_all, answer_all, deliver_all}
@@ -28,7 +29,7 @@ use Rattle.naming_laws.specs.Items.{IsWritableItem}
 use Rattle.object_store.specs.Stands.{StoreStands}
 use Rattle.script_reader.specs.Lawful.{IsLawfulDoc, IsLawfulWhat, IsWellNamed, AreLawfulFrom}
 use Rattle.wire_calls.specs.declared.wire.Wire.{Wire}
-use Rattle.wire_calls.specs.WireStands.{WireStands}
+use Rattle.wire_calls.specs.WireStands.{WireStands, request_travel}
 use Rattle.world_process.specs.declared.process.Process.{Process}
 use Rattle.world_core.specs.declared.world.World.{World}
 use Rattle.world_process.specs.InForce.{InForceStands}
@@ -103,7 +104,7 @@ pub record Keeps (old new : World) : Type 0 where
 
 -- ---- the relation
 
--- what the world keeps of a document
+-- what the world keeps of a document, which goes by the project's own rules
 pub record DocStands (doc : Doc) (k : ℕ) (w : World) : Type 0 where
   pub at : w.beat.0 ≡ k
   pub restart : w.restart ≡ restart_delay doc
@@ -112,6 +113,7 @@ pub record DocStands (doc : Doc) (k : ℕ) (w : World) : Type 0 where
   pub micros : w.micros ≡ beat_micros doc
   pub events : w.events ≡ doc.events
   pub controllers : w.controllers ≡ length doc.controllers
+  pub own : IsOwn doc
 
 -- the events before a place were of earlier beats, and those from it on are of this beat or later
 pub record IsPlaced (doc : Doc) (k place : ℕ) : Type 0 where
@@ -133,12 +135,13 @@ EachStands doc h xs = (p : ℕ) (x : Process) → slice_get xs p ≡ Some x → 
 abbrev pub OthersStand : Doc → ℕ → List Entry → List Process → Type 0
 OthersStand doc q h xs = (p : ℕ) (x : Process) → ¬ (p ≡ q) → slice_get xs p ≡ Some x → ProcessStands doc p h x
 
--- what processes are made of is what the document has
+-- what processes are made of is what the document has, which goes by the project's own rules
 pub record AreMadeOf (doc : Doc) (s : Settings) (cs ks : List Proc) (es : List Event) : Type 0 where
   pub settings : doc.settings ≡ s
   pub controllers : doc.controllers ≡ cs
   pub kubelets : doc.kubelets ≡ ks
   pub events : doc.events ≡ es
+  pub own : IsOwn doc
 
 pub record WorldWithin (doc : Doc) (k : ℕ) (arriving : List Sent) (coming : List Back) (h : List Entry) (w : World) : Type 0 where
   pub rest : RestStands doc k arriving coming h w
@@ -159,7 +162,7 @@ pub record MidBeat (doc : Doc) (k : ℕ) (before : List Deed) (arriving : List S
 -- ---- what can be written
 
 -- the document was read, and its names are the world's
-pub record IsOwn (doc : Doc) (w : World) : Type 0 where
+pub record WasRead (doc : Doc) (w : World) : Type 0 where
   pub lawful : IsLawfulDoc doc
   pub named : IsWellNamed (names_of w) doc
 
@@ -181,7 +184,7 @@ abbrev pub SendsAsked : ℕ → Identity → Option Ask → Wire → Wire → Ty
 SendsAsked k q None old new = new ≡ old
 SendsAsked k q (Some ask) old new = (processes step : ℕ) (arriving : List Sent) (coming : List Back) (h : List Entry) (call : Call)
     → WireStands processes k arriving coming h old → call.number ≡ ask.number → call.request ≡ ask.request
-    → WireStands processes k arriving coming (entry k step q (Sends call (request_arrival q.process k h)) ∷ h) new
+    → WireStands processes k arriving coming (entry k step q (Sends call (request_travel q.process k h)) ∷ h) new
 
 -- ---- the steps of a beat, each in a world within it and where the step ends well
 

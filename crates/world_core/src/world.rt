@@ -15,7 +15,7 @@ ghost use Rattle.history.specs.Printed.{printed};
 ghost use Rattle.kube_base.specs.Steps.{counted};
 ghost use Rattle.world_process.specs.Clocked.{ClockStands};
 ghost use Rattle.world_process.specs.Plain.{IsFew};
-ghost use Rattle.world_core.specs.Worlds.{AreQuiet, AreWritable, IsOwn, IsReady, WorldStands, at_of, count_of, end_of, names_of};
+ghost use Rattle.world_core.specs.Worlds.{AreQuiet, AreWritable, IsReady, WasRead, WorldStands, at_of, count_of, end_of, names_of};
 
 mod events;
 mod making;
@@ -67,7 +67,7 @@ impl World {
         ensures ascend { IfOk result (λ items. IsStrictlySortedBy key_cmp (keys_of items)) }
         ensures stored { (doc : Doc) (k : ℕ) (h : List Entry) (key : Key) → WorldStands doc k h self.now
             → IfOk result (λ items. lookup (key_eq key) items ≡ object_of (stored key h)) }
-        ensures writable { (doc : Doc) (k : ℕ) → IsOwn doc self.now → WorldStands doc k (history doc k) self.now → k ≤ end_beat doc + 1
+        ensures writable { (doc : Doc) (k : ℕ) → WasRead doc self.now → WorldStands doc k (history doc k) self.now → k ≤ end_beat doc + 1
             → IfOk result (AreWritable (names_of self.now) (length doc.controllers)) }
     {
         // The names hold what every list of names does.
@@ -97,7 +97,7 @@ impl World {
             × (names_of self.new ≡ names_of self.old)) }
         ensures stands { (doc : Doc) (k : ℕ) (h : List Entry) → IsFew (beat doc h k) → WorldStands doc k h self.old
             → IfOk result (λ deeds. WorldStands doc (k + 1) (beat doc h k) self.new × (printed h ++ deeds ≡ printed (beat doc h k))) }
-        ensures writable { (doc : Doc) (k : ℕ) → IsOwn doc self.old → WorldStands doc k (history doc k) self.old → k ≤ end_beat doc
+        ensures writable { (doc : Doc) (k : ℕ) → WasRead doc self.old → WorldStands doc k (history doc k) self.old → k ≤ end_beat doc
             → IfOk result (AllByRecursion (IsWritable (names_of self.old) (processes doc))) }
         ensures counted { steps.new ≡ counted steps.old 1 }
     {

@@ -1,5 +1,5 @@
 -- The generated document is lawful.
-use Rattle.std.proofs.Common.{◌≡◌, ℕ, ◌+◌, ◌≤◌, [], ◌∷◌, ◌++◌, length, map, subst, sym, arith}
+use Rattle.std.proofs.Common.{◌≡◌, ℕ, ◌+◌, ◌≤◌, [], ◌∷◌, ◌++◌, length, map, refl, subst, sym, arith}
 use Rattle.std.proofs.lemmas.List.Elements.{All-from_recursion}
 use Rattle.std.specs.List.{AllByRecursion}
 use Rattle.history.proofs.Pauses.{never_apart}
@@ -28,6 +28,7 @@ generated-lawful seed nodes pods beats few fewer soon apart =
       some = omega arith;
       few = omega arith;
       controllers_apart = controllers-apart;
+      waits = refl;
       kubelets = All-from_recursion IsLawful (kubelets nodes) (kubelets-lawful nodes);
       few_kubelets = omega (arith, kubelets-count nodes);
       kubelets_apart = kubelets-apart nodes;

@@ -5,7 +5,7 @@ use Rattle.kube_objects.specs.Clocks.{rate, last_rate}
 use Rattle.kube_objects.specs.declared.key.Key.{Key}
 use Rattle.kube_objects.specs.declared.object.Object.{Object}
 use Rattle.kube_objects.specs.declared.script.Proc.{Proc}
-use Rattle.kube_objects.specs.Document.{Doc, end_beat, first_rate, of_seconds, of_millis}
+use Rattle.kube_objects.specs.Document.{Doc, own_waits_each, end_beat, first_rate, of_seconds, of_millis}
 use Rattle.kube_objects.specs.Newest.{or_else}
 use Rattle.history.proofs.Pauses.{no_longest}
 use Rattle.history.specs.Premise.{less, more, least_rate, greatest_rate, longest, lease_premise}
@@ -16,7 +16,7 @@ use Rattle.world_gen.proofs.Ranges.{crashes-pause_nobody}
 
 module _ (beats : ℕ) (others : List Proc) (items : List (Key × Object)) (xs : List Crash) where
   abbrev doc : Doc
-  doc = record { settings = settings beats; controllers = controllers; kubelets = others; objects = items; events = map event xs }
+  doc = record { settings = settings beats; controllers = controllers; kubelets = others; waits = own_waits_each controllers; objects = items; events = map event xs }
 
   none-changes : (p k : ℕ) (ys : List Crash) → last_rate p k (map event ys) ≡ None
   none-changes p k [] = refl

@@ -47,6 +47,7 @@ settings-lawful beats few = record {
   secondary = omega arith;
   large_zone = omega arith;
   percent = omega arith;
+  rules = refl;
   renew_within_lease = omega arith;
   retry_within_renew = omega arith;
 }

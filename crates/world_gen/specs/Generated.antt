@@ -19,7 +19,8 @@ use Rattle.kube_objects.specs.declared.script.Proc.{Proc}
 use Rattle.kube_objects.specs.declared.script.What.TheVariants as whats
 use Rattle.kube_objects.specs.declared.settings.RatePolicy.TheVariants as policies
 use Rattle.kube_objects.specs.declared.settings.Settings.{Settings}
-use Rattle.kube_objects.specs.Document.{Doc}
+use Rattle.kube_objects.specs.Document.{Doc, own_waits_each}
+use Rattle.kube_objects.specs.Rules.{own_rules}
 use Rattle.world_gen.specs.declared.crash.Crash.{Crash}
 use Rattle.world_gen.specs.declared.pod.Placing.{Placing}
 use Rattle.world_gen.specs.Draws.{Drawn, start, crashes, placing}
@@ -50,6 +51,7 @@ settings beats = record {
   unhealthy_percent = 55;
   fast_renew = false;
   rate_policy = policies.Standard;
+  rules = own_rules;
 }
 
 -- ---- processes
@@ -144,6 +146,7 @@ generated seed nodes pods beats =
       settings = settings beats;
       controllers = controllers;
       kubelets = kubelets nodes;
+      waits = own_waits_each controllers;
       objects = node_items nodes ++ (pod_items nodes pods drawn.rest).value;
       events = events beats drawn.value;
     }

@@ -11,7 +11,7 @@ use crate::draw::start;
 use crate::names::names_of;
 use crate::node::node_items;
 use crate::pod::add_pods;
-use crate::process::{controllers, kubelets, settings};
+use crate::process::{controllers, kubelets, settings, waits};
 use kube_base::NoMemory;
 use manifest_json::Objects;
 use manifest_laws::objects_are_readable;
@@ -61,6 +61,7 @@ fn build(alloc: Global, seed: u64, nodes: u32, pods: u32, beats: u32) -> Result<
         settings: settings(beats),
         controllers: controllers(alloc)?,
         kubelets: kubelets(alloc, nodes)?,
+        waits: waits(alloc)?,
         objects: Objects { items, skipped: 0 },
         events,
         names: names_of(alloc, nodes, pods)?,

@@ -1,10 +1,12 @@
 // Settings, controllers and kubelets.
 ghost use Rattle.std.specs.Prelude.{◌≡◌, ◌≤◌, IfOk};
+ghost use Rattle.kube_objects.specs.Document.{own_waits_each};
+ghost use Rattle.kube_objects.specs.Rules.{own_waits};
 ghost use Rattle.world_gen.specs.Generated as spec;
 
 use crate::names::{controller_number, node_number};
 use kube_base::{Beat, NoMemory, Wall};
-use kube_objects::{Proc, Procs, RatePolicy, ReadyStatus, Settings};
+use kube_objects::{NumberList, Proc, Procs, RatePolicy, ReadyStatus, Rules, Settings, WaitLists};
 use std::alloc::Global;
 
 /// 2024-01-01T00:00:00Z
@@ -32,6 +34,7 @@ pub(crate) fn settings(beats: u32) -> Settings
         unhealthy_percent: 55,
         fast_renew: false,
         rate_policy: RatePolicy::Standard,
+        rules: Rules::own(),
     }
 }
 
@@ -62,6 +65,25 @@ pub(crate) fn controllers(alloc: Global) -> Result<Procs, NoMemory>
     procs.push(process(controller_number(1), 1_010_000))?;
     procs.push(process(controller_number(2), 990_000))?;
     Ok(procs)
+}
+
+/// The waits of each controller: a whole retry period.
+pub(crate) fn waits(alloc: Global) -> Result<WaitLists, NoMemory>
+    ensures { IfOk result (λ lists. lists ≡ own_waits_each spec.controllers) }
+{
+    let mut lists = WaitLists::new(alloc);
+    lists.push(own(alloc)?)?;
+    lists.push(own(alloc)?)?;
+    lists.push(own(alloc)?)?;
+    Ok(lists)
+}
+
+fn own(alloc: Global) -> Result<NumberList, NoMemory>
+    ensures { IfOk result (λ waits. waits ≡ own_waits) }
+{
+    let mut waits = NumberList::new(alloc);
+    waits.push(1_000)?;
+    Ok(waits)
 }
 
 /// The kubelets in the order of their nodes.

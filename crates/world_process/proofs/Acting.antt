@@ -5,16 +5,20 @@ use Rattle.std.specs.Box.{with_value}
 use Rattle.kube_objects.specs.declared.deed.Deed.{Deed}
 use Rattle.kube_objects.specs.Clocks.{local}
 use Rattle.kube_objects.specs.Document.{Doc, is_controller}
-use Rattle.kube_objects.specs.Elector.{acts, in_term}
+use Rattle.kube_objects.specs.Elector.{acts, in_term, leads_on}
 use Rattle.kube_objects.specs.Entry.{Entry, Identity, Ticks, entry}
 use Rattle.kube_objects.specs.Identities.{identity}
 use Rattle.kube_objects.specs.InForce.{watches}
+use Rattle.kube_objects.specs.Own.{IsOwn}
 use Rattle.kube_objects.specs.Pauses.{is_paused}
 use Rattle.kube_objects.specs.Process.{alive, starts}
+use Rattle.kube_objects.specs.Stalls.{is_stalled}
 use Rattle.kube_objects.specs.Tick.{tick}
 use Rattle.kube_objects.specs.Wire.{loses_requests}
+use Rattle.kube_objects.proofs.Own.{acts-own}
 use Rattle.history.specs.Printed.{printed}
-use Rattle.history.specs.Steps.{if_up, ticks}
+use Rattle.history.specs.Steps.{if_up, ticks, ticks_while}
+use Rattle.history.proofs.Own.{ticks-own}
 use Rattle.history_laws.proofs.Ticks.{walk_tick}
 use Rattle.controller_core.specs.declared.term.Term.{Term}
 use Rattle.controller_core.specs.TermStands as after
@@ -36,28 +40,37 @@ use Rattle.world_process.proofs.Unheard.{and-false}
 
 -- ---- whose tick it is
 
+-- a leader has one in its term and in no pause
+tick-own : (doc : Doc) → IsOwn doc → (k p i : ℕ) (h : List Entry)
+    → (if acts doc (identity p i) k h then tick doc k (identity p i) h else h) ≡ (if (not (is_paused doc p k) && in_term doc (identity p i) k h) then tick doc k (identity p i) h else h)
+tick-own doc own k p i h = ap (λ b. (if b then tick doc k (identity p i) h else h)) (acts-own doc own (identity p i) k h)
+
 -- without a leader whose term isn't over there is none
-pub unled-ticks : (doc : Doc) (k p : ℕ) (h : List Entry) → in_term_if_up doc k p (alive p h) h ≡ false → ticks doc k p h ≡ h
-unled-ticks doc k p h is = by_life (alive p h) is
+pub unled-ticks : (doc : Doc) → IsOwn doc → (k p : ℕ) (h : List Entry) → in_term_if_up doc k p (alive p h) h ≡ false → ticks doc k p h ≡ h
+unled-ticks doc own k p h is = ticks-own doc own k p h ∙ by_life (alive p h) is
   where
     by_life : (o : Option ℕ) → in_term_if_up doc k p o h ≡ false → if_up p (λ q T. (if (acts doc q k T) then tick doc k q T else T)) o h ≡ h
     by_life None is = refl
-    by_life (Some i) is = ap (λ b. (if (not (is_paused doc p k) && b) then tick doc k (identity p i) h else h)) is ∙ ap (λ b. (if b then tick doc k (identity p i) h else h)) (and-false (not (is_paused doc p k)))
+    by_life (Some i) is = tick-own doc own k p i h ∙ ap (λ b. (if (not (is_paused doc p k) && b) then tick doc k (identity p i) h else h)) is ∙ ap (λ b. (if b then tick doc k (identity p i) h else h)) (and-false (not (is_paused doc p k)))
 
-pub ticks-none : (doc : Doc) (k p : ℕ) (h : List Entry) → in_term_now doc k p h ≡ false → own_ticks doc k p h ≡ h
-ticks-none doc k p h none = by_sort (is_controller doc p) none
+pub ticks-none : (doc : Doc) → IsOwn doc → (k p : ℕ) (h : List Entry) → in_term_now doc k p h ≡ false → own_ticks doc k p h ≡ h
+ticks-none doc own k p h none = by_sort (is_controller doc p) none
   where
     by_sort : (b : Bool) → in_term_as doc k p b h ≡ false → own_ticks_as doc k p b h ≡ h
-    by_sort true is = unled-ticks doc k p h is
+    by_sort true is = unled-ticks doc own k p h is
     by_sort false is = refl
 
 -- nor is there one in a pause
 pub paused-ticks : (doc : Doc) (k p : ℕ) (h : List Entry) → is_paused doc p k ≡ true → ticks doc k p h ≡ h
-paused-ticks doc k p h paused = by_life (alive p h)
+paused-ticks doc k p h paused = by_stall (is_stalled doc k)
   where
     by_life : (o : Option ℕ) → if_up p (λ q T. (if (acts doc q k T) then tick doc k q T else T)) o h ≡ h
     by_life None = refl
-    by_life (Some i) = ap (λ b. (if (not b && in_term doc (identity p i) k h) then tick doc k (identity p i) h else h)) paused
+    by_life (Some i) = ap (λ b. (if (not b && leads_on doc.settings.rules.release doc (identity p i) k h) then tick doc k (identity p i) h else h)) paused
+
+    by_stall : (b : Bool) → ticks_while b doc k p h ≡ h
+    by_stall true = refl
+    by_stall false = by_life (alive p h)
 
 pub ticks-paused : (doc : Doc) (k p : ℕ) (h : List Entry) → is_paused doc p k ≡ true → own_ticks doc k p h ≡ h
 ticks-paused doc k p h paused = by_sort (is_controller doc p)
@@ -66,9 +79,11 @@ ticks-paused doc k p h paused = by_sort (is_controller doc p)
     by_sort true = paused-ticks doc k p h paused
     by_sort false = refl
 
-pub acting-ticks : (doc : Doc) (k p i : ℕ) (h : List Entry) → is_paused doc p k ≡ false → alive p h ≡ Some i → in_term doc (identity p i) k h ≡ true → ticks doc k p h ≡ tick doc k (identity p i) h
-acting-ticks doc k p i h awake up term =
-    ap (λ o. if_up p (λ q T. (if (acts doc q k T) then tick doc k q T else T)) o h) up
+pub acting-ticks : (doc : Doc) → IsOwn doc → (k p i : ℕ) (h : List Entry) → is_paused doc p k ≡ false → alive p h ≡ Some i → in_term doc (identity p i) k h ≡ true → ticks doc k p h ≡ tick doc k (identity p i) h
+acting-ticks doc own k p i h awake up term =
+    ticks-own doc own k p h
+    ∙ ap (λ o. if_up p (λ q T. (if (acts doc q k T) then tick doc k q T else T)) o h) up
+    ∙ tick-own doc own k p i h
     ∙ ap (λ b. (if (not b && in_term doc (identity p i) k h) then tick doc k (identity p i) h else h)) awake
     ∙ ap (λ b. (if b then tick doc k (identity p i) h else h)) term
 

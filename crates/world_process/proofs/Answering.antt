@@ -10,16 +10,18 @@ use Rattle.kube_objects.specs.declared.call.Request.TheVariants.{Get, Create, Up
 use Rattle.kube_objects.specs.declared.deed.Act.TheVariants as act
 use Rattle.kube_objects.specs.Document.{Doc, is_controller}
 use Rattle.kube_objects.specs.Clocks.{local}
-use Rattle.kube_objects.specs.Elector.{moment, Follow, Fails, Asks, Succeeds, leads, observed_at, is_blocked, updated, follow_get, follow_write, not_done, follow_on}
+use Rattle.kube_objects.specs.Elector.{moment, Follow, Fails, Asks, Succeeds, leads, observed_at, is_blocked, respected, updated, follow_get, follow_write, not_done, follow_on}
 use Rattle.kube_objects.specs.Stored.{election}
 use Rattle.kube_objects.specs.Turns.{react, with_reply}
-use Rattle.kube_objects.specs.Entry.{Entry, Identity, Call, CallKind, Plain, Fast, Release, Fact, Delivers, Leads, Sends, entry, actor_of}
+use Rattle.kube_objects.specs.Entry.{Entry, Identity, Call, CallKind, Plain, Fast, Release, Look, Emptying, Fact, Delivers, Leads, Sends, entry, actor_of}
 use Rattle.kube_objects.specs.Identities.{identity}
 use Rattle.kube_objects.specs.Newest.{only_if}
+use Rattle.kube_objects.specs.Own.{IsOwn}
 use Rattle.kube_objects.specs.Process.{alive, counted, call_in, answered_call, is_present}
 use Rattle.kube_objects.specs.Wire.{Back, next_call}
 use Rattle.history.specs.Printed.{printed, deeds_of}
 use Rattle.history.specs.Steps.{deliver_as, react_as, delivered}
+use Rattle.history.proofs.Own.{react-own}
 use Rattle.leader_elector.specs.Moves.{Asked, reacted}
 use Rattle.world_process.specs.declared.controller.Controller.{Controller}
 use Rattle.world_process.specs.declared.controller.Role.{Role}
@@ -58,11 +60,12 @@ pub delivered-is : (doc : Doc) (k : ℕ) (b : Back) (q : Identity) (number : ℕ
     delivered doc k b h ≡ react_as doc k q waiting reply (is_controller doc q.process) (entry k 3 q (Delivers waiting reply true) ∷ h)
 delivered-is doc k b q number reply waiting h is some = delivered-as doc k b q number reply h is ∙ ap (λ w. deliver_as doc k q b.call reply w h) some
 
-pub counted-is : (doc : Doc) (k : ℕ) (b : Back) (q : Identity) (number : ℕ) (reply : Reply) (waiting : Call) (h : List Entry) → IsBack b q number reply → is_controller doc q.process ≡ true → counted doc q k number h ≡ Some waiting →
+pub counted-is : (doc : Doc) → IsOwn doc → (k : ℕ) (b : Back) (q : Identity) (number : ℕ) (reply : Reply) (waiting : Call) (h : List Entry) → IsBack b q number reply → is_controller doc q.process ≡ true → counted doc q k number h ≡ Some waiting →
     delivered doc k b h ≡ reacted doc k q waiting reply h
-counted-is doc k b q number reply waiting h is controls some =
+counted-is doc own k b q number reply waiting h is controls some =
     delivered-is doc k b q number reply waiting h is some
     ∙ ap (λ t. react_as doc k q waiting reply t (entry k 3 q (Delivers waiting reply true) ∷ h)) controls
+    ∙ react-own doc own k q waiting reply (entry k 3 q (Delivers waiting reply true) ∷ h)
 
 -- nothing counts for another incarnation, or where the process is down
 pub absent-uncounted : (doc : Doc) (k : ℕ) (q : Identity) (number : ℕ) (h : List Entry) → is_present (alive q.process h) q.incarnation ≡ false → counted doc q k number h ≡ None
@@ -101,25 +104,25 @@ replied-stays doc k p b number reply waiting h c r s is some stays stands =
     let q = identity p c.incarnation in
     let next = with_reply k q waiting reply h in
     let same = ap (λ w. entry k 3 w (Delivers waiting reply true) ∷ h) (sym is.who) in
-    replied-none doc k (identity p c.incarnation) b h (Delivers waiting reply true ∷ []) (λ g. ControllerStands doc p g (record c { role = r })) (refl, tt) (counted-is doc k b q number reply waiting h is s.sort some ∙ stays ∙ same) (append-nil (printed h))
+    replied-none doc k (identity p c.incarnation) b h (Delivers waiting reply true ∷ []) (λ g. ControllerStands doc p g (record c { role = r })) (refl, tt) (counted-is doc s.timing.own k b q number reply waiting h is s.sort some ∙ stays ∙ same) (append-nil (printed h))
     (subst (λ g. ControllerStands doc p g (record c { role = r })) same (stands-role doc p h next c r s refl (keeps-beside doc p (entry k 3 q (Delivers waiting reply true)) h refl) stands))
 
 -- it counts, and a request follows
 pub replied-asks : (doc : Doc) (k p : ℕ) (b : Back) (number : ℕ) (reply : Reply) (waiting : Call) (h : List Entry) (c : Controller) (r : Role) (ask : Ask) (Stands : List Entry → Type 0) → ControllerStands doc p h c →
     IsBack b (identity p c.incarnation) number reply → counted doc (identity p c.incarnation) k number h ≡ Some waiting → alive p h ≡ Some c.incarnation →
-    Asked k 3 (identity p c.incarnation) (with_reply k (identity p c.incarnation) waiting reply h) (reacted doc k (identity p c.incarnation) waiting reply h) Stands ask →
+    Asked doc k 3 (identity p c.incarnation) (with_reply k (identity p c.incarnation) waiting reply h) (reacted doc k (identity p c.incarnation) waiting reply h) Stands ask →
     ((g : List Entry) → alive p g ≡ Some c.incarnation → Stands g → RoleStands doc p c.incarnation g r) → Replied doc k p b h (record c { role = r }) (record { lead = None; ask = Some ask })
 replied-asks doc k p b number reply waiting h c r ask Stands s is some up a stands =
     let q = identity p c.incarnation in
     let g = with_reply k q waiting reply h in
-    let next_is : delivered doc k b h ≡ reacted doc k q waiting reply h = counted-is doc k b q number reply waiting h is s.sort some in
+    let next_is : delivered doc k b h ≡ reacted doc k q waiting reply h = counted-is doc s.timing.own k b q number reply waiting h is s.sort some in
     let same : with_reply k q waiting reply h ≡ with_reply k q waiting b.reply h = ap (λ x. with_reply k q waiting x h) (sym is.reply) in
     record {
       told = ap printed (next_is ∙ a.sent) ∙ append-nil (printed g);
       asks = record {
         call = waiting;
         who = is.who;
-        asked = subst (λ x. Asked k 3 q (with_reply k q waiting x h) (delivered doc k b h) (λ y. ControllerStands doc p y (record c { role = r })) ask) (sym is.reply)
+        asked = subst (λ x. Asked doc k 3 q (with_reply k q waiting x h) (delivered doc k b h) (λ y. ControllerStands doc p y (record c { role = r })) ask) (sym is.reply)
             (record {
               kind = a.kind;
               sent = next_is ∙ a.sent;
@@ -142,7 +145,7 @@ replied-leads doc k p b number reply waiting h c r version s is some next_leads 
     let q = identity p c.incarnation in
     let g = with_reply k q waiting reply h in
     let next = entry k 3 q (Leads version) ∷ g in
-    let next_is : delivered doc k b h ≡ next = counted-is doc k b q number reply waiting h is s.sort some ∙ next_leads in
+    let next_is : delivered doc k b h ≡ next = counted-is doc s.timing.own k b q number reply waiting h is s.sort some ∙ next_leads in
     record {
       told = ap printed next_is ∙ ap (λ ds. ds ++ deeds_of k (actor_of q) (Some (act.Lead version))) (append-nil (printed h));
       asks = record {
@@ -171,15 +174,15 @@ Succeeded Fails version = ⊥
 Succeeded (Asks request) version = ⊥
 Succeeded (Succeeds done) version = done ≡ version
 
-lead-succeeds : (k : ℕ) (q : Identity) (led : Bool) (wanted : Follow) (version : Version) (g : List Entry) → react k q led wanted g ≡ entry k 3 q (Leads version) ∷ g → Succeeded wanted version
-lead-succeeds k q led Fails version g is = never-longer (entry k 3 q (Leads version)) g is
-lead-succeeds k q led (Asks request) version g is = let top = ap fact_at_top is in cc
-lead-succeeds k q true (Succeeds done) version g is = absurd (never-longer (entry k 3 q (Leads version)) g is)
-lead-succeeds k q false (Succeeds done) version g is = ap (λ h. version_at_top version (fact_at_top h)) is
+lead-succeeds : (doc : Doc) (k : ℕ) (q : Identity) (led : Bool) (wanted : Follow) (version : Version) (g : List Entry) → react doc k q led wanted g ≡ entry k 3 q (Leads version) ∷ g → Succeeded wanted version
+lead-succeeds doc k q led Fails version g is = never-longer (entry k 3 q (Leads version)) g is
+lead-succeeds doc k q led (Asks request) version g is = let top = ap fact_at_top is in cc
+lead-succeeds doc k q true (Succeeds done) version g is = absurd (never-longer (entry k 3 q (Leads version)) g is)
+lead-succeeds doc k q false (Succeeds done) version g is = ap (λ h. version_at_top version (fact_at_top h)) is
 
 succeeded-get : (doc : Doc) (q : Identity) (k seen : ℕ) (reply : Reply) (version : Version) → Succeeded (follow_get q (moment doc q k) seen reply) version → ⊥
 succeeded-get doc q k seen Absent version is = is
-succeeded-get doc q k seen (Found v lease) version is = by_block (is_blocked q (local doc q.process k) seen lease) is
+succeeded-get doc q k seen (Found v lease) version is = by_block (is_blocked q (local doc q.process k) seen (respected (moment doc q k).respect (moment doc q k).seconds lease)) is
   where
     by_block : (b : Bool) → Succeeded (cond b Fails (Asks (Update election v (updated q (moment doc q k) lease)))) version → ⊥
     by_block true is = is
@@ -193,6 +196,8 @@ succeeded-not_done : (kind : CallKind) (version : Version) → Succeeded (not_do
 succeeded-not_done Plain version is = is
 succeeded-not_done Fast version is = is
 succeeded-not_done Release version is = is
+succeeded-not_done (Look begun) version is = is
+succeeded-not_done (Emptying begun) version is = is
 
 succeeded-write : (kind : CallKind) (reply : Reply) (version : Version) → Succeeded (follow_write kind reply) version → reply ≡ Done version
 succeeded-write kind (Done v) version is = ap (λ (x : Version). Done x) is
@@ -211,7 +216,7 @@ succeeded-done doc q k kind (PostStatus name status at) reply g version is = abs
 pub lead-done : (doc : Doc) (k : ℕ) (q : Identity) (waiting : Call) (reply : Reply) (h : List Entry) (version : Version) → reacted doc k q waiting reply h ≡ entry k 3 q (Leads version) ∷ with_reply k q waiting reply h → reply ≡ Done version
 lead-done doc k q waiting reply h version is =
     let g = with_reply k q waiting reply h in
-    succeeded-done doc q k waiting.kind waiting.request reply g version (lead-succeeds k q (leads q h) (follow_on doc q k waiting.kind waiting.request reply g) version g is)
+    succeeded-done doc q k waiting.kind waiting.request reply g version (lead-succeeds doc k q (leads q h) (follow_on doc q k waiting.kind waiting.request reply g) version g is)
 
 -- ---- what the elector answers, whether the reply counts or not
 
@@ -237,7 +242,7 @@ pub answers-asks : (doc : Doc) (k p : ℕ) (b : Back) (n : ℕ) (reply : Reply) 
     IsBack b (identity p c.incarnation) n reply → alive p h ≡ Some c.incarnation → Makes doc p c.incarnation Stands r →
     (counted doc (identity p c.incarnation) k n h ≡ None → ⊥) →
     ((call : Call) → counted doc (identity p c.incarnation) k n h ≡ Some call →
-    Asked k 3 (identity p c.incarnation) (with_reply k (identity p c.incarnation) call reply h) (reacted doc k (identity p c.incarnation) call reply h) Stands ask) →
+    Asked doc k 3 (identity p c.incarnation) (with_reply k (identity p c.incarnation) call reply h) (reacted doc k (identity p c.incarnation) call reply h) Stands ask) →
     Replied doc k p b h (record c { role = r }) (record { lead = None; ask = Some ask })
 answers-asks doc k p b n reply h c r ask Stands s is up makes uncounted counts = by_counted (counted doc (identity p c.incarnation) k n h) refl
   where

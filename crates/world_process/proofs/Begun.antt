@@ -5,7 +5,7 @@ use Rattle.kube_objects.specs.declared.key.Key.{Key}
 use Rattle.kube_objects.specs.declared.pod.Due.TheVariants.{Never}
 use Rattle.kube_objects.specs.Document.{Doc}
 use Rattle.kube_objects.specs.Entry.{Entry, Identity, Tick, Ticks, Pass, actor_of}
-use Rattle.kube_objects.specs.Health.{is_after_pass, is_pass_due, last_pass, pass_says}
+use Rattle.kube_objects.specs.Health.{is_after_pass, is_pass_due, last_pass, pass_period, pass_says}
 use Rattle.kube_objects.specs.Identities.{is_by}
 use Rattle.kube_objects.specs.Newest.{added, has, when}
 use Rattle.kube_objects.specs.Seen.{is_pod, is_synced}
@@ -67,9 +67,9 @@ says_beat : (k : ℕ) (y : Option ℕ) (b : Bool) → b ≡ true → has (upper 
 says_beat k y true is = refl
 says_beat k y false is = absurd (false_is is)
 
-not_after : (doc : Doc) (k : ℕ) (q : Identity) (o : Option ℕ) → is_after_pass doc k q o ≡ false → has o ≡ true
-not_after doc k q None is = absurd (true_is is)
-not_after doc k q (Some last) is = refl
+not_after : (doc : Doc) (k period : ℕ) (q : Identity) (o : Option ℕ) → is_after_pass doc k q period o ≡ false → has o ≡ true
+not_after doc k period q None is = absurd (true_is is)
+not_after doc k period q (Some last) is = refl
 
 module _ (doc : Doc) (k : ℕ) (q : Identity) where
   passed_more : (t : Tick) (g : List Entry) → has (last_pass q g) ≡ true → has (last_pass q (add k q t g)) ≡ true
@@ -79,7 +79,7 @@ module _ (doc : Doc) (k : ℕ) (q : Identity) where
   passed g = by_test (is_pass_due doc k q g) refl
     where
       by_test : (b : Bool) → is_pass_due doc k q g ≡ b → has (last_pass q (if b then whole_pass doc k q g else g)) ≡ true
-      by_test false is = not_after doc k q (last_pass q g) is
+      by_test false is = not_after doc k (pass_period doc q g) q (last_pass q g) is
       by_test true is = pass_rest doc k q (λ f. has (last_pass q f) ≡ true) (λ t f kind old. passed_more t f old) (add k q Pass g) (says_beat k (last_pass q g) (is_by q (actor_of q)) (same_self q))
 
   pub begun_tick : (h : List Entry) → HasBegun q h → HasBegun q (tick doc k q h)

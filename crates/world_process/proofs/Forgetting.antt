@@ -22,9 +22,9 @@ use Rattle.world_process.proofs.Scripted.{down-is}
 abbrev StandsOn : Doc → ℕ → Controller → Controller → Type 0
 StandsOn doc p old new = (h : List Entry) → ControllerStands doc p h old → ControllerStands doc p h new
 
-asks-forgets : (k step : ℕ) (q : Identity) (h next : List Entry) (Old New : List Entry → Type 0) (ask : Option Ask) → ((g : List Entry) → Old g → New g) → moves.AsksOn k step q h next Old ask → moves.AsksOn k step q h next New ask
-asks-forgets k step q h next Old New None on a = (a.0, on h a.1)
-asks-forgets k step q h next Old New (Some ask) on a = record { kind = a.kind; sent = a.sent; number = a.number; stands = λ arrives. on _ (a.stands arrives) }
+asks-forgets : (doc : Doc) (k step : ℕ) (q : Identity) (h next : List Entry) (Old New : List Entry → Type 0) (ask : Option Ask) → ((g : List Entry) → Old g → New g) → moves.AsksOn doc k step q h next Old ask → moves.AsksOn doc k step q h next New ask
+asks-forgets doc k step q h next Old New None on a = (a.0, on h a.1)
+asks-forgets doc k step q h next Old New (Some ask) on a = record { kind = a.kind; sent = a.sent; number = a.number; stands = λ arrives. on _ (a.stands arrives) }
 
 pub crashed-forgets : (doc : Doc) (k : ℕ) (id : ProcId) (h : List Entry) (old new : Controller) (b : Bool) → new.incarnation ≡ old.incarnation → StandsOn doc id.0 old new → Crashed doc k id h old b → Crashed doc k id h new b
 crashed-forgets doc k id h old new b same on x =
@@ -33,13 +33,13 @@ crashed-forgets doc k id h old new b same on x =
 pub stopped-forgets : (doc : Doc) (k : ℕ) (id : ProcId) (h : List Entry) (old new : Controller) (s : Stopped) → new.incarnation ≡ old.incarnation → StandsOn doc id.0 old new → StoppedAs doc k id h old s → StoppedAs doc k id h new s
 stopped-forgets doc k id h old new s same on x =
     subst (λ i. moves.StoppedAs doc k id h i (λ g. ControllerStands doc id.0 g new) s) (sym same)
-    (record { told = x.told; asks = asks-forgets _ _ _ _ _ (λ g. ControllerStands doc id.0 g old) (λ g. ControllerStands doc id.0 g new) s.ask on x.asks })
+    (record { told = x.told; asks = asks-forgets doc _ _ _ _ _ (λ g. ControllerStands doc id.0 g old) (λ g. ControllerStands doc id.0 g new) s.ask on x.asks })
 
 pub timed-forgets : (doc : Doc) (k p : ℕ) (h : List Entry) (old new : Controller) (ended : Bool) (ask : Option Ask) → new.incarnation ≡ old.incarnation → StandsOn doc p old new → Timed doc k p h old ended ask → Timed doc k p h new ended ask
 timed-forgets doc k p h old new ended ask same on x = record {
   told = subst (λ i. printed (settled doc k p h) ≡ printed h ++ ended_deeds k (identity p i) ended) (sym same) x.told;
-  asks = subst (λ i. moves.AsksOn k 4 (identity p i) (settled doc k p h) (attempts doc k p (settled doc k p h)) (λ g. ControllerStands doc p g new) ask) (sym same)
-      (asks-forgets _ _ _ _ _ (λ g. ControllerStands doc p g old) (λ g. ControllerStands doc p g new) ask on x.asks);
+  asks = subst (λ i. moves.AsksOn doc k 4 (identity p i) (settled doc k p h) (attempts doc k p (settled doc k p h)) (λ g. ControllerStands doc p g new) ask) (sym same)
+      (asks-forgets doc _ _ _ _ _ (λ g. ControllerStands doc p g old) (λ g. ControllerStands doc p g new) ask on x.asks);
 }
 
 -- of one that is down only the settings of its term are known

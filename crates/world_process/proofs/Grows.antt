@@ -1,5 +1,5 @@
 -- The steps of a beat only add entries.
-use Rattle.std.proofs.Common.{◌≡◌, ℕ, zero, suc, ◌+◌, ◌≤◌, ◌==◌, ◌&&◌, not, Bool, true, false, List, [], ◌∷◌, length, Option, Some, None, sym, subst, arith}
+use Rattle.std.proofs.Common.{◌≡◌, ℕ, zero, suc, ◌+◌, ◌≤◌, ◌==◌, ◌&&◌, not, Bool, true, false, List, [], ◌∷◌, length, Option, Some, None, inl, inr, sym, subst, arith}
 use Rattle.kube_objects.specs.InFlight.{is_due}
 use Rattle.history.proofs.Due.{step_two-walks, step_three-walks, each, answer_due, deliver_due}
 use Rattle.std.specs.Prelude.{if◌then◌else◌}
@@ -7,24 +7,26 @@ use Rattle.std.specs.Ordering.{nat_cmp}
 use Rattle.std.specs.declared.cmp.Ordering.{Ordering}
 use Rattle.std.specs.declared.cmp.Ordering.TheVariants.{Less, Equal, Greater}
 use Rattle.kube_objects.specs.declared.call.Reply.{Reply}
-use Rattle.kube_objects.specs.declared.call.Request.{Request}
 use Rattle.kube_objects.specs.declared.script.Event as script
 use Rattle.kube_objects.specs.declared.script.What.{What}
 use Rattle.kube_objects.specs.declared.script.What.TheVariants as what
 use Rattle.kube_objects.specs.Document.{Doc, is_controller, is_up_first, processes}
-use Rattle.kube_objects.specs.Elector.{Follow, Fails, Asks, Succeeds, deadline, release, acts, leads, follow_on}
-use Rattle.kube_objects.specs.Entry.{Entry, Identity, Call, Stops, Event, Delivers, entry, script_entry}
+use Rattle.kube_objects.specs.Elector.{deadline, acts}
+use Rattle.kube_objects.specs.Entry.{Entry, Identity, Call, Event, Delivers, entry, script_entry}
 use Rattle.kube_objects.specs.Identities.{identity, is_by}
-use Rattle.kube_objects.specs.Kubelet.{next_request, send_next, round_if, round}
+use Rattle.kube_objects.specs.Kubelet.{round_if, round}
 use Rattle.kube_objects.specs.Newest.{only_if}
 use Rattle.kube_objects.specs.Pauses.{is_paused}
-use Rattle.kube_objects.specs.Process.{alive, begun, starts, is_send, call_in, counted, ended, is_late, is_restart_due}
+use Rattle.kube_objects.specs.Process.{alive, begun, starts, is_send, call_in, counted, ended, is_late, release_begun, is_restart_due}
 use Rattle.kube_objects.specs.Seen.{insert_once, insert_named, named, node_name, node_names}
+use Rattle.kube_objects.specs.Stalls.{is_stalled}
 use Rattle.kube_objects.specs.Stored.{write_of}
 use Rattle.kube_objects.specs.Tick.{add, tick}
-use Rattle.kube_objects.specs.Turns.{react, expire_call, end_term, attempt_if, try}
+use Rattle.kube_objects.specs.Turns.{expire_as, expire_call, end_as, end_term, attempt_if, try}
 use Rattle.kube_objects.specs.Wire.{Sent, Back, sent_of, back_of}
-use Rattle.history.specs.Steps.{start_if_down, crash, stall, released, stop, effect, stamp, event_version, happens, happen_all, start_first, starts_below, first_starts, step_two, react_as, deliver_as, delivered, step_three, if_up, restart_if, restart, expire, finish, attempts, ticks, elector_turn, controller_turn, kubelet_turn, turn, turns}
+use Rattle.history.specs.Steps.{start_if_down, crash, stall, stop, effect, stamp, event_version, happens, happen_all, start_first, starts_below, first_starts, step_two, react_as, deliver_as, delivered, step_three, if_up, restart_if, restart, expire, finish, attempts, ticks_while, ticks, elector_turn, controller_turn, kubelet_turn, turn, turns}
+use Rattle.history_laws.specs.Tails.{IsTail}
+use Rattle.history_laws.proofs.Tailed.{tail_all, stop_as_adds, react_as_adds, expire_as_adds, end_as_adds}
 use Rattle.history_laws.proofs.Ticks.{walk_tick}
 use Rattle.world_process.specs.Plain.{IsFew}
 use Rattle.world_process.proofs.Plainly.{added-more, starts-more}
@@ -59,6 +61,12 @@ grows-entry e h = record { calls = λ q. added-more (is_send e.fact && is_by q e
 
 pub grows-on : (f g h : List Entry) → Grows f g → Grows g h → Grows f h
 grows-on f g h a b = record { calls = λ q. omega (arith, a.calls q, b.calls q); starts = λ p. omega (arith, a.starts p, b.starts p); nodes = omega (arith, a.nodes, b.nodes) }
+
+-- where the one is the beginning of the other
+grows-tail : (h g : List Entry) → IsTail h g → Grows h g
+grows-tail h [] at = subst (Grows h) at (grows-same h)
+grows-tail h (e ∷ g) (inl is) = subst (Grows h) is (grows-same h)
+grows-tail h (e ∷ g) (inr at) = grows-on h g (e ∷ g) (grows-tail h g at) (grows-entry e g)
 
 pub few-before : (h g : List Entry) → Grows h g → IsFew g → IsFew h
 few-before h g a few = record { calls = λ q. omega (arith, a.calls q, few.calls q); starts = λ p. omega (arith, a.starts p, few.starts p); nodes = omega (arith, a.nodes, few.nodes) }
@@ -100,15 +108,9 @@ grows-crash : (k p : ℕ) (up : Option ℕ) (h : List Entry) → Grows h (crash 
 grows-crash k p None h = grows-same h
 grows-crash k p (Some i) h = grows-entry _ h
 
-grows-released : (k : ℕ) (q : Identity) (request : Option Request) (h : List Entry) → Grows h (released k q request h)
-grows-released k q None h = grows-same h
-grows-released k q (Some request) h = grows-entry _ h
-
 grows-stop : (doc : Doc) (k p : ℕ) (up : Option ℕ) (before h : List Entry) → Grows h (stop doc k p up before h)
 grows-stop doc k p None before h = grows-same h
-grows-stop doc k p (Some i) before h =
-    let g = entry k 1 (identity p i) Stops ∷ h in
-    grows-on h g (released k (identity p i) (release doc (identity p i) k before) g) (grows-entry _ h) (grows-released k (identity p i) (release doc (identity p i) k before) g)
+grows-stop doc k p (Some i) before h = grows-tail h (stop doc k p (Some i) before h) (stop_as_adds doc.settings.rules.release doc k (identity p i) before h h (tail_all h))
 
 grows-stall : (k p beats : ℕ) (up : Option ℕ) (h : List Entry) → Grows h (stall k p beats up h)
 grows-stall k p beats None h = grows-same h
@@ -124,6 +126,7 @@ grows-effect doc k (what.Stop id) before h = grows-stop doc k id.0 (only_if (not
 grows-effect doc k (what.Pause id beats) before h = grows-stall k id.0 beats (alive id.0 before) h
 grows-effect doc k (what.Watch id on) before h = grows-same h
 grows-effect doc k (what.Ready id status) before h = grows-same h
+grows-effect doc k (what.Stall beats) before h = grows-same h
 grows-effect doc k (what.Put key object) before h = grows-same h
 grows-effect doc k (what.Remove key) before h = grows-same h
 
@@ -151,18 +154,8 @@ grows-answer_due doc k (Some s) h = grows-where (is_due k s.arrives) h _ (grows-
 pub grows-step_two : (doc : Doc) (k : ℕ) (h : List Entry) → Grows h (step_two doc k h)
 grows-step_two doc k h = subst (Grows h) (sym (step_two-walks doc k h)) (grows-each (λ e. answer_due doc k (sent_of e.actor e.fact)) (λ e h. grows-answer_due doc k (sent_of e.actor e.fact) h) h h)
 
-pub grows-react : (k : ℕ) (q : Identity) (led : Bool) (wanted : Follow) (h : List Entry) → Grows h (react k q led wanted h)
-grows-react k q led Fails h = grows-same h
-grows-react k q led (Asks request) h = grows-entry _ h
-grows-react k q led (Succeeds version) h = grows-unless led h _ (grows-entry _ h)
-
-grows-send_next : (k : ℕ) (q : Identity) (wanted : Option Request) (h : List Entry) → Grows h (send_next k q wanted h)
-grows-send_next k q None h = grows-same h
-grows-send_next k q (Some request) h = grows-entry _ h
-
 grows-react_as : (doc : Doc) (k : ℕ) (q : Identity) (call : Call) (reply : Reply) (b : Bool) (h : List Entry) → Grows h (react_as doc k q call reply b h)
-grows-react_as doc k q call reply true h = grows-react k q (leads q h) (follow_on doc q k call.kind call.request reply h) h
-grows-react_as doc k q call reply false h = grows-send_next k q (next_request doc q k call.request reply) h
+grows-react_as doc k q call reply b h = grows-tail h (react_as doc k q call reply b h) (react_as_adds doc k q call reply b h h (tail_all h))
 
 grows-deliver_as : (doc : Doc) (k : ℕ) (q : Identity) (call : Call) (reply : Reply) (waiting : Option Call) (h : List Entry) → Grows h (deliver_as doc k q call reply waiting h)
 grows-deliver_as doc k q call reply None h = grows-entry _ h
@@ -188,11 +181,15 @@ grows-restart_if doc k p (Some i) h = grows-same h
 
 pub grows-expire_call : (doc : Doc) (k : ℕ) (q : Identity) (call : Option Call) (h : List Entry) → Grows h (expire_call doc k q call h)
 grows-expire_call doc k q None h = grows-same h
-grows-expire_call doc k q (Some call) h = grows-where (is_late doc q k call) h _ (grows-entry _ h)
+grows-expire_call doc k q (Some call) h =
+    let g = expire_as doc k q call (release_begun doc.settings.rules.release call.kind) h in
+    grows-where (is_late doc q k call) h g (grows-tail h g (expire_as_adds doc k q call (release_begun doc.settings.rules.release call.kind) h h (tail_all h)))
 
 grows-end_term : (doc : Doc) (k : ℕ) (q : Identity) (at : Option ℕ) (h : List Entry) → Grows h (end_term doc k q at h)
 grows-end_term doc k q None h = grows-same h
-grows-end_term doc k q (Some at) h = grows-unless _ h _ (grows-entry _ h)
+grows-end_term doc k q (Some at) h =
+    let g = end_as doc.settings.rules.release doc k q h in
+    grows-unless _ h g (grows-tail h g (end_as_adds doc.settings.rules.release doc k q h h (tail_all h)))
 
 grows-attempt_if : (doc : Doc) (k : ℕ) (q : Identity) (a b : Bool) (h : List Entry) → Grows h (attempt_if doc k q a b h)
 grows-attempt_if doc k q true b h = grows-entry _ h
@@ -221,8 +218,12 @@ grows-try doc k q h = grows-attempt_if doc k q _ _ h
 grows-attempts : (doc : Doc) (k p : ℕ) (h : List Entry) → Grows h (attempts doc k p h)
 grows-attempts doc k p h = grows-if_up p (try doc k) (grows-try doc k) (alive p h) h
 
+grows-ticks_while : (b : Bool) (doc : Doc) (k p : ℕ) (h : List Entry) → Grows h (ticks_while b doc k p h)
+grows-ticks_while true doc k p h = grows-same h
+grows-ticks_while false doc k p h = grows-if_up p (λ q T. (if (acts doc q k T) then tick doc k q T else T)) (λ q T. grows-where (acts doc q k T) T _ (grows-tick doc k q T)) (alive p h) h
+
 pub grows-ticks : (doc : Doc) (k p : ℕ) (h : List Entry) → Grows h (ticks doc k p h)
-grows-ticks doc k p h = grows-if_up p (λ q T. (if (acts doc q k T) then tick doc k q T else T)) (λ q T. grows-where (acts doc q k T) T _ (grows-tick doc k q T)) (alive p h) h
+grows-ticks doc k p h = grows-ticks_while (is_stalled doc k) doc k p h
 
 pub grows-elector_turn : (doc : Doc) (k p : ℕ) (h : List Entry) → Grows h (elector_turn doc k p h)
 grows-elector_turn doc k p h =

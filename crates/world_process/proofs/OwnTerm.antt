@@ -3,12 +3,14 @@ use Rattle.std.proofs.Common.{◌≡◌, ◌∙◌, ℕ, ◌+◌, Bool, true, fa
 use Rattle.std.specs.Prelude.{if◌then◌else◌}
 use Rattle.kube_objects.specs.declared.deed.Actor.{Actor}
 use Rattle.kube_objects.specs.Document.{Doc}
-use Rattle.kube_objects.specs.Entry.{Entry, Identity, Call, Fact, First, Event, Starts, Crashes, Stops, Stalls, Ends, Sends, Answers, Delivers, Expires, Leads, Ticks, entry}
+use Rattle.kube_objects.specs.Elector.{acts_on}
+use Rattle.kube_objects.specs.Entry.{Entry, Identity, Call, Fact, First, Event, Starts, Crashes, Stops, Stalls, Ends, StepsDown, ReleaseBegins, ReleaseEnds, ReleaseStops, Sends, Answers, Delivers, Expires, Leads, Ticks, entry}
 use Rattle.kube_objects.specs.Identities.{identity, is_by, of_process}
 use Rattle.kube_objects.specs.Newest.{added, join}
-use Rattle.kube_objects.specs.Process.{alive, call_in, gone, is_late, life, life_says, starts}
+use Rattle.kube_objects.specs.Process.{alive, call_in, gone, is_late, life, life_says, release_begun, starts}
+use Rattle.kube_objects.specs.Releases.{and_end}
 use Rattle.kube_objects.specs.Tick.{tick}
-use Rattle.kube_objects.specs.Turns.{expire_call, expired}
+use Rattle.kube_objects.specs.Turns.{expire_as, expire_call, expired}
 use Rattle.history.specs.Steps.{start}
 use Rattle.history_laws.proofs.Plainly.{false_is, none_is, some_is, upper}
 use Rattle.history_laws.proofs.Ticks.{walk_tick}
@@ -54,6 +56,10 @@ was-up p i e h is = by_fact e.actor e.fact is
     by_fact who (Stalls beats) is up = up
     by_fact who Stops is up = lost (of_process p who) (life p h) i up
     by_fact who Ends is up = lost (of_process p who) (life p h) i up
+    by_fact who StepsDown is up = up
+    by_fact who (ReleaseBegins at_deadline) is up = up
+    by_fact who ReleaseEnds is up = lost (of_process p who) (life p h) i up
+    by_fact who ReleaseStops is up = up
     by_fact who (First key object) is up = up
     by_fact who (Event what version) is up = up
     by_fact who (Sends call arrives) is up = up
@@ -74,8 +80,16 @@ keeps-both doc p e f h upper lower t s = keeps-beside doc p e (f ∷ h) upper t 
 pub keeps-expired : (doc : Doc) (k p : ℕ) (q : Identity) (h : List Entry) → KeepsTerm doc p h (expired doc k q h)
 keeps-expired doc k p q h = by_call (call_in q h)
   where
-    by_late : (call : Call) (b : Bool) → KeepsTerm doc p h (if b then entry k 4 q (Expires call) ∷ h else h)
-    by_late call true = keeps-beside doc p (entry k 4 q (Expires call)) h refl
+    by_end : (b : Bool) → KeepsTerm doc p h (entry k 4 q ReleaseEnds ∷ and_end k 4 q b h)
+    by_end true = keeps-both doc p (entry k 4 q ReleaseEnds) (entry k 4 q StepsDown) h refl refl
+    by_end false = keeps-beside doc p (entry k 4 q ReleaseEnds) h refl
+
+    by_release : (call : Call) (o : Option ℕ) → KeepsTerm doc p h (expire_as doc k q call o h)
+    by_release call None = keeps-beside doc p (entry k 4 q (Expires call)) h refl
+    by_release call (Some begun) = by_end (acts_on doc q h)
+
+    by_late : (call : Call) (b : Bool) → KeepsTerm doc p h (if b then expire_as doc k q call (release_begun doc.settings.rules.release call.kind) h else h)
+    by_late call true = by_release call (release_begun doc.settings.rules.release call.kind)
     by_late call false = λ t s. s
 
     by_call : (call : Option Call) → KeepsTerm doc p h (expire_call doc k q call h)

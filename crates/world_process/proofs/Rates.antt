@@ -126,6 +126,7 @@ what-fits doc p at (whats.Start id) within lawful = tt
 what-fits doc p at (whats.Stop id) within lawful = tt
 what-fits doc p at (whats.Watch id on) within lawful = tt
 what-fits doc p at (whats.Ready id status) within lawful = tt
+what-fits doc p at (whats.Stall beats) within lawful = absurd lawful
 what-fits doc p at (whats.Put key object) within lawful = tt
 what-fits doc p at (whats.Remove key) within lawful = tt
 

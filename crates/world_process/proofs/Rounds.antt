@@ -47,13 +47,13 @@ module _ (doc : Doc) (k p : ℕ) (h : List Entry) (b : Kubelet) (s : KubeletStan
   e = expired doc k q h
 
   up-after : alive p e ≡ Some b.incarnation
-  up-after = alive-expired doc k p q h ∙ up
+  up-after = alive-expired doc s.own k p q h ∙ up
 
   turn-is : kubelet_turn doc k p h ≡ turned doc k q h
   turn-is = ap (λ g. if_up p (round doc k) (alive p g) g) (expire-up doc k p b.incarnation h up) ∙ ap (λ o. if_up p (round doc k) o e) up-after
 
-  asks-after : (x : rounds.Kubelet) (ask : Option Ask) → Moved k 4 q e (turned doc k q h) (λ g. AreRounds doc q g x) ask → AsksOn k 4 q e (kubelet_turn doc k p h) (λ g. KubeletStands doc p g (record b { rounds = Some x })) ask
-  asks-after x None m = (turn-is ∙ m.0, stands-rounds doc p h e b (Some x) s (starts-expired doc k p q h) (up-after, m.1))
+  asks-after : (x : rounds.Kubelet) (ask : Option Ask) → Moved doc k 4 q e (turned doc k q h) (λ g. AreRounds doc q g x) ask → AsksOn doc k 4 q e (kubelet_turn doc k p h) (λ g. KubeletStands doc p g (record b { rounds = Some x })) ask
+  asks-after x None m = (turn-is ∙ m.0, stands-rounds doc p h e b (Some x) s (starts-expired doc s.own k p q h) (up-after, m.1))
   asks-after x (Some ask) m =
       record {
         kind = Plain;
@@ -61,15 +61,15 @@ module _ (doc : Doc) (k p : ℕ) (h : List Entry) (b : Kubelet) (s : KubeletStan
         number = m.number;
         stands = λ arrives.
             let g = entry k 4 q (Sends (next_call q k Plain ask.request e) arrives) ∷ e in
-            stands-rounds doc p h g b (Some x) s (starts-expired doc k p q h) (up-after, m.stands arrives);
+            stands-rounds doc p h g b (Some x) s (starts-expired doc s.own k p q h) (up-after, m.stands arrives);
       }
 
-  pub kubelet-turned : (x : rounds.Kubelet) (ask : Option Ask) → Moved k 4 q e (turned doc k q h) (λ g. AreRounds doc q g x) ask → Turned doc k p h (record b { rounds = Some x }) (record { started = false; ended = false; ask = ask })
+  pub kubelet-turned : (x : rounds.Kubelet) (ask : Option Ask) → Moved doc k 4 q e (turned doc k q h) (λ g. AreRounds doc q g x) ask → Turned doc k p h (record b { rounds = Some x }) (record { started = false; ended = false; ask = ask })
   kubelet-turned x ask m =
       let next = expire-up doc k p b.incarnation h up in
       record {
-        told = ap printed next ∙ printed-expired doc k q h ∙ sym (append-nil (printed h ++ []) ∙ append-nil (printed h));
-        asks = subst (λ g. AsksOn k 4 q g (kubelet_turn doc k p h) (λ x'. KubeletStands doc p x' (record b { rounds = Some x })) ask) (sym next) (asks-after x ask m);
+        told = ap printed next ∙ printed-expired doc s.own k q h ∙ sym (append-nil (printed h ++ []) ∙ append-nil (printed h));
+        asks = subst (λ g. AsksOn doc k 4 q g (kubelet_turn doc k p h) (λ x'. KubeletStands doc p x' (record b { rounds = Some x })) ask) (sym next) (asks-after x ask m);
       }
 
 -- ---- a reply
@@ -117,7 +117,7 @@ module _ (doc : Doc) (k p : ℕ) (b : Back) (n : ℕ) (reply : Reply) (h : List 
   abbrev z : Kubelet
   z = record x { rounds = Some y }
 
-  counts-for : (call : Call) (ask : Option Ask) → counted doc w k n h ≡ Some call → Moved k 3 w (with_reply k w call reply h) (followed doc k w call reply h) (λ g. AreRounds doc w g y) ask → Replied doc k p b h z (record { lead = None; ask = ask })
+  counts-for : (call : Call) (ask : Option Ask) → counted doc w k n h ≡ Some call → Moved doc k 3 w (with_reply k w call reply h) (followed doc k w call reply h) (λ g. AreRounds doc w g y) ask → Replied doc k p b h z (record { lead = None; ask = ask })
   counts-for call None some m =
       let g = with_reply k w call reply h in
       let same = ap (λ v. entry k 3 v (Delivers call reply true) ∷ h) (sym is.who) in
@@ -144,10 +144,10 @@ module _ (doc : Doc) (k p : ℕ) (b : Back) (n : ℕ) (reply : Reply) (h : List 
       }
     where
       moves_asked : Reply → Type 0
-      moves_asked r = Asked k 3 w (entry k 3 w (Delivers call r true) ∷ h) (delivered doc k b h) (λ f. KubeletStands doc p f z) ask
+      moves_asked r = Asked doc k 3 w (entry k 3 w (Delivers call r true) ∷ h) (delivered doc k b h) (λ f. KubeletStands doc p f z) ask
 
   pub kubelet-answers : (ask : Option Ask) → (counted doc w k n h ≡ None → (call : Call) → (ask ≡ None) × AreRounds doc w (entry k 3 w (Delivers call reply false) ∷ h) y) →
-      ((call : Call) → counted doc w k n h ≡ Some call → Moved k 3 w (with_reply k w call reply h) (followed doc k w call reply h) (λ g. AreRounds doc w g y) ask) →
+      ((call : Call) → counted doc w k n h ≡ Some call → Moved doc k 3 w (with_reply k w call reply h) (followed doc k w call reply h) (λ g. AreRounds doc w g y) ask) →
       Replied doc k p b h z (record { lead = None; ask = ask })
   kubelet-answers ask uncounted counts = by_counted (counted doc w k n h) refl
     where

@@ -23,6 +23,7 @@ use Rattle.kube_objects.specs.Wire.{next_call, send}
 use Rattle.history.specs.History.{put_all}
 use Rattle.history.specs.Printed.{printed, deeds_of}
 use Rattle.history.specs.Steps.{crash, happens, released, start, start_if_down, stop}
+use Rattle.history.proofs.Own.{stop-own}
 use Rattle.history_laws.proofs.Plainly.{false_is}
 use Rattle.leader_elector.proofs.Frames.{candidate-foreign, leading-foreign}
 use Rattle.leader_elector.specs.Moves.{Releases}
@@ -59,7 +60,7 @@ said now before = join (elim now as (λ o. Option (Option ℕ)) [ None ↦ befor
 
 pub controller-event : (doc : Doc) (p k step : ℕ) (event : What) (version : Option Version) (h : List Entry) (c : Controller) → cancels doc p k event ≡ false → ControllerStands doc p h c → ControllerStands doc p (script_entry k step (Event event version) ∷ h) c
 controller-event doc p k step event version h c other s =
-    let ends = ap (λ b. said (when b None) (newest (λ e T. restart_says doc p e.beat e.actor e.fact) h)) other in
+    let ends = ap (λ b. said (when b None) (newest (λ e T. restart_says doc p e.beat e.actor e.fact T) h)) other in
     controller-quiet doc p (script_entry k step (Event event version)) h c refl ends refl refl refl s
 
 -- ---- an event on the process itself
@@ -72,7 +73,7 @@ plain-script n k step d h s = record { fresh = λ p i less. (refl, s.fresh p i (
 
 -- a restart that waits is cancelled
 pub cancelled : (doc : Doc) (p k step : ℕ) (event : What) (version : Option Version) (h : List Entry) → cancels doc p k event ≡ true → ended doc p (script_entry k step (Event event version) ∷ h) ≡ None
-cancelled doc p k step event version h own = ap (λ b. said (when b None) (newest (λ e T. restart_says doc p e.beat e.actor e.fact) h)) own
+cancelled doc p k step event version h own = ap (λ b. said (when b None) (newest (λ e T. restart_says doc p e.beat e.actor e.fact T) h)) own
 
 pub down-is : (doc : Doc) (p i : ℕ) (h : List Entry) (r : Role) → is_up_as r ≡ false → RoleStands doc p i h r → alive p h ≡ None
 down-is doc p i h (role.Down at) down s = s.0
@@ -201,20 +202,23 @@ stopped-leading doc k id h c ask awake s up r =
     base : stopped doc k id h ≡ g
     base = ap (λ b. stop_in k p (only_if (not b) (alive p h)) (e ∷ h)) awake ∙ ap (λ x. stop_in k p x (e ∷ h)) up
 
-    next : happens doc k (what.Stop id) h ≡ released k q (release doc q k h) g
-    next = ap (λ b. stop doc k p (only_if (not b) (alive p h)) h (e ∷ h)) awake ∙ ap (λ x. stop doc k p x h (e ∷ h)) up
+    next : happens doc k (what.Stop id) h ≡ released doc k q (release doc q k h) g
+    next =
+        ap (λ b. stop doc k p (only_if (not b) (alive p h)) h (e ∷ h)) awake
+        ∙ ap (λ x. stop doc k p x h (e ∷ h)) up
+        ∙ stop-own doc s.timing.own k q h (e ∷ h)
 
     down : RoleStands doc p c.incarnation g (role.Down None)
     down = (alive-stop k 1 q (e ∷ h), ap (restart_reading doc p) (sym (cancelled doc p k 1 (what.Stop id) None h (ap (λ a. a && not (is_paused doc p k)) (eq-self p) ∙ ap not awake))))
 
-    by_release : (o : Option Request) (ask : Option Ask) → Releases q h o ask → AsksOn doc k 1 p g (released k q o g) c' ask
+    by_release : (o : Option Request) (ask : Option Ask) → Releases q h o ask → AsksOn doc k 1 p g (released doc k q o g) c' ask
     by_release None None r = (refl, stands-role doc p h g c (role.Down None) s refl keeps down)
     by_release None (Some ask) r = absurd r
     by_release (Some request) None r = absurd r
     by_release (Some request) (Some ask) r =
         record {
           kind = Release;
-          sent = ap (λ x. send k 1 q Release x g) (sym r.0);
+          sent = ap (λ x. send doc k 1 q Release x g) (sym r.0);
           number = r.1;
           stands = λ arrives.
               let f = entry k 1 q (Sends (next_call q k Release ask.request g) arrives) in

@@ -5,7 +5,7 @@ use Rattle.kube_objects.specs.declared.deed.Actor.{Actor}
 use Rattle.kube_objects.specs.Clocks.{local}
 use Rattle.kube_objects.specs.Document.{Doc, renew_deadline, retry_period}
 use Rattle.kube_objects.specs.Elector.{lead_says, leads, deadline_says, deadline, succeeds}
-use Rattle.kube_objects.specs.Entry.{Entry, Identity, Fact, First, Event, Starts, Crashes, Stops, Stalls, Ends, Sends, Answers, Delivers, Expires, Leads, Ticks}
+use Rattle.kube_objects.specs.Entry.{Entry, Identity, Fact, First, Event, Starts, Crashes, Stops, Stalls, Ends, StepsDown, ReleaseBegins, ReleaseEnds, ReleaseStops, Sends, Answers, Delivers, Expires, Leads, Ticks}
 use Rattle.kube_objects.specs.Identities.{is_by}
 use Rattle.kube_objects.specs.Newest.{newest, when, has}
 use Rattle.kube_objects.specs.Pauses.{can_at}
@@ -41,6 +41,10 @@ by_fact doc q k who led Crashes unled none = refl
 by_fact doc q k who led (Stalls beats) unled none = refl
 by_fact doc q k who led Stops unled none = refl
 by_fact doc q k who led Ends unled none = refl
+by_fact doc q k who led StepsDown unled none = refl
+by_fact doc q k who led (ReleaseBegins at_deadline) unled none = refl
+by_fact doc q k who led ReleaseEnds unled none = refl
+by_fact doc q k who led ReleaseStops unled none = refl
 by_fact doc q k who led (Sends call arrives) unled none = refl
 by_fact doc q k who led (Answers call reply comes written) unled none = refl
 by_fact doc q k who led (Delivers call reply counted) unled none =

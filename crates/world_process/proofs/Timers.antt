@@ -9,6 +9,7 @@ use Rattle.kube_objects.specs.Document.{Doc, restart_delay}
 use Rattle.kube_objects.specs.Elector.{in_term, is_before, leads}
 use Rattle.kube_objects.specs.Entry.{Entry, Identity, Ends, Sends, entry, actor_of}
 use Rattle.kube_objects.specs.Identities.{identity}
+use Rattle.kube_objects.specs.Own.{IsOwn}
 use Rattle.kube_objects.specs.Process.{alive, ended, is_present}
 use Rattle.kube_objects.specs.Turns.{end_term, try, expired}
 use Rattle.kube_objects.specs.Wire.{next_call}
@@ -46,16 +47,16 @@ timed-down doc k p h c at s is =
     (attempts-down doc k p h down.0, stands-role doc p h h c (role.Down at) s refl (λ t s. s) down)
 
 -- where a controller is up: the history after the expiry and the test of the deadline
-pub up-settled : (doc : Doc) (k p i : ℕ) (h : List Entry) → alive p h ≡ Some i → settled doc k p h ≡ tested doc k (identity p i) (expired doc k (identity p i) h)
-up-settled doc k p i h up =
+pub up-settled : (doc : Doc) → IsOwn doc → (k p i : ℕ) (h : List Entry) → alive p h ≡ Some i → settled doc k p h ≡ tested doc k (identity p i) (expired doc k (identity p i) h)
+up-settled doc own k p i h up =
     let q = identity p i in
-    ap (finish doc k p) (expire-up doc k p i h up) ∙ finish-up doc k p i (expired doc k q h) (alive-expired doc k p q h ∙ up)
+    ap (finish doc k p) (expire-up doc k p i h up) ∙ finish-up doc k p i (expired doc k q h) (alive-expired doc own k p q h ∙ up)
 
-pub candidate-settled : (doc : Doc) (k p i : ℕ) (h : List Entry) → alive p h ≡ Some i → leads (identity p i) (expired doc k (identity p i) h) ≡ false → settled doc k p h ≡ expired doc k (identity p i) h
-candidate-settled doc k p i h up unled =
+pub candidate-settled : (doc : Doc) → IsOwn doc → (k p i : ℕ) (h : List Entry) → alive p h ≡ Some i → leads (identity p i) (expired doc k (identity p i) h) ≡ false → settled doc k p h ≡ expired doc k (identity p i) h
+candidate-settled doc own k p i h up unled =
     let q = identity p i in
     let e = expired doc k q h in
-    up-settled doc k p i h up ∙ ap (λ at. end_term doc k q at e) (no_deadline doc q e unled)
+    up-settled doc own k p i h up ∙ ap (λ at. end_term doc k q at e) (no_deadline doc q e unled)
 
 -- an answer of the elector that asks nothing
 quiet-asks : (doc : Doc) (k p : ℕ) (h : List Entry) (c : Controller) (r : Role) → ControllerStands doc p h c → alive p h ≡ Some c.incarnation →
@@ -64,10 +65,10 @@ quiet-asks : (doc : Doc) (k p : ℕ) (h : List Entry) (c : Controller) (r : Role
 quiet-asks doc k p h c r s up tries stands =
     let q = identity p c.incarnation in
     let e = expired doc k q h in
-    (attempts-up doc k p c.incarnation e (alive-expired doc k p q h ∙ up) ∙ tries, stands-role doc p h e c r s (starts-expired doc k p q h) (keeps-expired doc k p q h) stands)
+    (attempts-up doc k p c.incarnation e (alive-expired doc s.timing.own k p q h ∙ up) ∙ tries, stands-role doc p h e c r s (starts-expired doc s.timing.own k p q h) (keeps-expired doc k p q h) stands)
 
-told-expired : (doc : Doc) (k : ℕ) (q : Identity) (h : List Entry) → printed (expired doc k q h) ≡ printed h ++ []
-told-expired doc k q h = printed-expired doc k q h ∙ sym (append-nil (printed h))
+told-expired : (doc : Doc) → IsOwn doc → (k : ℕ) (q : Identity) (h : List Entry) → printed (expired doc k q h) ≡ printed h ++ []
+told-expired doc own k q h = printed-expired doc own k q h ∙ sym (append-nil (printed h))
 
 pub candidate-stays : (doc : Doc) (k p : ℕ) (h : List Entry) (c : Controller) (x : Candidate) → ControllerStands doc p h c → alive p h ≡ Some c.incarnation →
     try doc k (identity p c.incarnation) (expired doc k (identity p c.incarnation) h) ≡ expired doc k (identity p c.incarnation) h → CandidateStands doc (identity p c.incarnation) (expired doc k (identity p c.incarnation) h) x →
@@ -75,8 +76,8 @@ pub candidate-stays : (doc : Doc) (k p : ℕ) (h : List Entry) (c : Controller) 
 candidate-stays doc k p h c x s up tries stands =
     let q = identity p c.incarnation in
     let e = expired doc k q h in
-    timed-from doc k p h e (record c { role = role.Candidate x }) false None (candidate-settled doc k p c.incarnation h up stands.leads) (told-expired doc k q h)
-    (quiet-asks doc k p h c (role.Candidate x) s up tries (alive-expired doc k p q h ∙ up, stands))
+    timed-from doc k p h e (record c { role = role.Candidate x }) false None (candidate-settled doc s.timing.own k p c.incarnation h up stands.leads) (told-expired doc s.timing.own k q h)
+    (quiet-asks doc k p h c (role.Candidate x) s up tries (alive-expired doc s.timing.own k p q h ∙ up, stands))
 
 pub leading-stays : (doc : Doc) (k p : ℕ) (h : List Entry) (c : Controller) (x : Leading) → ControllerStands doc p h c → alive p h ≡ Some c.incarnation →
     tested doc k (identity p c.incarnation) (expired doc k (identity p c.incarnation) h) ≡ expired doc k (identity p c.incarnation) h →
@@ -85,45 +86,45 @@ pub leading-stays : (doc : Doc) (k p : ℕ) (h : List Entry) (c : Controller) (x
 leading-stays doc k p h c x s up goes tries stands =
     let q = identity p c.incarnation in
     let e = expired doc k q h in
-    timed-from doc k p h e (record c { role = role.Leading x }) false None (up-settled doc k p c.incarnation h up ∙ goes) (told-expired doc k q h)
-    (quiet-asks doc k p h c (role.Leading x) s up tries (alive-expired doc k p q h ∙ up, stands))
+    timed-from doc k p h e (record c { role = role.Leading x }) false None (up-settled doc s.timing.own k p c.incarnation h up ∙ goes) (told-expired doc s.timing.own k q h)
+    (quiet-asks doc k p h c (role.Leading x) s up tries (alive-expired doc s.timing.own k p q h ∙ up, stands))
 
 -- an answer of the elector that asks
 asking-asks : (doc : Doc) (k p : ℕ) (h : List Entry) (c : Controller) (r : Role) (ask : Ask) (Stands : List Entry → Type 0) → ControllerStands doc p h c → alive p h ≡ Some c.incarnation →
-    Asked k 4 (identity p c.incarnation) (expired doc k (identity p c.incarnation) h) (try doc k (identity p c.incarnation) (expired doc k (identity p c.incarnation) h)) Stands ask →
+    Asked doc k 4 (identity p c.incarnation) (expired doc k (identity p c.incarnation) h) (try doc k (identity p c.incarnation) (expired doc k (identity p c.incarnation) h)) Stands ask →
     ((g : List Entry) → alive p g ≡ Some c.incarnation → Stands g → RoleStands doc p c.incarnation g r) →
     AsksOn doc k 4 p (expired doc k (identity p c.incarnation) h) (attempts doc k p (expired doc k (identity p c.incarnation) h)) (record c { role = r }) (Some ask)
 asking-asks doc k p h c r ask Stands s up a stands =
     let q = identity p c.incarnation in
     let e = expired doc k q h in
-    let up_e = alive-expired doc k p q h ∙ up in
+    let up_e = alive-expired doc s.timing.own k p q h ∙ up in
     record {
       kind = a.kind;
       sent = attempts-up doc k p c.incarnation e up_e ∙ a.sent;
       number = a.number;
       stands = λ arrives.
           let g = entry k 4 q (Sends (next_call q k a.kind ask.request e) arrives) ∷ e in
-          stands-role doc p h g c r s (starts-expired doc k p q h) (λ t s. keeps-beside doc p (entry k 4 q (Sends (next_call q k a.kind ask.request e) arrives)) e refl t (keeps-expired doc k p q h t s)) (stands g up_e (a.stands arrives));
+          stands-role doc p h g c r s (starts-expired doc s.timing.own k p q h) (λ t s. keeps-beside doc p (entry k 4 q (Sends (next_call q k a.kind ask.request e) arrives)) e refl t (keeps-expired doc k p q h t s)) (stands g up_e (a.stands arrives));
     }
 
 pub candidate-asks : (doc : Doc) (k p : ℕ) (h : List Entry) (c : Controller) (x : Candidate) (ask : Ask) → ControllerStands doc p h c → alive p h ≡ Some c.incarnation →
-    Asked k 4 (identity p c.incarnation) (expired doc k (identity p c.incarnation) h) (try doc k (identity p c.incarnation) (expired doc k (identity p c.incarnation) h)) (λ g. CandidateStands doc (identity p c.incarnation) g x) ask →
+    Asked doc k 4 (identity p c.incarnation) (expired doc k (identity p c.incarnation) h) (try doc k (identity p c.incarnation) (expired doc k (identity p c.incarnation) h)) (λ g. CandidateStands doc (identity p c.incarnation) g x) ask →
     Timed doc k p h (record c { role = role.Candidate x }) false (Some ask)
 candidate-asks doc k p h c x ask s up a =
     let q = identity p c.incarnation in
     let e = expired doc k q h in
     let unled : leads q e ≡ false = (a.stands None).leads in
-    timed-from doc k p h e (record c { role = role.Candidate x }) false (Some ask) (candidate-settled doc k p c.incarnation h up unled) (told-expired doc k q h)
+    timed-from doc k p h e (record c { role = role.Candidate x }) false (Some ask) (candidate-settled doc s.timing.own k p c.incarnation h up unled) (told-expired doc s.timing.own k q h)
     (asking-asks doc k p h c (role.Candidate x) ask (λ g. CandidateStands doc q g x) s up a (λ g up_g stands. (up_g, stands)))
 
 pub leading-asks : (doc : Doc) (k p : ℕ) (h : List Entry) (c : Controller) (x : Leading) (ask : Ask) → ControllerStands doc p h c → alive p h ≡ Some c.incarnation →
     tested doc k (identity p c.incarnation) (expired doc k (identity p c.incarnation) h) ≡ expired doc k (identity p c.incarnation) h →
-    Asked k 4 (identity p c.incarnation) (expired doc k (identity p c.incarnation) h) (try doc k (identity p c.incarnation) (expired doc k (identity p c.incarnation) h)) (λ g. LeadingStands doc (identity p c.incarnation) g x) ask →
+    Asked doc k 4 (identity p c.incarnation) (expired doc k (identity p c.incarnation) h) (try doc k (identity p c.incarnation) (expired doc k (identity p c.incarnation) h)) (λ g. LeadingStands doc (identity p c.incarnation) g x) ask →
     Timed doc k p h (record c { role = role.Leading x }) false (Some ask)
 leading-asks doc k p h c x ask s up goes a =
     let q = identity p c.incarnation in
     let e = expired doc k q h in
-    timed-from doc k p h e (record c { role = role.Leading x }) false (Some ask) (up-settled doc k p c.incarnation h up ∙ goes) (told-expired doc k q h)
+    timed-from doc k p h e (record c { role = role.Leading x }) false (Some ask) (up-settled doc s.timing.own k p c.incarnation h up ∙ goes) (told-expired doc s.timing.own k q h)
     (asking-asks doc k p h c (role.Leading x) ask (λ g. LeadingStands doc q g x) s up a (λ g up_g stands. (up_g, stands)))
 
 pub leading-ends : (doc : Doc) (k p : ℕ) (h : List Entry) (c : Controller) (at : Local) → ControllerStands doc p h c → alive p h ≡ Some c.incarnation →
@@ -135,8 +136,8 @@ leading-ends doc k p h c at s up goes at_is =
     let g = entry k 4 q Ends ∷ e in
     let down : alive p g ≡ None = alive-end k 4 q e in
     let restarts : Some at.0 ≡ restart_reading doc p (ended doc p g) = ap (λ (n : ℕ). Some n) at_is ∙ ap (restart_reading doc p) (sym (ended-end doc k 4 q e)) in
-    timed-from doc k p h g (record c { role = role.Down (Some at) }) true None (up-settled doc k p c.incarnation h up ∙ goes) (ap (λ ds. ds ++ deeds_of k (actor_of q) (Some act.End)) (printed-expired doc k q h))
-    (attempts-down doc k p g down, stands-role doc p h g c (role.Down (Some at)) s (starts-expired doc k p q h) (λ t s. keeps-beside doc p (entry k 4 q Ends) e refl t (keeps-expired doc k p q h t s)) (down, restarts))
+    timed-from doc k p h g (record c { role = role.Down (Some at) }) true None (up-settled doc s.timing.own k p c.incarnation h up ∙ goes) (ap (λ ds. ds ++ deeds_of k (actor_of q) (Some act.End)) (printed-expired doc s.timing.own k q h))
+    (attempts-down doc k p g down, stands-role doc p h g c (role.Down (Some at)) s (starts-expired doc s.timing.own k p q h) (λ t s. keeps-beside doc p (entry k 4 q Ends) e refl t (keeps-expired doc k p q h t s)) (down, restarts))
 
 -- whatever a candidate's turn asks
 pub candidate-turned : (doc : Doc) (k p : ℕ) (h : List Entry) (c : Controller) (x : Candidate) (ask : Option Ask) → ControllerStands doc p h c → alive p h ≡ Some c.incarnation →

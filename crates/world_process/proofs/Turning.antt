@@ -6,8 +6,10 @@ use Rattle.kube_objects.specs.Document.{Doc}
 use Rattle.kube_objects.specs.Elector.{deadline}
 use Rattle.kube_objects.specs.Entry.{Entry, Identity, Call, entry, Expires}
 use Rattle.kube_objects.specs.Identities.{identity}
-use Rattle.kube_objects.specs.Process.{alive, starts, call_in, is_late, ended, is_restart_due}
-use Rattle.kube_objects.specs.Turns.{expire_call, end_term, try, expired}
+use Rattle.kube_objects.specs.Own.{IsOwn}
+use Rattle.kube_objects.specs.Process.{alive, starts, call_in, is_late, release_begun, ended, is_restart_due}
+use Rattle.kube_objects.specs.Turns.{expire_as, expire_call, end_term, try, expired}
+use Rattle.kube_objects.proofs.Own.{expire_as-own}
 use Rattle.history.specs.Printed.{printed}
 use Rattle.history.specs.Steps.{restart_if, restart, if_up, expire, finish, attempts, start}
 use Rattle.leader_elector.specs.Moves.{tested}
@@ -37,11 +39,11 @@ pub attempts-down : (doc : Doc) (k p : ℕ) (h : List Entry) → alive p h ≡ N
 attempts-down doc k p h down = ap (λ x. if_up p (try doc k) x h) down
 
 -- what the entry of an expiry leaves as it is stays through an expiry
-expired-same : {A : Type 0} (f : List Entry → A) (doc : Doc) (k : ℕ) (q : Identity) (h : List Entry) → ((call : Call) → f (if true then entry k 4 q (Expires call) ∷ h else h) ≡ f h) → f (expired doc k q h) ≡ f h
-expired-same f doc k q h same = by_call (call_in q h)
+expired-same : {A : Type 0} (f : List Entry → A) (doc : Doc) → IsOwn doc → (k : ℕ) (q : Identity) (h : List Entry) → ((call : Call) → f (entry k 4 q (Expires call) ∷ h) ≡ f h) → f (expired doc k q h) ≡ f h
+expired-same f doc own k q h same = by_call (call_in q h)
   where
-    by_late : (call : Call) (b : Bool) → f (if b then entry k 4 q (Expires call) ∷ h else h) ≡ f h
-    by_late call true = same call
+    by_late : (call : Call) (b : Bool) → f (if b then expire_as doc k q call (release_begun doc.settings.rules.release call.kind) h else h) ≡ f h
+    by_late call true = ap f (expire_as-own doc own k q call h) ∙ same call
     by_late call false = refl
 
     by_call : (call : Option Call) → f (expire_call doc k q call h) ≡ f h
@@ -49,11 +51,11 @@ expired-same f doc k q h same = by_call (call_in q h)
     by_call (Some call) = by_late call (is_late doc q k call)
 
 -- an expiry leaves the life as it is, prints nothing, and starts nothing
-pub alive-expired : (doc : Doc) (k p : ℕ) (q : Identity) (h : List Entry) → alive p (expired doc k q h) ≡ alive p h
-alive-expired doc k p q h = expired-same (alive p) doc k q h (λ call. refl)
+pub alive-expired : (doc : Doc) → IsOwn doc → (k p : ℕ) (q : Identity) (h : List Entry) → alive p (expired doc k q h) ≡ alive p h
+alive-expired doc own k p q h = expired-same (alive p) doc own k q h (λ call. refl)
 
-pub printed-expired : (doc : Doc) (k : ℕ) (q : Identity) (h : List Entry) → printed (expired doc k q h) ≡ printed h
-printed-expired doc k q h = expired-same printed doc k q h (λ call. append-nil (printed h))
+pub printed-expired : (doc : Doc) → IsOwn doc → (k : ℕ) (q : Identity) (h : List Entry) → printed (expired doc k q h) ≡ printed h
+printed-expired doc own k q h = expired-same printed doc own k q h (λ call. append-nil (printed h))
 
-pub starts-expired : (doc : Doc) (k p : ℕ) (q : Identity) (h : List Entry) → starts p (expired doc k q h) ≡ starts p h
-starts-expired doc k p q h = expired-same (starts p) doc k q h (λ call. refl)
+pub starts-expired : (doc : Doc) → IsOwn doc → (k p : ℕ) (q : Identity) (h : List Entry) → starts p (expired doc k q h) ≡ starts p h
+starts-expired doc own k p q h = expired-same (starts p) doc own k q h (λ call. refl)

@@ -2,7 +2,7 @@
 use Rattle.std.proofs.Common.{◌≡◌, ◌&&◌, Bool, true, false, List, [], ◌∷◌, Option, Some, None, refl, ap, ◌∙◌}
 use Rattle.kube_objects.specs.declared.deed.Actor.{Actor}
 use Rattle.kube_objects.specs.Elector.{shows, shown, observed, newly, lead_says, leads, told}
-use Rattle.kube_objects.specs.Entry.{Entry, Identity, Fact, Sends, Delivers, Expires, Leads}
+use Rattle.kube_objects.specs.Entry.{Entry, Identity, Fact, Sends, Delivers, Expires, ReleaseBegins, Leads}
 use Rattle.kube_objects.specs.Identities.{is_by}
 use Rattle.kube_objects.specs.Newest.{newest, added, when, only_if, has, join}
 use Rattle.kube_objects.specs.Process.{is_send, begun, call_says, last_call, call_in, open_as}
@@ -25,6 +25,7 @@ call_says-others : (q : Identity) (who : Actor) (d : Fact) → is_by q who ≡ f
 call_says-others q who (Sends call arrives) other = ap (λ b. when b (open_as call.kind call)) other
 call_says-others q who (Delivers call reply counted) other = ap (λ b. when (counted && b) None) other ∙ ap (λ b. when b None) (and-false counted)
 call_says-others q who (Expires call) other = ap (λ b. when b None) other
+call_says-others q who (ReleaseBegins at_deadline) other = ap (λ b. when b None) other
 call_says-others q who _ other = refl
 
 pub last_call-unheard : (q : Identity) (h : List Entry) → IsUnheard q h → last_call q h ≡ None

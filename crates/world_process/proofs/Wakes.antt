@@ -175,11 +175,11 @@ pub turn-tells : (doc : Doc) (k p : ℕ) (h : List Entry) (x : Process) (o : Opt
 turn-tells doc k p h (process.Controller c) o w s within beat is =
     subst (λ b. own_turn_as doc k p b h ≡ h ↔ is_early k (beat_in o) ≡ true) (sym s.sort)
     (tells doc k p c.clock o w (elector_reading doc p h) (elector_turn doc k p h ≡ h) s.clock within beat (is ∙ ap (λ b. own_reading_as doc p b h) s.sort)
-    (electors_wake doc k p h (lost-none doc k p c.incarnation h c.role s.role)))
+    (electors_wake doc s.timing.own k p h (lost-none doc k p c.incarnation h c.role s.role)))
 turn-tells doc k p h (process.Kubelet b) o w s within beat is =
     subst (λ t. own_turn_as doc k p t h ≡ h ↔ is_early k (beat_in o) ≡ true) (sym s.sort)
     (tells doc k p b.clock o w (kubelet_reading doc p h) (kubelet_turn doc k p h ≡ h) s.clock within beat (is ∙ ap (λ t. own_reading_as doc p t h) s.sort)
-    (kubelets_wake doc k p h (posts-none doc k p b.incarnation h b.rounds s.rounds)))
+    (kubelets_wake doc s.own k p h (posts-none doc k p b.incarnation h b.rounds s.rounds)))
 
 -- a reading as it is asked for
 abbrev pub asked_at : Option ℕ → Option Local

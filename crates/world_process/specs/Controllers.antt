@@ -72,7 +72,7 @@ pub record SameController (old new : Controller) : Type 0 where
 -- ---- what it did, in the words of every process
 
 abbrev pub AsksOn : Doc → ℕ → ℕ → ℕ → List Entry → List Entry → Controller → Option Ask → Type 0
-AsksOn doc k step p h next c ask = moves.AsksOn k step (identity p c.incarnation) h next (λ x. ControllerStands doc p x c) ask
+AsksOn doc k step p h next c ask = moves.AsksOn doc k step (identity p c.incarnation) h next (λ x. ControllerStands doc p x c) ask
 
 abbrev pub Crashed : Doc → ℕ → ProcId → List Entry → Controller → Bool → Type 0
 Crashed doc k id h c crashed = moves.Crashed doc k id h c.incarnation (λ x. ControllerStands doc id.0 x c) crashed

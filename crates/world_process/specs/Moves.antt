@@ -24,9 +24,9 @@ use Rattle.world_process.specs.declared.moves.Turn.{Turn}
 use Rattle.world_process.specs.Plain.{AreQuiet, with_facts}
 
 -- next is the history with what is asked; h is that before
-abbrev pub AsksOn : ℕ → ℕ → Identity → List Entry → List Entry → (List Entry → Type 0) → Option Ask → Type 0
-AsksOn k step q h next Stands None = (next ≡ h) × Stands h
-AsksOn k step q h next Stands (Some ask) = Asked k step q h next Stands ask
+abbrev pub AsksOn : Doc → ℕ → ℕ → Identity → List Entry → List Entry → (List Entry → Type 0) → Option Ask → Type 0
+AsksOn doc k step q h next Stands None = (next ≡ h) × Stands h
+AsksOn doc k step q h next Stands (Some ask) = Asked doc k step q h next Stands ask
 
 -- ---- the script's events on a process
 
@@ -61,7 +61,7 @@ stopped doc k id h = stop_in k id.0 (only_if (not (is_paused doc id.0 k)) (alive
 -- a process was stopped, where it was up, and asks its release
 pub record StoppedAs (doc : Doc) (k : ℕ) (id : ProcId) (h : List Entry) (i : ℕ) (Stands : List Entry → Type 0) (s : Stopped) : Type 0 where
   pub told : printed (stopped doc k id h) ≡ printed h ++ stopped_deeds k (identity id.0 i) s.stopped
-  pub asks : AsksOn k 1 (identity id.0 i) (stopped doc k id h) (happens doc k (what.Stop id) h) Stands s.ask
+  pub asks : AsksOn doc k 1 (identity id.0 i) (stopped doc k id h) (happens doc k (what.Stop id) h) Stands s.ask
 
 -- ---- a turn
 
@@ -92,7 +92,7 @@ ended_deeds k q b = deeds_of k (actor_of q) (when b act.End)
 pub record TurnedAs (doc : Doc) (k p : ℕ) (sort : Bool) (h : List Entry) (i : ℕ) (Stands : List Entry → Type 0) (t : Turn) : Type 0 where
   pub told : printed (before_asking_as doc k p sort h)
       ≡ printed h ++ started_deeds k (identity p i) t.started ++ ended_deeds k (identity p i) t.ended
-  pub asks : AsksOn k 4 (identity p i) (before_asking_as doc k p sort h) (own_turn_as doc k p sort h) Stands t.ask
+  pub asks : AsksOn doc k 4 (identity p i) (before_asking_as doc k p sort h) (own_turn_as doc k p sort h) Stands t.ask
 
 abbrev pub Turned : Doc → ℕ → ℕ → List Entry → ℕ → (List Entry → Type 0) → Turn → Type 0
 Turned doc k p h i Stands t = TurnedAs doc k p (is_controller doc p) h i Stands t
@@ -130,7 +130,7 @@ pub record AsksAfter (doc : Doc) (k : ℕ) (q : Identity) (b : Back) (h : List E
     (ask : Ask) : Type 0 where
   pub call : Call
   pub who : b.who ≡ q
-  pub asked : Asked k 3 q (entry k 3 q (Delivers call b.reply true) ∷ h) (delivered doc k b h) Stands ask
+  pub asked : Asked doc k 3 q (entry k 3 q (Delivers call b.reply true) ∷ h) (delivered doc k b h) Stands ask
 
 abbrev pub AsksOnReply : Doc → ℕ → Identity → Back → List Entry → (List Entry → Type 0) → Option Ask → Type 0
 AsksOnReply doc k q b h Stands None = StaysOn doc k b h Stands

@@ -103,4 +103,4 @@ Replied doc k p b h x r = moves.Replied doc k (identity p (incarnation_of x)) b 
 
 -- next is the history with what is asked; h is that before
 abbrev pub AsksOn : Doc → ℕ → ℕ → ℕ → List Entry → List Entry → Process → Option Ask → Type 0
-AsksOn doc k step p h next x ask = moves.AsksOn k step (identity p (incarnation_of x)) h next (λ g. ProcessStands doc p g x) ask
+AsksOn doc k step p h next x ask = moves.AsksOn doc k step (identity p (incarnation_of x)) h next (λ g. ProcessStands doc p g x) ask

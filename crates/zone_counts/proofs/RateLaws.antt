@@ -7,7 +7,7 @@ use Rattle.std.proofs.lemmas.Bool.Decides.{nat_tests}
 use Rattle.std.proofs.lemmas.List.Sums.{count_by-le-length}
 use Rattle.kube_objects.specs.declared.node.Node.{Node}
 use Rattle.kube_objects.specs.declared.node.ZoneState.{ZoneState}
-use Rattle.kube_objects.specs.declared.settings.Settings2.{Settings2}
+use Rattle.kube_objects.specs.declared.settings.TickSettings.{TickSettings}
 use Rattle.kube_objects.specs.Document.{Doc}
 use Rattle.kube_objects.specs.Entry.{Place}
 use Rattle.kube_objects.specs.Modes.{all_full, places, ready_in, other_in, size_in, state_in, place_cmp}
@@ -25,7 +25,7 @@ size_fits place nodes few = by_size (ready_in place nodes + other_in place nodes
     by_size : (a b n : ℕ) → b ≡ a → b ≤ n → n < 4294967296 → min a 4294967295 ≡ b
     by_size a b n same less few = grind (arith, nat_tests, same, less, few)
 
-pub rates_same : (doc : Doc) (s : Settings2) (on : Bool) (state other : ZoneState) (size more : ℕ) → AreSettings doc s → state ≡ other → size ≡ more
+pub rates_same : (doc : Doc) (s : TickSettings) (on : Bool) (state other : ZoneState) (size more : ℕ) → AreSettings doc s → state ≡ other → size ≡ more
     → rate_of on state s.rate_policy s.primary_rate s.secondary_rate s.large_zone size
     ≡ rate_of on other doc.settings.rate_policy doc.settings.primary_rate doc.settings.secondary_rate doc.settings.large_zone more
 rates_same doc s on state other size more are a b =

@@ -1,9 +1,10 @@
--- The settings of a tick are the document's.
+-- The settings of a tick are the document's, which goes by the project's own rules: a tick knows no others.
 use Rattle.std.specs.Prelude.{◌≡◌}
-use Rattle.kube_objects.specs.declared.settings.Settings2.{Settings2}
+use Rattle.kube_objects.specs.declared.settings.TickSettings.{TickSettings}
 use Rattle.kube_objects.specs.Document.{Doc}
+use Rattle.kube_objects.specs.Own.{IsOwn}
 
-pub record AreSettings (doc : Doc) (s : Settings2) : Type 0 where
+pub record AreSettings (doc : Doc) (s : TickSettings) : Type 0 where
   pub monitor : s.monitor_period_millis ≡ doc.settings.monitor_period_millis
   pub grace : s.grace_period_millis ≡ doc.settings.grace_period_millis
   pub startup : s.startup_grace_millis ≡ doc.settings.startup_grace_millis
@@ -12,3 +13,4 @@ pub record AreSettings (doc : Doc) (s : Settings2) : Type 0 where
   pub large : s.large_zone ≡ doc.settings.large_zone
   pub percent : s.unhealthy_percent ≡ doc.settings.unhealthy_percent
   pub policy : s.rate_policy ≡ doc.settings.rate_policy
+  pub own : IsOwn doc

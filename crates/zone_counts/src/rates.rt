@@ -8,7 +8,7 @@ ghost use Rattle.zone_counts.specs.Counted.{is_full, zone_count, zone_counts};
 ghost use Rattle.zone_counts.specs.Settings.{AreSettings};
 
 use crate::ZoneCount;
-use kube_objects::{Settings2, ZoneState};
+use kube_objects::{TickSettings, ZoneState};
 use zone_state::{Policies, ZoneView, state_of};
 
 impl ZoneCount {
@@ -21,7 +21,7 @@ impl ZoneCount {
     }
 
     /// The rate at which the zone's nodes are tainted, in nodes per 1,000 s; `on` says whether every zone is disrupted.
-    pub fn rate(&self, on: bool, settings: &Settings2, policies: &Policies) -> u32
+    pub fn rate(&self, on: bool, settings: &TickSettings, policies: &Policies) -> u32
         requires ordered { settings.now.secondary_rate ≤ settings.now.primary_rate }
         ensures { (doc : Doc) (nodes : List Node) (place : Place) → self.now ≡ zone_count nodes place → AreSettings doc settings.now
             → length nodes < 4294967296 → result ≡ modes.rate_in doc on nodes place }

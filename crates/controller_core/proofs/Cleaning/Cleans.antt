@@ -6,6 +6,7 @@ use Rattle.kube_objects.specs.declared.node.Node.{Node}
 use Rattle.kube_objects.specs.Document.{Doc}
 use Rattle.kube_objects.specs.Entry.{Entry, Identity, Tick}
 use Rattle.kube_objects.specs.Modes.{mode}
+use Rattle.kube_objects.specs.Own.{IsOwn}
 use Rattle.kube_objects.specs.Seen.{seen_node}
 use Rattle.kube_objects.specs.Tainting.{Wants, Nothing, Wanted, Whatever, wants}
 use Rattle.kube_objects.specs.Tick.{add, clean}
@@ -25,10 +26,10 @@ unseen q name h dirty none =
     none_is seen.0 (none ∙ seen.1)
 
 -- the entry of a clean is such a write
-cleaning_write : (doc : Doc) (k : ℕ) (q : Identity) (name : ℕ) (given : Version) (node : Node) (w : Wants) (written : Node) (a : Option Answer) → written ≡ cleaned_node doc k q node w
+cleaning_write : (doc : Doc) → IsOwn doc → (k : ℕ) (q : Identity) (name : ℕ) (given : Version) (node : Node) (w : Wants) (written : Node) (a : Option Answer) → written ≡ cleaned_node doc k q node w
     → IsWrite (write_for w) name written a (cleaning doc k q name given node w a)
-cleaning_write doc k q name given node w written a is =
-    by_wants w (subst (λ n. IsCleaningOn name n a (cleaning doc k q name given node w a)) (sym is) (cleaning_is doc k q name given node w a))
+cleaning_write doc own k q name given node w written a is =
+    by_wants w (subst (λ n. IsCleaningOn name n a (cleaning doc k q name given node w a)) (sym is) (cleaning_is doc own k q name given node w a))
   where
     by_wants : (w : Wants) → IsCleaningOn name written a (cleaning doc k q name given node w a) → IsWrite (write_for w) name written a (cleaning doc k q name given node w a)
     by_wants Nothing s = record { try = s.try; stale = s.stale; act = refl }
@@ -41,12 +42,12 @@ pub record CleansBy (doc : Doc) (k : ℕ) (q : Identity) (name : ℕ) (h : List 
   pub adds : add k q tick h ≡ clean doc k q name h
   pub write : IsWrite kind name written (try_node q name given h) tick
 
-pub cleans_by : (doc : Doc) (k : ℕ) (q : Identity) (name : ℕ) (h : List Entry) (given : Version) (node written : Node) (on : Bool) (w : Wants) (kind : NodeWrite) → is_dirty q name h ≡ true
+pub cleans_by : (doc : Doc) → IsOwn doc → (k : ℕ) (q : Identity) (name : ℕ) (h : List Entry) (given : Version) (node written : Node) (on : Bool) (w : Wants) (kind : NodeWrite) → is_dirty q name h ≡ true
     → Some (given, node) ≡ seen_node q name h → on ≡ mode q h → w ≡ wants on node → written ≡ cleaned_node doc k q node w → kind ≡ write_for w → CleansBy doc k q name h given written kind
-cleans_by doc k q name h given node written on w kind dirty sees on_is wants_is written_is kind_is =
+cleans_by doc own k q name h given node written on w kind dirty sees on_is wants_is written_is kind_is =
     let a = try_node q name given h in
     record {
       tick = cleaning doc k q name given node w a;
-      adds = ap (λ w. add k q (cleaning doc k q name given node w a) h) (wants_is ∙ ap (λ b. wants b node) on_is) ∙ sym (clean_adds doc k q name h (given, node) dirty (sym sees));
-      write = subst (λ x. IsWrite x name written a (cleaning doc k q name given node w a)) (sym kind_is) (cleaning_write doc k q name given node w written a written_is);
+      adds = ap (λ w. add k q (cleaning doc k q name given node w a) h) (wants_is ∙ ap (λ b. wants b node) on_is) ∙ sym (clean_adds doc own k q name h (given, node) dirty (sym sees));
+      write = subst (λ x. IsWrite x name written a (cleaning doc k q name given node w a)) (sym kind_is) (cleaning_write doc own k q name given node w written a written_is);
     }

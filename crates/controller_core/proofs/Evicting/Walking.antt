@@ -9,9 +9,11 @@ use Rattle.kube_objects.specs.Clocks.{wall}
 use Rattle.kube_objects.specs.Document.{Doc}
 use Rattle.kube_objects.specs.Entry.{Entry, Identity}
 use Rattle.kube_objects.specs.Keys.{key_cmp, key_eq}
+use Rattle.kube_objects.specs.Own.{IsOwn}
 use Rattle.kube_objects.specs.Seen.{is_pod, pod_keys}
 use Rattle.kube_objects.specs.Tick.{evict, evicted, for_each}
 use Rattle.kube_objects.specs.Tries.{try_delete}
+use Rattle.kube_objects.proofs.Own.{evicted-own}
 use Rattle.history_laws.proofs.Plainly.{false_is}
 use Rattle.object_store.specs.declared.store.Store.{Store}
 use Rattle.tick_laws.specs.Judged.{is_by_now, seen_due}
@@ -46,6 +48,7 @@ less_differs a b less = ap is_eq less
 -- ---- within the walk: of the pods after c those to do are the due ones, and of the others none is to do
 
 pub record Evicting (doc : Doc) (k : ℕ) (q : Identity) (before : List Deed) (h now : List Entry) (c : Option Key) (todo : BTreeSet Key) (l : Cluster) (s : Store) (v : View) (t : Told) : Type 0 where
+  pub own : IsOwn doc
   pub deleting : Deleting q k before now (λ p. contains key_cmp todo p) l s t
   pub view : IsView doc k q now v
   pub follows : for_each (evict doc k q) (after key_cmp c (pod_keys h)) now ≡ evicted doc k q h
@@ -54,12 +57,13 @@ pub record Evicting (doc : Doc) (k : ℕ) (q : Identity) (before : List Deed) (h
   pub untouched : (p : Key) → is_after key_cmp c p ≡ true → seen_due q p now ≡ seen_due q p h
 
 pub begin_evicting : (doc : Doc) (k : ℕ) (q : Identity) (before : List Deed) (h : List Entry) (todo : BTreeSet Key) (l : Cluster) (s : Store) (v : View) (t : Told)
-    → Deleting q k before h (λ p. contains key_cmp todo p) l s t → IsView doc k q h v
+    → IsOwn doc → Deleting q k before h (λ p. contains key_cmp todo p) l s t → IsView doc k q h v
     → ((p : Key) → contains key_cmp todo p ≡ is_by_now (wall doc q.process k) (seen_due q p h)) → Evicting doc k q before h h None todo l s v t
-begin_evicting doc k q before h todo l s v t d view due = record {
+begin_evicting doc k q before h todo l s v t own d view due = record {
+  own = own;
   deleting = d;
   view = view;
-  follows = ap (λ xs. for_each (evict doc k q) xs h) (after_none key_cmp keys_strict (pod_keys h));
+  follows = ap (λ xs. for_each (evict doc k q) xs h) (after_none key_cmp keys_strict (pod_keys h)) ∙ sym (evicted-own doc own k q h);
   due = λ p is. due p;
   passed = λ p is. absurd (false_is (sym is));
   untouched = λ p is. refl;
@@ -81,6 +85,7 @@ module _ (doc : Doc) (k : ℕ) (q : Identity) (before : List Deed) (h now : List
       → Deleting q k before (evict doc k q n now) (but_pod n (λ p. contains key_cmp todo p)) m z u
       → Evicting doc k q before h (evict doc k q n now) (Some n) left m z v u
   next_evicting n left m z u there least has d = record {
+    own = w.own;
     deleting = record {
       cluster = widen q (evict doc k q n now) no_node no_node (but_pod n (λ p. contains key_cmp todo p)) (λ p. contains key_cmp left p) m (λ x is. is)
           (λ p out. closed_at (key_eq n p) (contains key_cmp todo p) (sym (has p) ∙ out)) d.cluster;
@@ -89,17 +94,17 @@ module _ (doc : Doc) (k : ℕ) (q : Identity) (before : List Deed) (h now : List
       told = d.told;
       synced = d.synced;
     };
-    view = view_ticked doc k q now (evict doc k q n now) v (evict_ticked doc k q n now) w.view;
-    follows = sym (evict_next doc k q c n h now (later n there) named idle) ∙ w.follows;
+    view = view_ticked doc k q now (evict doc k q n now) v (evict_ticked doc k q w.own n now) w.view;
+    follows = sym (evict_next doc w.own k q c n h now (later n there) named idle) ∙ w.follows;
     due = λ p after_n.
         let less = less_is (key_cmp n p) after_n in
         has p ∙ ap (λ b. cond b false (contains key_cmp todo p)) (less_differs n p less)
         ∙ w.due p (more p less)
-        ∙ ap (is_by_now (wall doc q.process k)) (sym (evict_others doc k q n now kind p (less_differs n p less)));
+        ∙ ap (is_by_now (wall doc q.process k)) (sym (evict_others doc w.own k q n now kind p (less_differs n p less)));
     passed = λ p out. has p ∙ by_same p (key_eq n p) refl out;
     untouched = λ p after_n.
         let less = less_is (key_cmp n p) after_n in
-        evict_others doc k q n now kind p (less_differs n p less) ∙ w.untouched p (more p less);
+        evict_others doc w.own k q n now kind p (less_differs n p less) ∙ w.untouched p (more p less);
   }
     where
       kind : is_pod n.kind ≡ true
@@ -142,7 +147,7 @@ module _ (doc : Doc) (k : ℕ) (q : Identity) (before : List Deed) (h now : List
       by_same p false differ out = out_before p (ap is_gt (not_less (key_cmp n p) out (λ equal. false_is (sym differ ∙ ap is_eq equal))))
 
   pub end_history : ((p : Key) → contains key_cmp todo p ≡ false) → now ≡ evicted doc k q h
-  end_history empty = sym (evict_end doc k q c h now (λ p after_c. sym (w.due p after_c) ∙ empty p)) ∙ w.follows
+  end_history empty = sym (evict_end doc w.own k q c h now (λ p after_c. sym (w.due p after_c) ∙ empty p)) ∙ w.follows
 
   pub end_evicting : ((p : Key) → contains key_cmp todo p ≡ false) → MidTick q k before (evicted doc k q h) l s t
   end_evicting empty = subst (λ g. MidTick q k before g l s t) (end_history empty)
@@ -156,9 +161,9 @@ module _ (doc : Doc) (k : ℕ) (q : Identity) (before : List Deed) (h now : List
 
 -- ---- steps
 
-pub evict_costs : (doc : Doc) (k : ℕ) (q : Identity) (pod : Key) (h : List Entry) → is_by_now (wall doc q.process k) (seen_due q pod h) ≡ true → 2 + tick_cost q k h ≤ tick_cost q k (evict doc k q pod h)
-evict_costs doc k q pod h now =
+pub evict_costs : (doc : Doc) → IsOwn doc → (k : ℕ) (q : Identity) (pod : Key) (h : List Entry) → is_by_now (wall doc q.process k) (seen_due q pod h) ≡ true → 2 + tick_cost q k h ≤ tick_cost q k (evict doc k q pod h)
+evict_costs doc own k q pod h now =
     let found = by_now_seen (wall doc q.process k) q pod h now in
     let s = due_seen q pod h found.0 found.1 in
-    subst (λ g. 2 + tick_cost q k h ≤ tick_cost q k g) (sym (evict_adds doc k q pod h found.0 s found.2))
+    subst (λ g. 2 + tick_cost q k h ≤ tick_cost q k g) (sym (evict_adds doc own k q pod h found.0 s found.2))
     (cost_delete q k h pod s.x.0 s.y.0 found.0 (try_delete q pod s.x.0 s.x.1.node s.y.0 h))

@@ -11,11 +11,13 @@ use Rattle.kube_objects.specs.Document.{Doc}
 use Rattle.kube_objects.specs.Entry.{Entry, Identity, Mark, Pass}
 use Rattle.kube_objects.specs.Health.{grace_of, is_silent, is_unknown, lease_renewal, mark_of, marked, probe, renewal, with_mark}
 use Rattle.kube_objects.specs.Newest.{has, when}
+use Rattle.kube_objects.specs.Own.{IsOwn}
 use Rattle.kube_objects.specs.Answers.{as_kind, lease_in}
 use Rattle.kube_objects.specs.Seen.{seen, seen_lease, seen_node}
 use Rattle.kube_objects.specs.Stored.{Held, node_lease}
 use Rattle.kube_objects.specs.Tick.{add, for_each, mark_as, mark_seen, mark, marks}
 use Rattle.kube_objects.specs.Tries.{try_node}
+use Rattle.kube_objects.proofs.Own.{heard-own}
 use Rattle.history.specs.Printed.{reason_in}
 use Rattle.history_laws.proofs.Plainly.{false_is, true_is}
 use Rattle.node_health.specs.declared.grace.Grace.{Grace}
@@ -45,11 +47,11 @@ use Rattle.watch_cache.specs.Told.{AreNamed}
 
 -- ---- the verdict is the mark
 
-module _ (doc : Doc) (k : ℕ) (q : Identity) (name : ℕ) (node : Node) (h now : List Entry) (probes : (name : ℕ) → probe q name now ≡ probe q name (add k q Pass h)) where
+module _ (doc : Doc) (own : IsOwn doc) (k : ℕ) (q : Identity) (name : ℕ) (node : Node) (h now : List Entry) (probes : (name : ℕ) → probe q name now ≡ probe q name (add k q Pass h)) where
   pub mark_now : mark_of doc q k name node now ≡ mark_of doc q k name node (add k q Pass h)
   mark_now =
       ap (λ (at : ℕ). when (not (is_unknown node.ready) && nat_lt (local doc q.process at + grace_of doc node.ready) (local doc q.process k)) (with_mark (whole_second (wall doc q.process k)) node))
-      (probes name)
+      (heard-own doc own q name now ∙ probes name ∙ sym (heard-own doc own q name (add k q Pass h)))
 
   pub keep_none : Keep ≡ verdict_of (mark_of doc q k name node (add k q Pass h)) → mark_of doc q k name node now ≡ None
   keep_none is = mark_now ∙ by_test (not (is_unknown node.ready) && is_silent doc q k name node.ready (add k q Pass h)) is
@@ -89,12 +91,12 @@ pub record MarksBy (doc : Doc) (k : ℕ) (q : Identity) (now : List Entry) (name
   pub adds : add k q (Mark name given written (try_node q name given now)) now ≡ mark doc k q name now
   pub is : IsWrite (write.Mark reason) name written (try_node q name given now) (Mark name given written (try_node q name given now))
 
-pub marks_by : (doc : Doc) (k : ℕ) (q : Identity) (before : List Deed) (h now : List Entry) (looked : ℕ → Bool) (c : Cluster) (x : Health) (s : Store) (t : Told) (name : ℕ) (given : Version)
+pub marks_by : (doc : Doc) → IsOwn doc → (k : ℕ) (q : Identity) (before : List Deed) (h now : List Entry) (looked : ℕ → Bool) (c : Cluster) (x : Health) (s : Store) (t : Told) (name : ℕ) (given : Version)
     (node written : Node) (reason second at : ℕ) → IsPassing doc k q before h now looked c x s t → Some (given, node) ≡ seen_node q name now
     → MarkUnknown reason ≡ verdict_of (mark_of doc q k name node (add k q Pass h)) → at ≡ wall doc q.process k → second ≡ whole_second at → written ≡ with_mark second node
     → MarksBy doc k q now name given written reason
-marks_by doc k q before h now looked c x s t name given node written reason second at p sees says time second_is written_is =
-    let found = mark_some doc k q name node h now p.probes reason says in
+marks_by doc own k q before h now looked c x s t name given node written reason second at p sees says time second_is written_is =
+    let found = mark_some doc own k q name node h now p.probes reason says in
     let is : written ≡ with_mark (whole_second (wall doc q.process k)) node = written_is ∙ ap (λ n. with_mark n node) (second_is ∙ ap whole_second time) in
     record {
       adds = sym (mark_is doc k q name now (given, node) (Some (with_mark (whole_second (wall doc q.process k)) node)) (sym sees) found.0 ∙ ap (λ w. mark_as k q name given (Some w) now) (sym is));

@@ -6,7 +6,7 @@ use Rattle.std.specs.List.{list_any}
 use Rattle.std.specs.Ordering.{is_eq}
 use Rattle.std.proofs.lemmas.Bool.Decides.{nat_tests}
 use Rattle.kube_objects.specs.declared.deed.Deed.{Deed}
-use Rattle.kube_objects.specs.declared.settings.Settings2.{Settings2}
+use Rattle.kube_objects.specs.declared.settings.TickSettings.{TickSettings}
 use Rattle.kube_objects.specs.Clocks.{local}
 use Rattle.kube_objects.specs.Document.{Doc}
 use Rattle.kube_objects.specs.Entry.{Entry, Identity, Place as Zone, Zone as ZoneEntry}
@@ -43,7 +43,7 @@ pub record Zoning (doc : Doc) (k : ℕ) (q : Identity) (before : List Deed) (h :
   pub done : (place : Zone) → list_any (place_eq place) left ≡ false → LimitStands doc q now place (get zone_cmp kept (of_place place))
 
 -- what the caller owes
-pub record IsOwed (doc : Doc) (k : ℕ) (q : Identity) (before : List Deed) (h : List Entry) (counts : List ZoneCount) (on : Bool) (zones : Zones) (settings : Settings2) (reading : ℕ) (told : Told) : Type 0 where
+pub record IsOwed (doc : Doc) (k : ℕ) (q : Identity) (before : List Deed) (h : List Entry) (counts : List ZoneCount) (on : Bool) (zones : Zones) (settings : TickSettings) (reading : ℕ) (told : Told) : Type 0 where
   pub printed : IsTold q k before h told
   pub passed : ArePassed doc q h zones
   pub counted : counts ≡ zone_counts (nodes q h)
@@ -61,7 +61,7 @@ some_not n some none = false_is (sym (ap (λ n. nat_lt 0 n) none) ∙ some)
 none_is : (n : ℕ) → nat_lt 0 n ≡ false → n ≡ 0
 none_is n none = grind (arith, nat_tests, none)
 
-pub zoning_begins : (doc : Doc) (k : ℕ) (q : Identity) (before : List Deed) (h : List Entry) (counts : List ZoneCount) (on : Bool) (zones : Zones) (settings : Settings2) (reading : ℕ) (told : Told) (kept : BTreeMap Place Limit)
+pub zoning_begins : (doc : Doc) (k : ℕ) (q : Identity) (before : List Deed) (h : List Entry) (counts : List ZoneCount) (on : Bool) (zones : Zones) (settings : TickSettings) (reading : ℕ) (told : Told) (kept : BTreeMap Place Limit)
     → IsOwed doc k q before h counts on zones settings reading told → ((p : Place) → get zone_cmp kept p ≡ None) → Zoning doc k q before h counts kept zones told
 zoning_begins doc k q before h counts on zones settings reading told kept owed none =
     record {
@@ -177,7 +177,7 @@ zoning_goes_on doc k q before h rest others kept after zones removed told new z 
         (other place (get zone_cmp kept (of_place place)) apart (z.done place (ap (list_any (place_eq place)) left_is ∙ ap (λ b. b || list_any (place_eq place) ps) (turned place apart) ∙ is)))
 
 -- the code's step, by what its calls tell
-module _ (doc : Doc) (k : ℕ) (q : Identity) (before : List Deed) (h : List Entry) (counts : List ZoneCount) (on : Bool) (first : Zones) (settings : Settings2) (reading : ℕ) (told_first : Told)
+module _ (doc : Doc) (k : ℕ) (q : Identity) (before : List Deed) (h : List Entry) (counts : List ZoneCount) (on : Bool) (first : Zones) (settings : TickSettings) (reading : ℕ) (told_first : Told)
     (owed : IsOwed doc k q before h counts on first settings reading told_first) (rest others : List ZoneCount) (one : ZoneCount) (kept after : BTreeMap Place Limit) (zones removed : Zones) (told new : Told)
     (z : Zoning doc k q before h rest kept zones told) (head : rest ≡ one ∷ others) (old : Option Limit) (found : old ≡ get zone_cmp zones.limits one.place)
     (taken : (p : Place) → get zone_cmp removed.limits p ≡ cond (is_eq (zone_cmp one.place p)) None (get zone_cmp zones.limits p)) (state : ZoneState) (rate : ℕ) (limit : Limit) (is : Bool)

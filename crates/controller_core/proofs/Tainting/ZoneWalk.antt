@@ -9,8 +9,10 @@ use Rattle.kube_objects.specs.Document.{Doc}
 use Rattle.kube_objects.specs.Entry as entry
 use Rattle.kube_objects.specs.Entry.{Entry, Identity}
 use Rattle.kube_objects.specs.Modes.{nodes, place_cmp, place_eq, places}
+use Rattle.kube_objects.specs.Own.{IsOwn}
 use Rattle.kube_objects.specs.Tainting.{queued, waits}
 use Rattle.kube_objects.specs.Tick.{for_each, taint, tainted}
+use Rattle.kube_objects.proofs.Own.{tainted-own}
 use Rattle.history_laws.proofs.Plainly.{false_is}
 use Rattle.object_store.specs.declared.store.Store.{Store}
 use Rattle.taint_zones.specs.declared.place.Place.{Place}
@@ -137,18 +139,20 @@ place_apart a b less = ap is_eq less
 -- ---- h is the history at the start, now the one that is reached, and c the zone that the walk is at
 
 pub record Walking (doc : Doc) (q : Identity) (k : ℕ) (before : List Deed) (h now : List Entry) (c : Option Place) (z : Zones) (t : Cluster) (s : Store) (v : View) (told : Told) : Type 0 where
+  pub own : IsOwn doc
   pub heading : Heading doc q k before now z t s told
   pub view : IsView doc k q now v
   pub follows : for_each (taint doc k q) (after place_cmp (entry_at c) (places (nodes q h))) now ≡ tainted doc k q h
   pub elsewhere : (zone : entry.Place) → is_after place_cmp (entry_at c) zone ≡ true → (m : ℕ) → waits q zone m now ≡ waits q zone m h
 
-pub begin_walk : (doc : Doc) (q : Identity) (k : ℕ) (before : List Deed) (h : List Entry) (z : Zones) (t : Cluster) (s : Store) (v : View) (told : Told) → Heading doc q k before h z t s told → IsView doc k q h v
+pub begin_walk : (doc : Doc) (q : Identity) (k : ℕ) (before : List Deed) (h : List Entry) (z : Zones) (t : Cluster) (s : Store) (v : View) (told : Told) → IsOwn doc → Heading doc q k before h z t s told → IsView doc k q h v
     → Walking doc q k before h h None z t s v told
-begin_walk doc q k before h z t s v told heading view =
+begin_walk doc q k before h z t s v told own heading view =
     record {
+      own = own;
       heading = heading;
       view = view;
-      follows = ap (λ zones. for_each (taint doc k q) zones h) (after_none place_cmp places_strict (places (nodes q h)));
+      follows = ap (λ zones. for_each (taint doc k q) zones h) (after_none place_cmp places_strict (places (nodes q h))) ∙ sym (tainted-own doc own k q h);
       elsewhere = λ zone later m. refl;
     }
 
@@ -157,6 +161,7 @@ pub next_walk : (doc : Doc) (q : Identity) (k : ℕ) (before : List Deed) (h now
     → Walking doc q k before h (taint doc k q (entry_place p) now) (Some p) y u r v more
 next_walk doc q k before h now c p z y t u s r v told more w (later, between) heading =
     record {
+      own = w.own;
       heading = heading;
       view = view_ticked doc k q now (taint doc k q (entry_place p) now) v (taint_ticked doc k q (entry_place p) now) w.view;
       follows = sym (walk_to place_cmp places_strict (taint doc k q) (entry_at c) (entry_place p) (places (nodes q h)) now (after_is c p later) (places_ascend (nodes q h)) idle out) ∙ w.follows;

@@ -3,6 +3,7 @@ ghost use Rattle.std.specs.Prelude.{◌≡◌, ◌≤◌, ◌+◌, ℕ, Bool, tr
 ghost use Rattle.kube_objects.specs.Clocks.{wall};
 ghost use Rattle.kube_objects.specs.Document.{Doc};
 ghost use Rattle.kube_objects.specs.Entry.{Delete, Entry, Identity};
+ghost use Rattle.kube_objects.specs.Own.{IsOwn};
 ghost use Rattle.kube_objects.specs.Seen.{is_pod};
 ghost use Rattle.kube_objects.specs.Tick as tick;
 ghost use Rattle.kube_base.specs.declared.numbers.Version.{Version};
@@ -62,7 +63,7 @@ pub(crate) fn evict_one<L>(
     pod: Key,
 ) -> Result<(), NoMemory>
     ensures stands { (doc : Doc) (k : ℕ) (q : Identity) (before : List Deed) (h : List Entry) (pods : Key → Bool)
-        → Deleting q k before h pods cluster.old store.old told.old → IsView doc k q h view.entry.now
+        → IsOwn doc → Deleting q k before h pods cluster.old store.old told.old → IsView doc k q h view.entry.now
         → is_by_now (wall doc q.process k) (seen_due q pod h) ≡ true
         → OnOk result (Deleting q k before (tick.evict doc k q pod h) (but_pod pod pods) cluster.new store.new told.new) }
     ensures counted { steps.new ≤ steps.old + 1 }

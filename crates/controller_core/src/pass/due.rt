@@ -4,6 +4,7 @@ ghost use Rattle.kube_objects.specs.Clocks.{local};
 ghost use Rattle.kube_objects.specs.Document.{Doc, of_millis};
 ghost use Rattle.kube_objects.specs.Entry.{Entry, Identity};
 ghost use Rattle.kube_objects.specs.Health.{is_pass_due};
+ghost use Rattle.kube_objects.specs.Own.{IsOwn};
 ghost use Rattle.controller_core.specs.Passing.{LastStands};
 
 use kube_base::Local;
@@ -18,7 +19,7 @@ pub(crate) fn of_millis(millis: u32) -> u64
 
 /// Whether a tick has a pass: the first of a term, and then one a period after the last.
 pub(crate) fn is_due(last: Option<Local>, period: u64, now: Local) -> bool
-    ensures { (doc : Doc) (k : ℕ) (q : Identity) (h : List Entry) → LastStands doc q h last
+    ensures { (doc : Doc) (k : ℕ) (q : Identity) (h : List Entry) → IsOwn doc → LastStands doc q h last
         → period ≡ of_millis doc.settings.monitor_period_millis → now.0 ≡ local doc q.process k → result ≡ is_pass_due doc k q h }
 {
     match last {

@@ -18,7 +18,7 @@ ghost use Rattle.zone_counts.specs.Counted.{zone_counts};
 ghost use Rattle.zone_counts.specs.Settings.{AreSettings};
 
 use kube_base::{Local, NoMemory};
-use kube_objects::{Act, Settings2, ZoneState};
+use kube_objects::{Act, TickSettings, ZoneState};
 use rate_bucket::Bucket;
 use std::alloc::Global;
 use std::collections::BTreeMap;
@@ -86,7 +86,7 @@ pub(crate) fn set_zones(
     counts: &[ZoneCount],
     on: bool,
     zones: &mut Zones,
-    settings: &Settings2,
+    settings: &TickSettings,
     policies: &Policies,
     view: &View,
     told: &mut Told,

@@ -82,6 +82,13 @@ impl World {
         tell(deeds, self.beat, process.actor(), pause_act(up, beats))
     }
 
+    // A stall of the store is told. From when to when it stands still is known from the start.
+    pub(super) fn stall(&self, beats: u32, deeds: &mut Deeds) -> Result<(), NoMemory>
+        ensures { OnOk result (Happens self.now deeds.old self.now deeds.new (What.Stall beats)) }
+    {
+        tell(deeds, self.beat, Actor::Script, Some(Act::Stall(beats)))
+    }
+
     // An object is stored under its key.
     pub(super) fn put(
         &mut self,

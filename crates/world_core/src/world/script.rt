@@ -107,6 +107,7 @@ impl World {
             What::Start(who) => self.start(who, deeds),
             What::Stop(who) => self.stop(who, deeds),
             What::Pause(who, beats) => self.pause(who, beats, deeds),
+            What::Stall(beats) => self.stall(beats, deeds),
             What::Put(key, object) => self.put(key, object, deeds),
             What::Remove(key) => self.remove(key, deeds),
         }
@@ -127,6 +128,7 @@ fn copy_of(what: &What) -> Result<What, NoMemory>
         What::Watch(who, on) => Ok(What::Watch(*who, *on)),
         What::Ready(who, status) => Ok(What::Ready(*who, *status)),
         What::Pause(who, beats) => Ok(What::Pause(*who, *beats)),
+        What::Stall(beats) => Ok(What::Stall(*beats)),
         What::Put(key, object) => Ok(What::Put(*key, object.copy()?)),
         What::Remove(key) => Ok(What::Remove(*key)),
     }

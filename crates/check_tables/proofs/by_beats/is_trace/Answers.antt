@@ -19,6 +19,12 @@ all_deeds-requires-clause-named c =
     let d = c.in-Some.played in
     c.documents_are_lawful.ensures.named c.as_bytes-bytes.result.now d (found walk c.in_ok-played.field-0 d c.in_ok-played.ensures c.in-Some.is)
 
+pub write_lines-requires-clause-lawful : goal.write_lines-requires-clause-lawful
+write_lines-requires-clause-lawful c =
+    let walk = document_walk c.as_bytes-bytes.result.now in
+    let d = c.in-Some-2.named in
+    c.documents_are_lawful.ensures.lawful c.as_bytes-bytes.result.now d (found walk c.in_ok-named.field-0 d c.in_ok-named.ensures c.in-Some-2.is)
+
 pub write_lines-requires-clause-named : goal.write_lines-requires-clause-named
 write_lines-requires-clause-named c =
     let walk = document_walk c.as_bytes-bytes.result.now in

@@ -13,10 +13,10 @@ use Rattle.controller_core.proofs.Evicting.Walking.{begin_evicting, end_evicting
 use Rattle.controller_core.proofs.evict.evict.Goals as goal
 
 pub loop-pod-init : goal.loop-pod-init
-loop-pod-init g c doc k q before h r v = (
+loop-pod-init g c doc k q before h own r v = (
   h,
   None,
-  begin_evicting doc k q before h c.in_ok-todo.todo c.take_due.new.self c.args.store.now c.args.view.now c.args.told.now
+  begin_evicting doc k q before h c.in_ok-todo.todo c.take_due.new.self c.args.store.now c.args.view.now c.args.told.now own
       (record {
         cluster = c.in_ok-todo.ensures.stands q h r.cluster;
         moved = λ n out. r.moved n (sym (c.in_ok-todo.ensures.moved n) ∙ out);
@@ -29,8 +29,8 @@ loop-pod-init g c doc k q before h r v = (
 )
 
 pub loop-pod-preserved : goal.loop-pod-preserved
-loop-pod-preserved g c doc k q before h r v =
-    let i = c.loop-pod.invariant doc k q before h r v in
+loop-pod-preserved g c doc k q before h own r v =
+    let i = c.loop-pod.invariant doc k q before h own r v in
     let n = c.in-Some.pod in
     let todo = c.loop-pod.todo in
     let left = c.pop_first.new.self in
@@ -41,8 +41,8 @@ loop-pod-preserved g c doc k q before h r v =
       evict doc k q n i.0,
       Some n,
       next_evicting doc k q before h i.0 i.1 todo c.loop-pod.cluster c.loop-pod.store c.args.view.now c.loop-pod.told i.2 n left c.evict_one.new.cluster c.evict_one.new.store c.evict_one.new.told
-          there least has (c.in_ok-evict_one.ensures.stands doc k q before i.0 (λ p. contains key_cmp todo p) i.2.deleting i.2.view due),
-      omega (arith, i.3, c.in-Some.ensures.len, c.in_ok-evict_one.ensures.counted, evict_costs doc k q n i.0 due),
+          there least has (c.in_ok-evict_one.ensures.stands doc k q before i.0 (λ p. contains key_cmp todo p) own i.2.deleting i.2.view due),
+      omega (arith, i.3, c.in-Some.ensures.len, c.in_ok-evict_one.ensures.counted, evict_costs doc own k q n i.0 due),
     )
 
 empty_any : (f : Key → Bool) (xs : List Key) → (0 < length xs → ⊥) → list_any f xs ≡ false
@@ -54,8 +54,8 @@ empty_len [] h = refl
 empty_len (x ∷ xs) h = absurd (h (omega arith))
 
 pub returns : goal.returns
-returns g c doc k q before h r v =
-    let i = c.loop-pod.invariant doc k q before h r v in
+returns g c doc k q before h own r v =
+    let i = c.loop-pod.invariant doc k q before h own r v in
     let none = λ (p : Key). empty_any (is_at (key_cmp p)) c.loop-pod.todo.keys (λ more. false_is (c.in_default.ensures.variant.1 more)) in
     let same = end_history doc k q before h i.0 i.1 c.loop-pod.todo c.loop-pod.cluster c.loop-pod.store c.args.view.now c.loop-pod.told i.2 none in
     let zero : btree_set_len c.loop-pod.todo ≡ 0 = empty_len c.loop-pod.todo.keys (λ more. false_is (c.in_default.ensures.variant.1 more)) in

@@ -21,7 +21,7 @@ use Rattle.controller_core.proofs.pass.pass.Goals as goal
 pub returns-clause-stands : goal.returns-clause-stands
 returns-clause-stands g c doc k q before h r health limits last view s few =
     let due : is_pass_due doc k q h ≡ true =
-    sym (c.is_due.ensures doc k q h last (c.of_millis.ensures ∙ ap of_millis s.monitor) view.reading) ∙ c.if-not-is_due.false in
+    sym (c.is_due.ensures doc k q h s.own last (c.of_millis.ensures ∙ ap of_millis s.monitor) view.reading) ∙ c.if-not-is_due.false in
     let p = add k q Pass h in
     let m = marks doc k q p in
     let z = set_zones doc k q (moded doc k q h) in
@@ -29,7 +29,7 @@ returns-clause-stands g c doc k q before h r health limits last view s few =
     let are = c.in_ok-names.ensures.named q h no_node no_pod r.cluster r.synced in
     let first = run_pass q k before h c.args.cluster.now c.args.store.now c.args.told.now r in
     let graces : IsGraceOf doc (record { grace = c.of_millis-2.result; startup = c.of_millis-3.result }) =
-    record { grace = c.of_millis-2.ensures ∙ ap of_millis s.grace; startup = c.of_millis-3.ensures ∙ ap of_millis s.startup } in
+    record { grace = c.of_millis-2.ensures ∙ ap of_millis s.grace; startup = c.of_millis-3.ensures ∙ ap of_millis s.startup; own = s.own } in
     let all = c.in_ok-look_all.ensures doc k q before h first health view graces are in
     let looked = all.0 in
     let whole : HaveCost q k h z c.args.steps.now c.look_all.new.steps = omega (arith, all.1, cost_grows q k h Pass, rest_cost doc k q m) in

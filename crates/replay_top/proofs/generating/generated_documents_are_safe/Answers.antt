@@ -12,7 +12,7 @@ returns-clause-safe c s within =
       exclusive = c.lease_is_safe.ensures.exclusive doc premise sound;
       spacing = c.taints_are_spaced.ensures doc premise sound lawful.settings.secondary;
       not_early = c.evictions_are_timely.ensures.not_early doc;
-      prompt = c.evictions_are_timely.ensures.prompt doc;
+      prompt = c.evictions_are_timely.ensures.prompt doc sound.2;
     }
 
 pub returns-clause-timely : goal.returns-clause-timely

@@ -7,7 +7,7 @@ use Rattle.object_store.specs.StoreAnswers.{object_of}
 use Rattle.script_reader.specs.Documents.{doc_of}
 use Rattle.script_reader.specs.Lawful.{IsWellNamed}
 use Rattle.script_reader.specs.Walk.{numbers_of}
-use Rattle.world_core.specs.Worlds.{IsOwn, WorldStands, at_of, names_of}
+use Rattle.world_core.specs.Worlds.{WasRead, WorldStands, at_of, names_of}
 use Rattle.kube_base.specs.Names.{AreNames}
 use Rattle.replay_top.specs.State.{IsReadAgain, line_of, state, state_list, stored_after}
 use Rattle.replay_top.proofs.States.{items-stored, moved, ok-then, state-readable}
@@ -37,7 +37,7 @@ list_line-requires g c =
     let w = c.in_ok-world.world in
     let run = c.in_ok-world.ensures.stands doc c.requires.lawful c.in_ok-first.ensures.stands c.in_ok-first.ensures.ready.2 in
     let named : names_of w ≡ c.args.document.names = c.in_ok-world.ensures.names ∙ c.in_ok-first.ensures.names in
-    let own : IsOwn doc w = record { lawful = c.requires.lawful; named = subst (λ names. IsWellNamed names doc) (sym named) c.requires.named } in
+    let own : WasRead doc w = record { lawful = c.requires.lawful; named = subst (λ names. IsWellNamed names doc) (sym named) c.requires.named } in
     (c.in_ok-items.ensures.writable doc (at_of w) own run.stands run.within).timely
 
 pub returns-clause-text : goal.returns-clause-text

@@ -18,13 +18,13 @@ use Rattle.controller_core.specs.Deleting.{Deleting}
 use Rattle.controller_core.proofs.evict.attempt.evict_one.Goals as goal
 
 pub returns-in_default-clause-stands : goal.returns-in_default-clause-stands
-returns-in_default-clause-stands g c doc k q before h pods r v now =
+returns-in_default-clause-stands g c doc k q before h pods own r v now =
     let quiet : is_by_now c.args.view.now.wall.0 (seen_due q c.args.pod h) ≡ false =
     subst (λ o. IfNone o (is_by_now c.args.view.now.wall.0 (seen_due q c.args.pod h) ≡ false)) c.in_default.is (c.eviction.ensures.none q h no_node pods r.cluster r.synced) in
     absurd (false_is (sym (ap (λ n. is_by_now n (seen_due q c.args.pod h)) (sym v.time) ∙ quiet) ∙ now))
 
 pub returns-clause-stands : goal.returns-clause-stands
-returns-clause-stands g c doc k q before h pods r v now =
+returns-clause-stands g c doc k q before h pods own r v now =
     let pod = c.args.pod in
     let e = c.in-Some.eviction in
     let x = c.in-Some.ensures.some q h no_node pods r.cluster r.synced in
@@ -36,7 +36,7 @@ returns-clause-stands g c doc k q before h pods r v now =
     let after = add k q tick h in
     let answered : answer ≡ try_delete q pod e.given e.node e.node_given h = c.in_ok-answer.ensures.answer q h r.store v.passes in
     let adds : evict doc k q pod h ≡ after =
-    due_adds doc k q pod h (e.given, x.pod) (e.node_given, x.node) e.due.0 now x.sees_pod sees_node x.at
+    due_adds doc own k q pod h (e.given, x.pod) (e.node_given, x.node) e.due.0 now x.sees_pod sees_node x.at
     ∙ ap (λ n. add k q (Delete pod e.given e.node_given e.due.0 (try_delete q pod e.given n e.node_given h)) h) x.name
     ∙ ap (λ a. add k q (Delete pod e.given e.node_given e.due.0 a) h) (sym answered) in
     let change = delete_change q k h pod e.given e.node_given e.due.0 answer in

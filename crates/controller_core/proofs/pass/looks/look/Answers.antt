@@ -31,7 +31,7 @@ returns-in-Keep g c doc k q before h now looked p view graces new there same =
     let seen = look_is doc k q before h now looked c.args.cluster.now c.args.health.now c.args.store.now c.args.told.now name given node c.renew_time-renewed.result at c.args.grace.now p sees same
     (c.renew_time-renewed.ensures q now p.running.cluster p.running.synced) view.reading graces in
     let keeps : Keep ≡ verdict_of (mark_of doc q k name node (add k q Pass h)) = sym c.in-Keep.is ∙ c.in_ok-look.ensures.marks doc k q h looked p.health new seen in
-    let idle : mark doc k q name now ≡ now = mark_is doc k q name now (given, node) None (sym sees) (keep_none doc k q name node h now p.probes keeps) in
+    let idle : mark doc k q name now ≡ now = mark_is doc k q name now (given, node) None (sym sees) (keep_none doc graces.own k q name node h now p.probes keeps) in
     subst (λ g. IsPassing doc k q before h g (and_looked name looked) c.args.cluster.now c.look.new.self c.args.store.now c.args.told.now × HaveCost q k now g c.args.steps.now c.args.steps.now) (sym idle) (
       record { running = p.running; health = c.in_ok-look.ensures.stands doc k q h looked p.health new seen; leases = p.leases; probes = p.probes },
       omega arith,
@@ -47,7 +47,7 @@ returns-in_ok-try_write-in-MarkUnknown g c doc k q before h now looked p view gr
     let seen = look_is doc k q before h now looked c.args.cluster.now c.args.health.now c.args.store.now c.args.told.now name given node c.renew_time-renewed.result at c.args.grace.now p sees same
     (c.renew_time-renewed.ensures q now p.running.cluster p.running.synced) view.reading graces in
     let says : MarkUnknown c.in-MarkUnknown.reason ≡ verdict_of (mark_of doc q k name node (add k q Pass h)) = sym c.in-MarkUnknown.is ∙ c.in_ok-look.ensures.marks doc k q h looked p.health new seen in
-    let x = marks_by doc k q before h now looked c.args.cluster.now c.args.health.now c.args.store.now c.args.told.now name given node c.in_ok-written-in-MarkUnknown.written c.in-MarkUnknown.reason
+    let x = marks_by doc graces.own k q before h now looked c.args.cluster.now c.args.health.now c.args.store.now c.args.told.now name given node c.in_ok-written-in-MarkUnknown.written c.in-MarkUnknown.reason
     c.whole_second.result.0 c.args.view.now.wall.0 p sees says view.time c.whole_second.ensures c.in_ok-written-in-MarkUnknown.ensures in
     let tick = Mark name given c.in_ok-written-in-MarkUnknown.written (try_node q name given now) in (
       record {

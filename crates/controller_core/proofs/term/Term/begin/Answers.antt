@@ -30,7 +30,7 @@ went_same doc k q before h g t s o is w = subst (λ f. Went doc k q before f t s
 
 pub returns-then-not-is_synced : goal.returns-then-not-is_synced
 returns-then-not-is_synced g c doc k q before h s st told v start small =
-    let one = c.in_ok-sync.ensures.stands doc k q h s.cluster st s.reached v in
+    let one = c.in_ok-sync.ensures.stands doc k q h s.settings.own s.cluster st s.reached v in
     let unsynced : is_synced q (sync doc k q h) ≡ false = sym (c.is_synced.ensures q (sync doc k q h) one.0) ∙ c.if-not-is_synced.true in
     let same = unsynced_none doc k q h unsynced in
     let whole : tick doc k q h ≡ sync doc k q h = ap (λ b. (if b then phases doc k q (sync doc k q h) else (sync doc k q h))) unsynced in (
@@ -55,7 +55,7 @@ returns-then-not-is_synced g c doc k q before h s st told v start small =
 pub returns : goal.returns
 returns g c doc k q before h s st told v start small =
     let f = sync doc k q h in
-    let one = c.in_ok-sync.ensures.stands doc k q h s.cluster st s.reached v in
+    let one = c.in_ok-sync.ensures.stands doc k q h s.settings.own s.cluster st s.reached v in
     let synced : is_synced q f ≡ true = sym (c.is_synced.ensures q f one.0) ∙ c.if-not-is_synced.false in
     let beneath : before_tick q k f ≡ before_tick q k h = ticked_before q k h f (sync_ticked doc k q h) in
     let moved : IsMoved q k h c.args.self.now.cluster = λ n out place. ap (waits q place n) (sym start) in
@@ -65,7 +65,7 @@ returns g c doc k q before h s st told v start small =
       subst (λ f. Went doc k q before f c.act.new.self c.act.new.store c.act.new.told) (sym whole) (record {
         term = record {
           cluster = two.0.running.cluster;
-          reached = subst (AreReached q) whole (reached_after_tick doc k q h s.reached);
+          reached = subst (AreReached q) whole (reached_after_tick doc s.settings.own k q h s.reached);
           health = two.0.health;
           limits = two.0.limits;
           queues = two.0.queues;
@@ -81,16 +81,16 @@ returns g c doc k q before h s st told v start small =
     (c.act.ensures doc k q before f (record {
       running = record {
         cluster = one.0;
-        moved = c.in_ok-sync.ensures.moved doc k q h s.cluster st s.reached v moved beneath;
+        moved = c.in_ok-sync.ensures.moved doc k q h s.settings.own s.cluster st s.reached v moved beneath;
         store = c.in_ok-sync.ensures.store doc k q h st;
         told = told_synced doc k q before h c.args.told.now told;
         synced = synced;
       };
-      health = health-same doc q h f c.args.self.now.health (sync_says doc k q h) s.health;
-      limits = limits_stand doc q h f c.args.self.now.zones (sync_limits doc k q h) s.limits;
+      health = health-same doc q h f c.args.self.now.health (sync_says doc s.settings.own k q h) s.health;
+      limits = limits_stand doc q h f c.args.self.now.zones (sync_limits doc s.settings.own k q h) s.limits;
       queues = λ place n. s.queues place n ∙ ap (waits_since q place n) (sym (beneath ∙ start));
-      heads = sync_heads doc k q h (no_heads_start q k h start);
-      last = last_stands doc q h f c.args.self.now.last (sync_limits doc k q h).passed s.last;
+      heads = sync_heads doc s.settings.own k q h (no_heads_start q k h start);
+      last = last_stands doc q h f c.args.self.now.last (sync_limits doc s.settings.own k q h).passed s.last;
       range = s.range;
       settings = s.settings;
     }) (view_ticked doc k q h f c.args.view.now (sync_ticked doc k q h) v) small)

@@ -17,9 +17,9 @@ returns-clause-early c doc k q h s fits early =
     let stands = subst (LastStands doc q h) c.in_ok-last.was s.last in
     let is = period_is c.args.self.now.settings.monitor_period_millis period doc.settings.monitor_period_millis (sym s.settings.monitor) (ap (λ n. n * 1000000000) c.from-period.ensures) in
     let later : local doc q.process k < last.0 + period = omega (arith, early, fits, c.first_ready.ensures.least, c.saturating_add.ensures) in (
-      due_from doc k q h last period stands is ∙ not_yet (last.0 + period) (local doc q.process k) later,
+      due_from doc s.settings.own k q h last period stands is ∙ not_yet (last.0 + period) (local doc q.process k) later,
       λ place due.
-          let r = head_reading doc k q h place due in
+          let r = head_reading doc s.settings.own k q h place due in
           let le = c.first_ready.ensures.all doc q h place r.0 s r.2 in
           omega (arith, le, r.1, early),
     )
@@ -31,8 +31,8 @@ returns-clause-there c doc k q h s fits le =
     let stands = subst (LastStands doc q h) c.in_ok-last.was s.last in
     let is = period_is c.args.self.now.settings.monitor_period_millis period doc.settings.monitor_period_millis (sym s.settings.monitor) (ap (λ n. n * 1000000000) c.from-period.ensures) in
     either (c.first_ready.ensures.there doc q h s)
-    (λ given. inl (due_from doc k q h last period stands is ∙ le_true (last.0 + period) (local doc q.process k) (omega (arith, ap (λ at. at.0) given, le, fits, c.saturating_add.ensures))))
-    (λ head. inr (head.0, reading_head doc k q h head.0 c.first_ready.result.0 head.1 le))
+    (λ given. inl (due_from doc s.settings.own k q h last period stands is ∙ le_true (last.0 + period) (local doc q.process k) (omega (arith, ap (λ at. at.0) given, le, fits, c.saturating_add.ensures))))
+    (λ head. inr (head.0, reading_head doc s.settings.own k q h head.0 c.first_ready.result.0 head.1 le))
 
 pub returns-clause-reading : goal.returns-clause-reading
 returns-clause-reading c doc q h s =

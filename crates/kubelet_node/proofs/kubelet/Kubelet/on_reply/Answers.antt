@@ -26,7 +26,7 @@ returns-clause-counts c doc q h k call s now wall room is =
     let some : next_request doc q k call.request reply ≡ Some c.in-Some-next.request =
     sym (c.next.ensures.history doc q k call.request s.call.node s.call.lease wall awaited) ∙ c.in-Some-next.is in
     let free = c.finish.ensures.delivered doc q h k 3 call reply s.call.slot in
-    let asked = c.ask.ensures.history doc q g (followed doc k q call reply h) k 3 (call-with_reply doc k q call reply h self c.finish.new.self s.call free) now room (ap (λ o. send_next k q o g) some) in
+    let asked = c.ask.ensures.history doc q g (followed doc k q call reply h) k 3 (call-with_reply doc k q call reply h self c.finish.new.self s.call free) now room (ap (λ o. send_next doc k q o g) some) in
     let no_post : is_post c.ask.result.request ≡ false = ap is_post c.ask.ensures.asks.request ∙ c.in-Some-next.ensures.kind.2 in
     let timer = ap (λ x. x.timer.0) c.ask.ensures.changed ∙ s.timer ∙ sym (ap (λ b. cond b (local doc q.process k + round_period doc) (round_timer doc q g)) no_post) in
     let runs = runs-with_reply doc k q call reply h c.in-Some-next.request s.runs waits some in

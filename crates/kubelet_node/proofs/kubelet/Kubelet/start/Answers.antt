@@ -16,7 +16,7 @@ returns-clause-stands c doc q h k step node incarnation lease timeout now none =
         incarnation = incarnation;
         lease = lease;
         timeout = timeout;
-        slot = record { begun = slot.begun; waiting = slot.waiting };
+        slot = record { begun = slot.begun; waiting = slot.waiting; ordinary = slot.ordinary };
         waiting = sym (ap (waiting_in doc q) idle);
       };
       timer = now ∙ sym (timer-started doc q h k step);

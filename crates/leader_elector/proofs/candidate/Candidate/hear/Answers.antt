@@ -21,7 +21,7 @@ pub returns-in-Fails-clause-counts : goal.returns-in-Fails-clause-counts
 returns-in-Fails-clause-counts c doc q h k call s now wall room is =
     let g = with_reply k q call c.args.reply.now h in
     let t = c.in-Some.ensures.counts doc q h k call s.elector s.leads now wall is in (
-      ap (λ f. react k q (leads q h) f g) (sym t.0 ∙ ap follow_of c.in-Fails.is),
+      ap (λ f. react doc k q (leads q h) f g) (sym t.0 ∙ ap follow_of c.in-Fails.is),
       record {
         elector = t.1;
         settled = settled-own q h k 3 (Delivers call c.args.reply.now true) (λ n. refl);
@@ -33,8 +33,8 @@ pub returns-in-Asks-clause-counts : goal.returns-in-Asks-clause-counts
 returns-in-Asks-clause-counts c doc q h k call s now wall room is =
     let g = with_reply k q call c.args.reply.now h in
     let t = c.in-Some.ensures.counts doc q h k call s.elector s.leads now wall is in
-    let asks : reacted doc k q call c.args.reply.now h ≡ send k 3 q Plain c.in-Asks.request g = ap (λ f. react k q (leads q h) f g) (sym t.0 ∙ ap follow_of c.in-Asks.is) in
-    let a : Asked k 3 q g (reacted doc k q call c.args.reply.now h) (λ x. ElectorStands doc q x c.ask.new.self) c.ask.result = c.ask.ensures.history doc q g _ k 3 t.1 now room asks in
+    let asks : reacted doc k q call c.args.reply.now h ≡ send doc k 3 q Plain c.in-Asks.request g = ap (λ f. react doc k q (leads q h) f g) (sym t.0 ∙ ap follow_of c.in-Asks.is) in
+    let a : Asked doc k 3 q g (reacted doc k q call c.args.reply.now h) (λ x. ElectorStands doc q x c.ask.new.self) c.ask.result = c.ask.ensures.history doc q g _ k 3 t.1 now room asks in
     record {
       kind = a.kind;
       sent = a.sent;
@@ -52,7 +52,7 @@ returns-in-Succeeds-clause-counts c doc q h k call s now wall room is =
     let version = c.in-Succeeds.field-0 in
     let t = c.in-Some.ensures.counts doc q h k call s.elector s.leads now wall is in
     let next : reacted doc k q call c.args.reply.now h ≡ entry k 3 q (Leads version) ∷ g =
-    ap (λ f. react k q (leads q h) f g) (sym t.0 ∙ ap follow_of c.in-Succeeds.is) ∙ ap (λ b. (if b then g else entry k 3 q (Leads version) ∷ g)) s.leads in
+    ap (λ f. react doc k q (leads q h) f g) (sym t.0 ∙ ap follow_of c.in-Succeeds.is) ∙ ap (λ b. (if b then g else entry k 3 q (Leads version) ∷ g)) s.leads in
     (version, next, record { elector = subst (λ e. ElectorStands doc q g e) (sym c.win.ensures.0) t.1; now = ap (λ (x : Local). x.0) c.win.ensures.1 ∙ now })
 
 pub returns-in_default-clause-takes : goal.returns-in_default-clause-takes

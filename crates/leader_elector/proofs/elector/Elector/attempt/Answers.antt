@@ -16,4 +16,4 @@ pub returns-clause-history : goal.returns-clause-history
 returns-clause-history c doc q h k s led expired now wall room =
     let reached : timer doc q h ≤ local doc q.process k = subst (λ x. x ≤ local doc q.process k) s.timer (subst (λ x. c.args.self.now.timer.0 ≤ x) now c.if-now-self.false) in
     let ready : (not (has (call_in q h)) && not (nat_lt (local doc q.process k) (timer doc q h))) ≡ true = due _ _ _ (sym (c.is_idle.ensures.call doc q h s.slot) ∙ c.if-not-is_idle.false) reached in
-    subst (λ x. Asked k 4 q h x (λ y. ElectorStands doc q y c.begin.new.self) c.begin.result) (sym (try-due doc k q h (sym expired ∙ c.if-expired.false) ready)) (c.begin.ensures.history doc q h k s led now wall room)
+    subst (λ x. Asked doc k 4 q h x (λ y. ElectorStands doc q y c.begin.new.self) c.begin.result) (sym (try-due doc k q h (sym expired ∙ c.if-expired.false) ready)) (c.begin.ensures.history doc q h k s led now wall room)

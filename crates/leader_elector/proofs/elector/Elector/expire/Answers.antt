@@ -42,12 +42,12 @@ returns-else-not-fast-clause-stands c doc q h k s now =
 
 pub returns-else-not-fast-clause-fast : goal.returns-else-not-fast-clause-fast
 returns-else-not-fast-clause-fast c doc q h k s settled now =
-    c.is_fast-fast.ensures ∙ ap is_fast_wait s.waiting ∙ sym (expiry-fast doc k q h (call_in q h) (sym (c.expired.ensures.call doc q h k s.slot now s.timing.timeout) ∙ c.if-not-expired.false))
+    c.is_fast-fast.ensures ∙ ap is_fast_wait s.waiting ∙ sym (expiry-fast doc k q h (call_in q h) s.slot.ordinary (sym (c.expired.ensures.call doc q h k s.slot now s.timing.timeout) ∙ c.if-not-expired.false))
 
 pub returns-then-not-fast-clause-fast : goal.returns-then-not-fast-clause-fast
 returns-then-not-fast-clause-fast c doc q h k s settled now =
-    c.is_fast-fast.ensures ∙ ap is_fast_wait s.waiting ∙ sym (expiry-fast doc k q h (call_in q h) (sym (c.expired.ensures.call doc q h k s.slot now s.timing.timeout) ∙ c.if-not-expired.false))
+    c.is_fast-fast.ensures ∙ ap is_fast_wait s.waiting ∙ sym (expiry-fast doc k q h (call_in q h) s.slot.ordinary (sym (c.expired.ensures.call doc q h k s.slot now s.timing.timeout) ∙ c.if-not-expired.false))
 
 pub returns-then-not-fast-clause-settled : goal.returns-then-not-fast-clause-settled
 returns-then-not-fast-clause-settled c doc q h k s settled now slow =
-    expiry-settled doc k q h (call_in q h) (sym (c.expired.ensures.call doc q h k s.slot now s.timing.timeout) ∙ c.if-not-expired.false) (sym (ap is_fast_wait s.waiting) ∙ sym c.is_fast-fast.ensures ∙ slow)
+    expiry-settled doc k q h (call_in q h) s.slot.ordinary (sym (c.expired.ensures.call doc q h k s.slot now s.timing.timeout) ∙ c.if-not-expired.false) (sym (ap is_fast_wait s.waiting) ∙ sym c.is_fast-fast.ensures ∙ slow)

@@ -1,7 +1,8 @@
-use Rattle.std.proofs.Common.{◌≡◌, ◌∙◌, false, cond, refl, sym, ap}
+use Rattle.std.proofs.Common.{◌≡◌, ◌∙◌, true, false, cond, refl, sym, ap}
 use Rattle.kube_objects.specs.declared.call.Request.TheVariants.{Create, Update}
-use Rattle.kube_objects.specs.Elector.{Fails, Asks, follow_get, is_blocked, updated}
+use Rattle.kube_objects.specs.Elector.{Fails, Asks, follow_get, is_blocked, moment, respected, updated}
 use Rattle.kube_objects.specs.Stored.{election}
+use Rattle.kube_objects.proofs.Own.{respected-own}
 use Rattle.leader_elector.specs.Plain.{identity_of, moment_of}
 use Rattle.leader_elector.specs.Stands.{observed_of}
 use Rattle.leader_elector.proofs.elector.Elector.follow_get.Goals as goal
@@ -23,3 +24,31 @@ returns-else-is_blocked-clause-moment c =
     ap (λ l. Asks (Update election version l)) (c.update_of.ensures.moment c.args.now.0)
     ∙ sym (ap (λ b. cond b Fails (Asks (Update election version (updated q m lease)))) free)
     ∙ ap (follow_get q m (observed_of self.seen)) (sym c.in-Found.is)
+
+pub returns-then-is_blocked-clause-history : goal.returns-then-is_blocked-clause-history
+returns-then-is_blocked-clause-history c doc q k me incarnation timing now wall =
+    let m = moment doc q k in
+    let seen = observed_of c.args.self.now.seen in
+    let version = c.in-Found.version in
+    let lease = c.in-Found.lease in
+    let blocked : is_blocked q m.now seen (respected m.respect m.seconds lease) ≡ true =
+    ap (is_blocked q m.now seen) (respected-own doc timing.own q k lease)
+    ∙ ap (λ n. is_blocked q n seen lease) (sym now)
+    ∙ sym (c.is_blocked.ensures q me incarnation)
+    ∙ c.if-is_blocked.true in
+    sym (ap (λ b. cond b Fails (Asks (Update election version (updated q m lease)))) blocked) ∙ ap (follow_get q m seen) (sym c.in-Found.is)
+
+pub returns-else-is_blocked-clause-history : goal.returns-else-is_blocked-clause-history
+returns-else-is_blocked-clause-history c doc q k me incarnation timing now wall =
+    let m = moment doc q k in
+    let seen = observed_of c.args.self.now.seen in
+    let version = c.in-Found.version in
+    let lease = c.in-Found.lease in
+    let free : is_blocked q m.now seen (respected m.respect m.seconds lease) ≡ false =
+    ap (is_blocked q m.now seen) (respected-own doc timing.own q k lease)
+    ∙ ap (λ n. is_blocked q n seen lease) (sym now)
+    ∙ sym (c.is_blocked.ensures q me incarnation)
+    ∙ c.if-is_blocked.false in
+    ap (λ l. Asks (Update election version l)) (c.update_of.ensures.history doc q k me incarnation timing wall)
+    ∙ sym (ap (λ b. cond b Fails (Asks (Update election version (updated q m lease)))) free)
+    ∙ ap (follow_get q m seen) (sym c.in-Found.is)

@@ -1,12 +1,13 @@
 use Rattle.std.proofs.Common.{◌≡◌, ◌∙◌, ◌+◌, Option, Some, None, sym, ap, subst}
 use Rattle.kube_objects.specs.declared.call.Request.{Request}
 use Rattle.kube_objects.specs.Document.{retry_period}
-use Rattle.kube_objects.specs.Elector.{follow_on, newly, observed_at, timer_follow, told}
+use Rattle.kube_objects.specs.Elector.{follow_on, newly, observed_at, told}
 use Rattle.kube_objects.specs.Entry.{CallKind}
 use Rattle.kube_objects.specs.Newest.{or_else}
 use Rattle.kube_objects.specs.Turns.{with_reply}
 use Rattle.kube_objects.proofs.OwnCalls.{counted-call}
 use Rattle.leader_elector.specs.Moves.{last_of}
+use Rattle.leader_elector.specs.Plain.{next_attempt}
 use Rattle.leader_elector.specs.Stands.{IsTimingOf, Wait, follow_of, kind_of, observed_of, shown_of, waiting_in, waiting_of}
 use Rattle.leader_elector.proofs.Replies.{with_reply-stands, observed_at-with_reply}
 use Rattle.leader_elector.proofs.elector.Elector.receive.Goals as goal
@@ -41,5 +42,5 @@ returns-clause-counts c doc q h k call s led now wall is =
     c.follow-follow.ensures.history doc q g k (ap (λ x. x.me.0) noted_is ∙ s.process) (ap (λ x. x.incarnation) noted_is ∙ s.incarnation) (subst (λ t. IsTimingOf doc q.process t) (sym timing_is) s.timing) now wall observed_is
     ∙ (λ i. follow_on doc q k (kind i) (request i) reply g) in
     let retry : noted.timing.retry ≡ retry_period doc q.process = ap (λ t. t.retry) timing_is ∙ s.timing.retry in
-    let timer_is = c.set_timer.ensures.timer ∙ (λ i. or_else noted.timer.0 (timer_follow (follow_is i) (sym led i) (now i + retry i))) in
+    let timer_is = c.set_timer.ensures.timer ∙ (λ i. or_else noted.timer.0 (next_attempt (follow_is i) (sym led i) (now i + retry i))) in
     (follow_is, with_reply-stands doc k q call reply h self noted c.set_timer.new.self c.finish.new.self s (c.finish.ensures.delivered doc q h k 3 call reply s.slot) noted_is shown_is observed_is c.set_timer.ensures.changed timer_is)

@@ -14,22 +14,22 @@ use Rattle.leader_elector.proofs.elector.Elector.renew.Goals as goal
 
 pub returns-in_default-clause-history : goal.returns-in_default-clause-history
 returns-in_default-clause-history c doc q h k s now wall room =
-    c.ask.ensures.history doc q h _ k 4 s now room (ap (λ x. send k 4 q (attempt_from q (moment doc q k) (observed_at doc q h) x).0 (attempt_from q (moment doc q k) (observed_at doc q h) x).1 h) (sym s.shown ∙ ap shown_of c.in_default.is))
+    c.ask.ensures.history doc q h _ k 4 s now room (ap (λ x. send doc k 4 q (attempt_from q (moment doc q k) (observed_at doc q h) x).0 (attempt_from q (moment doc q k) (observed_at doc q h) x).1 h) (sym s.shown ∙ ap shown_of c.in_default.is))
 
 pub returns-then-not-is_renewable-clause-history : goal.returns-then-not-is_renewable-clause-history
 returns-then-not-is_renewable-clause-history c doc q h k s now wall room =
     let seen = c.in-Some.seen in
     let is = attempt_from-seen doc q k c.args.now.0 (observed_at doc q h) seen (shown q h) c.is_renewable.result (sym s.shown ∙ ap shown_of c.in-Some.is) (sym s.observed ∙ ap observed_of c.in-Some.is) now (c.is_renewable.ensures q s.process s.incarnation) in
     c.ask-then-not-is_renewable.ensures.history doc q h _ k 4 s now room
-    (ap (λ x. send k 4 q x.0 x.1 h) (is ∙ ap (λ b. cond b (Fast, Update election seen.version (renewed q (moment doc q k) seen.lease)) (Plain, Get election)) c.if-not-is_renewable.true))
+    (ap (λ x. send doc k 4 q x.0 x.1 h) (is ∙ ap (λ b. cond b (Fast, Update election seen.version (renewed q (moment doc q k) seen.lease)) (Plain, Get election)) c.if-not-is_renewable.true))
 
 pub returns-clause-history : goal.returns-clause-history
 returns-clause-history c doc q h k s now wall room =
     let seen = c.in-Some.seen in
     let is = attempt_from-seen doc q k c.args.now.0 (observed_at doc q h) seen (shown q h) c.is_renewable.result (sym s.shown ∙ ap shown_of c.in-Some.is) (sym s.observed ∙ ap observed_of c.in-Some.is) now (c.is_renewable.ensures q s.process s.incarnation) in
     c.ask-2.ensures.history doc q h _ k 4 s now room
-    (ap (λ x. send k 4 q x.0 x.1 h) (is ∙ ap (λ b. cond b (Fast, Update election seen.version (renewed q (moment doc q k) seen.lease)) (Plain, Get election)) c.if-not-is_renewable.false)
-    ∙ ap (λ l. send k 4 q Fast (Update election seen.version l) h) (sym (c.renewal-lease.ensures.history doc q k s.process s.incarnation s.timing wall)))
+    (ap (λ x. send doc k 4 q x.0 x.1 h) (is ∙ ap (λ b. cond b (Fast, Update election seen.version (renewed q (moment doc q k) seen.lease)) (Plain, Get election)) c.if-not-is_renewable.false)
+    ∙ ap (λ l. send doc k 4 q Fast (Update election seen.version l) h) (sym (c.renewal-lease.ensures.history doc q k s.process s.incarnation s.timing wall)))
 
 pub returns-clause-asks : goal.returns-clause-asks
 returns-clause-asks c =

@@ -10,7 +10,7 @@ returns-clause-history c doc q h k step me incarnation timing now new =
       process = me;
       incarnation = incarnation;
       timing = timing;
-      slot = record { begun = slot.begun; waiting = slot.waiting };
+      slot = record { begun = slot.begun; waiting = slot.waiting; ordinary = slot.ordinary };
       waiting = sym (ap (waiting_in doc q) new.call);
       shown = sym new.shown;
       observed = sym new.observed;

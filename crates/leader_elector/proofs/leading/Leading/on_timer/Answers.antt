@@ -1,12 +1,13 @@
 use Rattle.std.proofs.Common.{◌≡◌, ◌∙◌, ◌+◌, ◌<◌, ◌^◌, Some, nat_lt, sym, ap, subst, refl, true, false}
-use Rattle.std.specs.Prelude.{◌∷◌, if◌then◌else◌}
+use Rattle.std.specs.Prelude.{if◌then◌else◌}
 use Rattle.kube_objects.specs.Clocks.{local}
 use Rattle.kube_objects.specs.Elector.{deadline, leads}
-use Rattle.kube_objects.specs.Entry.{Sends, entry, Ends}
+use Rattle.kube_objects.specs.Entry.{Sends}
 use Rattle.kube_objects.specs.Identities.{identity}
 use Rattle.kube_objects.specs.Process.{begun, call_in}
-use Rattle.kube_objects.specs.Turns.{end_term, try, expired}
+use Rattle.kube_objects.specs.Turns.{end_as, end_term, try, expired}
 use Rattle.kube_objects.specs.Wire.{next_call}
+use Rattle.kube_objects.proofs.Own.{end_term-own}
 use Rattle.kube_objects.proofs.OwnCalls.{begun-expiry}
 use Rattle.leader_elector.specs.Moves.{Asked}
 use Rattle.leader_elector.specs.Stands.{ElectorStands}
@@ -21,7 +22,7 @@ returns-then-now-self-clause-turns c doc q h k s now wall room =
     let after = c.expire-expired.ensures.stands doc q h k s.elector now in
     let over : nat_lt (local doc q.process k) c.args.self.deadline.0 ≡ false = ap (λ x. nat_lt x c.args.self.deadline.0) (sym now) ∙ reached c.args.now.0 c.args.self.deadline.0 c.if-now-self.true in
     let at : deadline doc q e ≡ Some c.args.self.deadline.0 = deadline-expiry doc k q h (call_in q h) ∙ sym s.deadline in
-    (ap (λ x. end_term doc k q x e) at ∙ ap (λ b. (if b then e else entry k 4 q Ends ∷ e)) over, c.end.ensures ∙ (λ i. identity (after.process i) (after.incarnation i)))
+    (ap (λ x. end_term doc k q x e) at ∙ ap (λ b. (if b then e else end_as doc.settings.rules.release doc k q e)) over ∙ end_term-own doc s.elector.timing.own k q e, c.end.ensures ∙ (λ i. identity (after.process i) (after.incarnation i)))
 
 pub returns-in-Some-clause-turns : goal.returns-in-Some-clause-turns
 returns-in-Some-clause-turns c doc q h k s now wall room =
@@ -30,9 +31,9 @@ returns-in-Some-clause-turns c doc q h k s now wall room =
     let at : deadline doc q e ≡ Some c.args.self.deadline.0 = deadline-expiry doc k q h (call_in q h) ∙ sym s.deadline in
     let led : leads q e ≡ true = leads-expiry doc k q h (call_in q h) ∙ s.leads in
     let room_now : begun q e + 1 < 2 ^ 64 = subst (λ n. n + 1 < 2 ^ 64) (sym (begun-expiry doc k q h (call_in q h))) room in
-    let a : Asked k 4 q e (try doc k q e) (λ x. ElectorStands doc q x c.attempt.new.self) c.in-Some.ask =
+    let a : Asked doc k 4 q e (try doc k q e) (λ x. ElectorStands doc q x c.attempt.new.self) c.in-Some.ask =
     c.in-Some.ensures.history doc q e k (c.expire-expired.ensures.stands doc q h k s.elector now) led (c.expire-expired.ensures.fast doc q h k s.elector s.settled now) now wall room_now in (
-      ap (λ x. end_term doc k q x e) at ∙ ap (λ b. (if b then e else entry k 4 q Ends ∷ e)) early,
+      ap (λ x. end_term doc k q x e) at ∙ ap (λ b. (if b then e else end_as doc.settings.rules.release doc k q e)) early,
       record {
         kind = a.kind;
         sent = a.sent;
@@ -54,7 +55,7 @@ returns-in-None-clause-turns c doc q h k s now wall room =
     let led : leads q e ≡ true = leads-expiry doc k q h (call_in q h) ∙ s.leads in
     let room_now : begun q e + 1 < 2 ^ 64 = subst (λ n. n + 1 < 2 ^ 64) (sym (begun-expiry doc k q h (call_in q h))) room in
     let t = c.in-None.ensures.history doc q e k (c.expire-expired.ensures.stands doc q h k s.elector now) led (c.expire-expired.ensures.fast doc q h k s.elector s.settled now) now wall room_now in (
-      ap (λ x. end_term doc k q x e) at ∙ ap (λ b. (if b then e else entry k 4 q Ends ∷ e)) early,
+      ap (λ x. end_term doc k q x e) at ∙ ap (λ b. (if b then e else end_as doc.settings.rules.release doc k q e)) early,
       t.1,
       record {
         elector = t.2;

@@ -13,7 +13,7 @@ pub returns-in-Rate-clause-stands : goal.returns-in-Rate-clause-stands
 returns-in-Rate-clause-stands c =
     let w = c.args.self.now in
     let ds = c.args.deeds.now in
-    subst (λ x. Happens w ds w ds x) (sym c.in-Rate.is) (λ doc k before arriving coming h r lawful few. running-plain doc k before ds arriving coming h w _ r refl refl refl (λ p. refl))
+    subst (λ x. Happens w ds w ds x) (sym c.in-Rate.is) (λ doc k before arriving coming h r lawful few. running-plain doc k before ds arriving coming h w _ r refl refl refl refl (λ p. refl))
 
 pub returns-in-Delay-clause-stands : goal.returns-in-Delay-clause-stands
 returns-in-Delay-clause-stands c =
@@ -49,6 +49,9 @@ returns-in-Ready-clause-stands c =
 
 pub returns-in-Pause-clause-stands : goal.returns-in-Pause-clause-stands
 returns-in-Pause-clause-stands c = subst (λ x. OnOk c.pause.result (Happens c.args.self.now c.args.deeds.now c.args.self.now c.pause.new.deeds x)) (sym c.in-Pause.is) c.pause.ensures
+
+pub returns-in-Stall-clause-stands : goal.returns-in-Stall-clause-stands
+returns-in-Stall-clause-stands c = subst (λ x. OnOk c.stall.result (Happens c.args.self.now c.args.deeds.now c.args.self.now c.stall.new.deeds x)) (sym c.in-Stall.is) c.stall.ensures
 
 pub returns-in-Crash-clause-stands : goal.returns-in-Crash-clause-stands
 returns-in-Crash-clause-stands c = subst (λ x. OnOk c.crash.result (Happens c.args.self.now c.args.deeds.now c.crash.new.self c.crash.new.deeds x)) (sym c.in-Crash.is) c.crash.ensures.stands

@@ -18,13 +18,14 @@ returns-clause-stands c doc p made sort =
         retry = c.picoseconds-2.ensures.value ∙ ap (λ y. of_millis (field (λ x. x.retry_millis) 0 y)) (sym process);
         timeout = c.picoseconds-3.ensures.value ∙ ap (λ y. of_millis (field (λ x. x.timeout_millis) 0 y)) (sym process);
         fast = ap (λ y. y.fast_renew) (sym made.settings);
+        own = made.own;
       };
       clock = c.in_ok-clock.ensures.clock doc p made;
       pauses = c.in_ok-clock.ensures.pauses doc p made;
       up_first = ap (λ y. field (λ x. x.up) false y) (sym process);
       role = (refl, refl);
       term = subst (OwnsTerm doc p []) (sym c.in_ok-new.ensures.ok)
-          (record { settings = (c.new-term.ensures doc (identity p 0) [] refl (c.tick_settings.ensures.stands doc made.settings)).settings; each = λ i up. absurd (none_is i up) });
+          (record { settings = (c.new-term.ensures doc (identity p 0) [] refl (c.tick_settings.ensures.stands doc made.own made.settings)).settings; each = λ i up. absurd (none_is i up) });
       waking = c.new-2.ensures c.in_ok-clock.clock;
     }
 

@@ -15,7 +15,7 @@ pub returns-in_default-clause-stands : goal.returns-in_default-clause-stands
 returns-in_default-clause-stands g c doc k p h s store at watch passes can =
     let self = c.args.self.now in
     ticked-not doc k p h self c.args.store.now c.args.deeds.now
-    (unled-ticks doc k p h (sym (c.acting.ensures.in_term doc k p self.incarnation h s.role s.clock at) ∙ ap is_some c.in_default.is)) s store
+    (unled-ticks doc s.timing.own k p h (sym (c.acting.ensures.in_term doc k p self.incarnation h s.role s.clock at) ∙ ap is_some c.in_default.is)) s store
 
 pub returns-then-is_paused-clause-stands : goal.returns-then-is_paused-clause-stands
 returns-then-is_paused-clause-stands g c doc k p h s store at watch passes can =
@@ -37,5 +37,5 @@ returns-clause-stands g c doc k p h s store at watch passes can =
     let went = (c.in_ok-printed.ensures doc k q h (subst (TermStands doc q h) (sym c.deref_mut.ensures.value) (s.term.each i up).term) store view who (can.fresh q refl) (can.few q)).0 in
     on_ok_weaker c.append.result
     (λ told. subst (Ticked doc k p h _ c.tick.new.store c.args.deeds.now) (sym told)
-    (ticked-acting doc k p h self c.tick.new.self c.tick.new.store c.args.deeds.now c.in_ok-printed.printed (acting-ticks doc k p i h awake up term) up s went))
+    (ticked-acting doc k p h self c.tick.new.self c.tick.new.store c.args.deeds.now c.in_ok-printed.printed (acting-ticks doc s.timing.own k p i h awake up term) up s went))
     c.append.ensures.ok

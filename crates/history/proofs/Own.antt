@@ -1,0 +1,43 @@
+-- Under the project's own rules the steps of a beat, and the lease premise, are those that ask for no rule.
+use Rattle.std.proofs.Common.{◌≡◌, ℕ, zero, suc, ◌+◌, ◌*◌, ◌&&◌, nat_lt, Bool, true, false, List, ◌∷◌, length, Option, Some, None, refl, sym, ap, ◌∙◌}
+use Rattle.std.specs.Prelude.{if◌then◌else◌}
+use Rattle.kube_objects.specs.declared.call.Reply.{Reply}
+use Rattle.kube_objects.specs.Document.{Doc, end_beat, beat_micros, lease_duration, call_timeout, retry_period, renew_deadline}
+use Rattle.kube_objects.specs.Elector.{acts, follow_on, leads, release}
+use Rattle.kube_objects.specs.Entry.{Entry, Identity, Call, Stops, entry}
+use Rattle.kube_objects.specs.Own.{IsOwn}
+use Rattle.kube_objects.specs.Process.{alive, release_begun}
+use Rattle.kube_objects.specs.Tick.{tick}
+use Rattle.kube_objects.specs.Turns.{react}
+use Rattle.kube_objects.proofs.Own.{release_begun-own, is_stalled-own}
+use Rattle.history.specs.Premise.{least_rate, longest, late_calls, stall_by, span_by, waited_by, is_long, lease_part, answers_come, lease_premise}
+use Rattle.history.specs.Steps.{released, stop_as, elector_react, if_up, ticks, ticks_while}
+
+module _ (doc : Doc) (own : IsOwn doc) where
+  pub stop-own : (k : ℕ) (q : Identity) (before h : List Entry)
+      → stop_as doc.settings.rules.release doc k q before h ≡ released doc k q (release doc q k before) (entry k 1 q Stops ∷ h)
+  stop-own k q before h = ap (λ r. stop_as r.release doc k q before h) own.rules
+
+  pub react-own : (k : ℕ) (q : Identity) (call : Call) (reply : Reply) (h : List Entry)
+      → elector_react doc k q call reply (release_begun doc.settings.rules.release call.kind) h
+      ≡ react doc k q (leads q h) (follow_on doc q k call.kind call.request reply h) h
+  react-own k q call reply h = ap (λ o. elector_react doc k q call reply o h) (release_begun-own doc own call.kind)
+
+  pub ticks-own : (k p : ℕ) (h : List Entry) → ticks doc k p h ≡ if_up p (λ q T. (if (acts doc q k T) then tick doc k q T else T)) (alive p h) h
+  ticks-own k p h = ap (λ b. ticks_while b doc k p h) (is_stalled-own doc own k)
+
+  pub is_long-own : (high p : ℕ) → is_long doc high p ≡
+      nat_lt
+      (longest doc p * (beat_micros doc * high) * least_rate doc p (end_beat doc)
+      + (call_timeout doc p + retry_period doc p + renew_deadline doc p) * high)
+      (lease_duration doc p * least_rate doc p (end_beat doc))
+  is_long-own high p =
+      ap
+      (λ r. nat_lt
+      (stall_by (late_calls r.release r.in_release) doc p * (beat_micros doc * high) * least_rate doc p (end_beat doc)
+      + span_by (late_calls r.release r.in_release) doc p * high)
+      (waited_by r.respect doc p * least_rate doc p (end_beat doc)))
+      own.rules
+
+  pub premise-own : lease_premise doc ≡ lease_part doc
+  premise-own = ap (λ r. answers_come r.in_release doc && lease_part doc) own.rules

@@ -1,0 +1,35 @@
+-- The project's own rules change nothing.
+use Rattle.kube_objects.proofs.Own.{request_arrival-own, is_late-own, expire_as-own, retry_at-own, respected-own, acts-own, end_term-own}
+use Rattle.kube_objects.proofs.Own.{has_settled-own, pass_period-own, heard-own, cleaned-own, tainted-own, has_token-own, evict-own, evicted-own}
+use Rattle.history.proofs.Own.{stop-own, react-own, ticks-own, is_long-own, premise-own}
+use Rattle.history_laws.specs.Own.{OwnRulesChangeNothing}
+
+pub own_rules_change_nothing : OwnRulesChangeNothing
+own_rules_change_nothing doc own = (
+  record {
+    arrives = request_arrival-own doc own;
+    is_late = is_late-own doc own;
+    expires = expire_as-own doc own;
+    retries = retry_at-own doc own;
+    respects = respected-own doc own;
+    acts = acts-own doc own;
+    ends = end_term-own doc own;
+    stops = stop-own doc own;
+    reacts = react-own doc own;
+  },
+  record {
+    ticks = ticks-own doc own;
+    settles = has_settled-own doc own;
+    passes = pass_period-own doc own;
+    hears = heard-own doc own;
+    cleans = cleaned-own doc own;
+    taints = tainted-own doc own;
+    tokens = has_token-own doc own;
+    evicts = evict-own doc own;
+    evictions = evicted-own doc own;
+  },
+  record {
+    long = is_long-own doc own;
+    all = premise-own doc own;
+  },
+)

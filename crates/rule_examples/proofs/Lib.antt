@@ -1,0 +1,5 @@
+pub mod Attempts
+pub mod Releases
+pub mod Stalls
+pub mod Judgements
+pub mod Evictions

@@ -1,0 +1,6 @@
+pub mod Traces
+pub mod Attempts
+pub mod Releases
+pub mod Stalls
+pub mod Judgements
+pub mod Evictions

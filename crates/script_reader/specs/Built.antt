@@ -1,0 +1,56 @@
+-- Forms of a document that are read, and that nothing runs yet: which of them is refused first. Source: profile.
+use Rattle.std.specs.Prelude.{ℕ, List, codes, Option, Some, None, Result, Ok}
+use Rattle.serde_json.specs.Data.{Data}
+use Rattle.serde_json.specs.Find.{get}
+use Rattle.manifest_json.specs.declared.codes.TheConstants.{NOT_BUILT}
+use Rattle.manifest_json.specs.declared.fault.Refusal.{Refusal}
+use Rattle.manifest_json.specs.Faults.{◌>>=◌, refuse}
+use Rattle.script_reader.specs.declared.choice.Preset.{Preset}
+use Rattle.script_reader.specs.declared.choice.Preset.TheVariants as presets
+use Rattle.script_reader.specs.Fields.{under}
+
+abbrev pub if_none : List ℕ → Data → Option Data → Result Data Refusal
+if_none path d None = Ok d
+if_none path d (Some found) = refuse NOT_BUILT path
+
+-- the object has no such key
+abbrev pub unless_there : List ℕ → List ℕ → Data → Result Data Refusal
+unless_there path key d = if_none (under path key) d (get key d)
+
+-- the preset is the project's own
+abbrev pub if_own : Preset → List ℕ → Data → Result Data Refusal
+if_own presets.Own path d = Ok d
+if_own presets.Upstream120 path d = refuse NOT_BUILT (under path (codes "rules"))
+if_own presets.Upstream136 path d = refuse NOT_BUILT (under path (codes "rules"))
+
+unfoldable pub judging_built : List ℕ → Data → Result Data Refusal
+judging_built path d = do
+  retries ← unless_there path (codes "retries") d
+  respect ← unless_there path (codes "respect") d
+  first_sync_millis ← unless_there path (codes "firstSyncMillis") d
+  probe ← unless_there path (codes "probe") d
+  judge ← unless_there path (codes "judge") d
+  unless_there path (codes "firstSight") d
+
+unfoldable pub tainting_built : List ℕ → Data → Result Data Refusal
+tainting_built path d = do
+  queue ← unless_there path (codes "queue") d
+  bucket ← unless_there path (codes "bucket") d
+  evict_from ← unless_there path (codes "evictFrom") d
+  evict_burst ← unless_there path (codes "evictBurst") d
+  unless_there path (codes "evictRate") d
+
+unfoldable pub ending_built : List ℕ → Data → Result Data Refusal
+ending_built path d = do
+  release ← unless_there path (codes "release") d
+  in_release ← unless_there path (codes "inRelease") d
+  ready_millis ← unless_there path (codes "readyMillis") d
+  unless_there path (codes "readyBurst") d
+
+-- settings ask for no rule that isn't built
+unfoldable pub rules_built : Preset → List ℕ → Data → Result Data Refusal
+rules_built preset path d = do
+  own ← if_own preset path d
+  judging ← judging_built path d
+  tainting ← tainting_built path d
+  ending_built path d
