@@ -32,6 +32,7 @@ REFUSALS: dict[int, str] = {
     41: 'two identities that lead at one beat: the line is the later `lead`',
     42: "an acting line of an identity that doesn't lead",
     43: 'a `taint` line too soon',
+    99: 'a key, or a type of event, of version 4 that is known and not built yet',
 }
 
 
