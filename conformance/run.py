@@ -1,10 +1,12 @@
 #!/usr/bin/env python3
 """Compares the program with recorded answers of Kubernetes 1.20.2 and of client-go 0.36.4, and with what real control planes did.
 
-    conformance/run.py [--exe COMMAND] [--lens COMMAND] [SET ..]
+    conformance/run.py [--exe COMMAND] [--lens COMMAND] [--rules-exe COMMAND] [SET ..]
 
 COMMAND is the program without its command word; else it is the built one, crates/kube_replay/out/kube_replay, and behind --lens
-crates/kube_lens/out/kube_lens, which tells how long nobody leads after a crash. Ends with 1 where a count isn't that of counts.json,
+crates/kube_lens/out/kube_lens, which tells how long nobody leads after a crash. Sets of elections are compared by upstream's rules too,
+in documents of version 4, by another program behind --rules-exe if there is one; where it has not built these keys, that is left out
+and told. --rules alone compares by these rules and nothing else. Ends with 1 where a count isn't that of counts.json,
 where a rule of docs/profile.md doesn't say how it is known, where a kind of difference has no rule there that names its set or
 scenario, where a recorded crash lies out of the bounds, or where a table of docs/upstream.md isn't the one that is printed here;
 else with 0. With sets it looks at these alone. --write writes counts.json and the tables in place of comparing them.
@@ -16,7 +18,7 @@ import os
 import sys
 import time
 
-from beside import bounds, grid, page, plane, plane_tables, release_tables, tables, wave_tables
+from beside import bounds, by_rules, grid, page, plane, plane_tables, release_tables, tables, wave_tables
 from beside.fast_elections import SETTINGS
 from beside.profile import Profile
 from beside.program import NoAnswer, Program
@@ -44,8 +46,7 @@ def faults_of(name, counts, wanted, profile):
 
 
 def of_sets(names, program, profile, is_written):
-    with open(f"{TOP}/counts.json", encoding="utf-8") as file:
-        wanted = json.load(file)
+    wanted = known_counts()
     counts, faults = {}, []
     for name in names:
         counts[name] = tally_of(name, program).as_json()
@@ -56,6 +57,26 @@ def of_sets(names, program, profile, is_written):
             json.dump({**wanted, **counts}, file, indent=1)
             file.write("\n")
     return counts, faults
+
+
+def of_rules(own, program, is_written):
+    """How many cases there are by upstream's rules, the table of both, and what is wrong; nothing where the program has no such rules yet."""
+    if not by_rules.are_built(program):
+        print("by upstream's rules: left out, since this program has no keys for them yet", flush=True)
+        return 0, {}, []
+    path = f"{TOP}/counts_by_rules.json"
+    with open(path, encoding="utf-8") as file:
+        wanted = json.load(file)
+    counts = by_rules.tallies(program)
+    for name, it in counts.items():
+        print(f"by upstream's rules, {told(name, it)}", flush=True)
+    if is_written:
+        with open(path, "w", encoding="utf-8") as file:
+            json.dump(counts, file, indent=1)
+            file.write("\n")
+    faults = [f"{name}, by upstream's rules: other counts than in counts_by_rules.json: {json.dumps(it)}" for name, it in counts.items()
+              if it != wanted.get(name) and not is_written]
+    return sum(it["cases"] for it in counts.values()), {"by rules": by_rules.both(own, counts)}, faults
 
 
 def of_crashes(lens, found, scenario_of):
@@ -130,26 +151,44 @@ def main():
     parser = argparse.ArgumentParser(description=__doc__, formatter_class=argparse.RawDescriptionHelpFormatter)
     parser.add_argument("--exe", default=BUILT)
     parser.add_argument("--lens", default=BUILT_LENS)
+    parser.add_argument("--rules-exe", metavar="COMMAND", help="the program that runs upstream's rules; else that of --exe")
+    parser.add_argument("--rules", action="store_true", help="compares by upstream's rules and nothing else")
     parser.add_argument("--write", action="store_true")
     parser.add_argument("sets", nargs="*", metavar="SET", help=", ".join(SETS))
     given = parser.parse_args()
-    if given.exe == BUILT and not os.path.exists(BUILT):
+    if given.exe == BUILT and not os.path.exists(BUILT) and not (given.rules and given.rules_exe):
         sys.exit("conformance: the program isn't built; README.md tells how, or name one by --exe")
-    if not given.sets and given.lens == BUILT_LENS and not os.path.exists(BUILT_LENS):
+    if not given.sets and not given.rules and given.lens == BUILT_LENS and not os.path.exists(BUILT_LENS):
         sys.exit("conformance: kube_lens isn't built; README.md tells how, or name one by --lens")
     begin = time.monotonic()
-    program, profile = Program(given.exe), Profile(os.path.join(ROOT, "docs/profile.md"))
-    counts, faults = of_sets(given.sets or SETS, program, profile, given.write)
-    faults += profile.faults()
-    if not given.sets:
-        made, unnamed = of_planes(program, bounds.Lens(given.lens), profile)
-        made.update(of_answers(counts, program))
-        faults += [*unnamed, *grid.faults(), *of_page(made, given.write)]
+    cases, runs, faults = compared(given)
     for fault in faults:
         print(f"FAULT: {fault}")
-    cases = sum(it["cases"] for it in counts.values())
-    print(f"conformance: {cases} cases, {program.runs()} runs of the program, {time.monotonic() - begin:.0f} s, {len(faults)} faults")
+    print(f"conformance: {cases} cases, {runs} runs of the program, {time.monotonic() - begin:.0f} s, {len(faults)} faults")
     return 1 if faults else 0
+
+
+def compared(given):
+    """How many cases were compared, how often the program was run, and what is wrong."""
+    program, profile = Program(given.exe), Profile(os.path.join(ROOT, "docs/profile.md"))
+    ruled = Program(given.rules_exe) if given.rules_exe else program
+    counts, faults = of_sets(() if given.rules else given.sets or SETS, program, profile, given.write)
+    faults += profile.faults()
+    cases, made = sum(it["cases"] for it in counts.values()), {}
+    if not given.sets and not given.rules:
+        made, unnamed = of_planes(program, bounds.Lens(given.lens), profile)
+        made.update(of_answers(counts, program))
+        faults += [*unnamed, *grid.faults()]
+    if not given.sets:
+        more, both, wrong = of_rules(counts or known_counts(), ruled, given.write)
+        cases += more
+        faults += [*wrong, *of_page({**made, **both}, given.write)]
+    return cases, program.runs() + (ruled.runs() if ruled is not program else 0), faults
+
+
+def known_counts():
+    with open(f"{TOP}/counts.json", encoding="utf-8") as file:
+        return json.load(file)
 
 
 if __name__ == "__main__":

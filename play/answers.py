@@ -13,6 +13,7 @@ HERE = os.path.dirname(os.path.realpath(__file__))
 TOP = os.path.dirname(HERE)
 sys.path[:0] = [os.path.join(TOP, 'python'), os.path.join(TOP, 'tools')]
 import questions
+from cluster_sets import count_of
 from kube_replay import engine
 from kube_replay.errors import KubeReplayError
 
@@ -75,7 +76,7 @@ def pod_delay(document, trace):
         return None
     document = parsed(document)
     pods = [item for item in (document.get('objects') or {}).get('items') or [] if item.get('kind') == 'Pod']
-    if len(pods) > MOST_PODS_ASKED:
+    if len(pods) + count_of(document) > MOST_PODS_ASKED:
         return None
     lines = iter(trace.decode().splitlines())
     return questions.pod_delay(questions.Trace(next(lines), lines), questions.Told(document))

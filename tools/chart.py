@@ -1,15 +1,20 @@
-"""The picture of a sweep, as SVG: for each question the answer against the value, one line for each second value, or a map of cells."""
+"""The picture of a sweep, as SVG: for each question the answer against the value, one line for each second value, or a map of cells; of draws of
+waits how many runs have each answer."""
+import collections
 import json
 import math
 import re
+import statistics
 from html import escape
 
 import questions
+from sweep_paths import is_drawn
 
 WIDTH, HEIGHT, LEFT, RIGHT, TOP, BOTTOM = 760, 320, 76, 170, 34, 48
 # Lines differ in shape and lightness too, for those who see colours otherwise.
 COLOURS = ['#0b4f8a', '#c05a00', '#2b9b8f', '#8a5c9b', '#6b6b6b', '#c9a100']
 MOST_LINES = len(COLOURS)
+BARS = 30
 
 
 # What a key's last word says of its unit: the unit that is shown, and how many of the key's make one of it.
@@ -206,6 +211,56 @@ def notes(rows, question, foot):
     return out
 
 
+def is_of_draws(plan):
+    """Whether a value is draws of waits, which has no place on an axis."""
+    return any(map(is_drawn, plan['runs'][0]))
+
+
+def histogram(plan, question, rows, top, bounds=None):
+    """How many runs have each answer, an outline for each of the values that aren't drawn, if they are few."""
+    found = [row[question] for row in rows if number(row[question])]
+    others = [[value for value in run if not is_drawn(value)] for run in plan['runs']]
+    groups = list(dict.fromkeys(other[0] if other else None for other in others))
+    is_parted = 1 < len(groups) <= MOST_LINES and not any(drawn for drawn, value in zip(plan['drawn'], plan['runs'][0]) if not is_drawn(value))
+    ends = [end for bound in bounds or [] if bound for end in bound]
+    marks = steps(min([*found, *ends], default=0), max([*found, *ends], default=1), BARS)
+    wide = round(marks[1] - marks[0], 10) if len(marks) > 1 else 1
+    bars = [collections.Counter(math.floor(row[question] / wide + 1e-9) for row, other in zip(rows, others) if number(row[question]) and (not is_parted or other[0] == group))
+            for group in (groups if is_parted else [None])]
+    foot, head = top + HEIGHT - BOTTOM, top + TOP
+    heights = steps(0, max([count for each in bars for count in each.values()], default=1), 5)
+    y = lambda count: foot - (foot - head - 12) * count / max([heights[-1], *[count for each in bars for count in each.values()]])
+    first, last = min(map(min, filter(None, bars)), default=0), max(map(max, filter(None, bars)), default=0)
+    xs = Scale([wide * place for place in range(first, last + 2)] + ends, LEFT + 8, WIDTH - RIGHT - 8)
+    middle = ', the middle one %s' % short(statistics.median_low(found)) if found else ''
+    out = frame(top, 'runs by ' + questions.title(question), '%s, of %d runs%s' % (unit_of(question), len(rows), middle), xs, [(y(count), short(count)) for count in heights], plan['of'])
+    for place, each in enumerate(bars):
+        out.append(outline(each, first, last, lambda at: xs(wide * at), y, COLOURS[place], not is_parted))
+    out += upright_bounds(set(filter(None, bounds or [])), xs, head, foot)
+    axis = next((words for words, value in zip(plan['axes'], plan['runs'][0]) if not is_drawn(value)), '')
+    return out + (legend(axis, groups, head) if is_parted else []) + notes(rows, question, foot)
+
+
+def outline(bars, first, last, x, y, colour, is_full):
+    """The bars from the first place to the last one, as one line."""
+    path = 'M%.1f %.1f' % (x(first), y(0)) + ''.join('V%.1fH%.1f' % (y(bars[place]), x(place + 1)) for place in range(first, last + 1)) + 'V%.1f' % y(0)
+    return '<path d="%s" fill="%s" fill-opacity=".25" stroke="%s"/>' % (path, colour if is_full else 'none', colour)
+
+
+def upright_bounds(bounds, xs, head, foot):
+    """Both bounds, where they are the same of all runs."""
+    out = []
+    for side, words in enumerate(('at least', 'at most')) if len(bounds) == 1 else ():
+        end = list(bounds)[0][side]
+        out.append('<path d="M%.1f %dV%d" stroke="#16202b" stroke-dasharray="5 3"/>' % (xs(end), head, foot))
+        out.append(text(xs(end), head - 3, '%s %s' % (words, short(end)), ('start', 'end')[side]))
+    return out
+
+
+def unit_of(question):
+    return 'seconds' if questions.title(question).startswith('seconds') else 'count'
+
+
 def cells(plan, question, rows, top):
     """The answer as the lightness of a cell, where both values are many; of draws as that of a point."""
     found = [row[question] for row in rows if number(row[question])]
@@ -266,5 +321,8 @@ def picture(plan, asked, rows, bounds=None):
            '<rect width="100%" height="100%" fill="#fff"/>']
     for i, question in enumerate(asked):
         some = bounds if question == 'failover' else None
-        out += lines(plan, question, rows, i * HEIGHT, *place, some) if place else cells(plan, question, rows, i * HEIGHT)
+        if is_of_draws(plan):
+            out += histogram(plan, question, rows, i * HEIGHT, some)
+        else:
+            out += lines(plan, question, rows, i * HEIGHT, *place, some) if place else cells(plan, question, rows, i * HEIGHT)
     return '\n'.join(out + ['</svg>', ''])

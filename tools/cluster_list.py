@@ -1,5 +1,6 @@
 """What a list that kubectl wrote tells of a cluster."""
 from cluster_told import counted, few
+from cluster_sets import sets_of
 
 NODE_LEASES = 'kube-node-lease'
 ELECTION = ('kube-system', 'kube-controller-manager')
@@ -49,12 +50,22 @@ class Found:
         kubelets = [kubelet_of(node) for node in self.nodes]
         return [{**each, 'offsetMillis': offsets[each['node']]} if each['node'] in offsets else each for each in kubelets]
 
-    def kept(self, holder):
-        """The Nodes, Pods, Leases of nodes and the election Lease, with the fields that are read. The present leader, a controller, leads on."""
+    def pods(self):
+        return [item for item in self.items if item.get('kind') == 'Pod']
+
+    def pod_sets(self):
+        """The sets of pods, and the pods that are in none, with the fields that are read."""
+        return sets_of((kept_pod(pod), owner_of(pod)) for pod in self.pods())
+
+    def kept(self, holder, has_pods):
+        """The Nodes, Pods, Leases of nodes and the election Lease, with the fields that are read, or all but the Pods. The present leader, a
+        controller, leads on."""
         out = []
         for item in self.items:
-            if item.get('kind') in KEPT:
-                out.append(KEPT[item['kind']](item))
+            if item.get('kind') == 'Node':
+                out.append(kept_node(item))
+            elif item.get('kind') == 'Pod':
+                out += [kept_pod(item)] * has_pods
             elif is_lease(item, NODE_LEASES):
                 out.append(kept_lease(item))
             elif is_election(item):
@@ -67,8 +78,7 @@ class Found:
         silent = [kubelet['node'] for kubelet in self.kubelets({}) if kubelet.get('up') is False]
         why = 'down where Ready is Unknown%s' % (': ' + few(silent) if silent else '')
         told.row('kubelets', '%d, of these %d down' % (len(self.nodes), len(silent)), why, 'list')
-        pods = [item for item in self.items if item.get('kind') == 'Pod']
-        left = [len(left_out(pod)) for pod in pods if left_out(pod)]
+        left = [len(left_out(pod)) for pod in self.pods() if left_out(pod)]
         if left:
             told.row('tolerations left out', sum(left), 'operators Lt and Gt are not in a document', 'list')
             told.say('%s of %s left out: the operator is Lt or Gt, which a document does not have, so such a pod is judged without it' % (
@@ -101,6 +111,12 @@ def kept_node(item):
             'spec': {'taints': taints}, 'status': {'conditions': conditions}}
 
 
+def owner_of(pod):
+    """Kind and name of the controller that owns a pod, or nothing."""
+    owner = next(iter(part(pod, 'metadata', 'ownerReferences') or []), None)
+    return owner and (owner.get('kind', ''), owner.get('name', ''))
+
+
 def left_out(pod):
     """The tolerations of a pod that compare numbers, which a document can't have."""
     return [each for each in part(pod, 'spec', 'tolerations') or [] if each.get('operator') in COMPARE]
@@ -117,5 +133,3 @@ def kept_lease(item):
     spec = only(item.get('spec'), 'holderIdentity', 'leaseDurationSeconds', 'acquireTime', 'renewTime', 'leaseTransitions')
     return {'apiVersion': 'coordination.k8s.io/v1', 'kind': 'Lease', 'metadata': only(item['metadata'], 'namespace', 'name'), 'spec': spec}
 
-
-KEPT = {'Node': kept_node, 'Pod': kept_pod}

@@ -21,6 +21,8 @@ def redacted(document):
         kubelet['node'] = numbers.of('node', kubelet['node'])
     for item in document['objects']['items']:
         {'Node': hide_node, 'Pod': hide_pod, 'Lease': hide_lease}[item['kind']](item, numbers)
+    for each in document.get('podSets', []):
+        hide_set(each, numbers)
     for event in document['events']:
         node = event['process'].removeprefix('kubelet/')
         event['process'] = 'kubelet/' + numbers.of('node', node) if node != event['process'] else numbers.of('controller', node)
@@ -46,6 +48,15 @@ def hide_pod(item, numbers):
     if 'nodeName' in item['spec']:
         item['spec']['nodeName'] = numbers.of('node', item['spec']['nodeName'])
     for toleration in item['spec']['tolerations']:
+        hide_key(toleration, numbers)
+
+
+def hide_set(each, numbers):
+    each['namespace'] = numbers.of('namespace', each['namespace'])
+    each['name'] = numbers.of('pods', (each['namespace'], each['name']))
+    for member in each['on']:
+        member['node'] = numbers.of('node', member['node'])
+    for toleration in each['tolerations']:
         hide_key(toleration, numbers)
 
 

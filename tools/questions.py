@@ -2,6 +2,8 @@
 None where there is nothing to tell."""
 import collections
 
+from cluster_sets import placed as placed_of_set
+
 
 class Unknown(Exception):
     """A question that isn't known."""
@@ -119,6 +121,8 @@ class Told:
         placed += [event['object'] for event in events if event['type'] == 'put' and event['object'].get('kind') == 'Pod']
         self.pods = {'%s/%s' % (pod['metadata'].get('namespace', 'default'), pod['metadata']['name']): pod.get('spec', {}).get('nodeName')
                      for pod in placed}
+        for each in document.get('podSets', []):
+            self.pods.update(('%s/%s' % (each.get('namespace', 'default'), name), node) for name, node in placed_of_set(each))
         self.strokes = [(event['beat'], event['process'].removeprefix('kubelet/')) for event in events
                         if event['type'] in ('crash', 'pause') or event['type'] == 'loss' and (event['requests'] or event['replies'])]
 

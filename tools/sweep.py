@@ -12,7 +12,8 @@
 
 `all` and `replay` with --dask ADDRESS replay on the workers of the Dask scheduler there; --dask local starts workers of its own.
 PATH is /settings/KEY, /controllers/NAME/KEY, /kubelets/NODE/KEY, /events/PLACE/KEY, or of what is stored /objects/Node/NAME/.. and
-/objects/Pod/NAMESPACE/NAME/.. with the keys of the manifest behind; `*` for a name or a place is each of them. VALUES is FROM..TO, FROM..TO..STEP, a list A,B,C, or random:FROM..TO:COUNT. --set PATH=VALUE changes the document for all runs. A sweep that was
+/objects/Pod/NAMESPACE/NAME/.. with the keys of the manifest behind; `*` for a name or a place is each of them. VALUES is FROM..TO, FROM..TO..STEP, a list A,B,C, JSON arrays [..];[..],
+random:FROM..TO:COUNT, or for /controllers/NAME/waits draws:COUNT. --set PATH=VALUE changes the document for all runs. A sweep that was
 broken off goes on where it stopped, by the same command. To `failover` the picture has how long nobody leads after a crash, at least and at most, as
 kube_lens tells of the documents, where it is built. docs/pictures.md tells more.
 """
@@ -53,7 +54,8 @@ def make_plan(given):
     varied = [(path, read_values(values, draws)) for path, values in map(split_setting, given.vary)]
     if not 1 <= len(varied) <= 2:
         raise Wrong('one or two values are varied')
-    paired = len(varied) == 2 and all('=random:' in text for text in given.vary)
+    drawn = [values.startswith(('random:', 'draws:')) for _, values in map(split_setting, given.vary)]
+    paired = len(varied) == 2 and all(drawn)
     combine = zip if paired else itertools.product
     fixed = [(path, read_value(value)) for path, value in map(split_setting, given.set)]
     asked = given.ask or ['leaderless']
@@ -65,7 +67,7 @@ def make_plan(given):
     if not 0 < len(runs) <= MOST_RUNS:
         raise Wrong('these are %d runs' % len(runs))
     return {'document': changed(document, fixed), 'paths': [path for path, _ in varied], 'runs': runs, 'ask': asked,
-            'drawn': ['=random:' in text for text in given.vary], 'name': name_of(given.document), 'set': given.set}
+            'drawn': drawn, 'name': name_of(given.document), 'set': given.set}
 
 
 def name_of(path):
@@ -261,7 +263,7 @@ def load(path):
 def bounds_of(plan, asked):
     """Of each run the bounds of a crash, None where there are none; nothing where they aren't drawn."""
     bounds = CrashBounds()
-    if 'failover' not in asked or not bounds.words or not chart.axes(plan):
+    if 'failover' not in asked or not bounds.words or not (chart.axes(plan) or chart.is_of_draws(plan)):
         return None
     return [bounds.of_any(changed(plan['document'], zip(plan['paths'], values))) for values in plan['runs']]
 

@@ -12,7 +12,7 @@ import sweep_folder
 import sweep_paths
 
 # What a worker is sent beside the package kube_replay. That may come to it later than these, so it is imported where it is used.
-MODULES = ('questions.py', 'sweep_dask.py', 'sweep_folder.py', 'sweep_paths.py')
+MODULES = ('cluster_sets.py', 'questions.py', 'sweep_dask.py', 'sweep_folder.py', 'sweep_paths.py')
 # So long does a worker take for a piece of the runs, so many are in it at most, and so many pieces has each worker still before it, which
 # become smaller at the end: then no worker is long at work alone.
 PIECE_SECONDS = 1

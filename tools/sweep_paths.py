@@ -1,6 +1,11 @@
 """The keys of a document that a sweep varies: their values, their paths, and the document with other values."""
 import json
+import random
 import re
+
+# Draws of a controller's waits stand in a plan and in the table as this word with a seed of their own.
+DRAWN = 'drawn:'
+LEAST_WAIT, GREATEST_WAIT, MOST_WAITS = 1_000, 2_200, 1_000
 
 
 class Wrong(Exception):
@@ -13,6 +18,11 @@ def read_values(text, draws):
     if drawn:
         low, high, count = map(int, drawn.groups())
         return [draws.randint(low, high) for _ in range(count)]
+    times = re.fullmatch(r'draws:(\d+)', text)
+    if times:
+        return [DRAWN + str(draws.randrange(10**9)) for _ in range(int(times[1]))]
+    if text.startswith('['):
+        return [read_value(part) for part in text.split(';')]
     reach = re.fullmatch(r'(-?\d+)\.\.(-?\d+)(?:\.\.([1-9]\d*))?', text)
     if reach:
         return list(range(int(reach[1]), int(reach[2]) + 1, int(reach[3] or 1)))
@@ -30,6 +40,8 @@ def split_setting(text):
     path, equals, values = text.partition('=')
     if not equals or not path.startswith('/'):
         raise Wrong('%s is not of the form PATH=VALUES' % text)
+    if values.startswith(('draws:', DRAWN)) and not re.fullmatch(r'/controllers/[^/]+/waits', path):
+        raise Wrong('%s: only the waits of a controller can be drawn so, /controllers/NAME/waits' % text)
     return path, values
 
 
@@ -77,13 +89,33 @@ def parts_at(value, key):
     return []
 
 
+def is_drawn(value):
+    return isinstance(value, str) and value.startswith(DRAWN)
+
+
+def waits_of(document, controller, seed):
+    """The waits of a controller after its failed attempts, in thousandths of its retry period, drawn as client-go's jitter is: evenly from 1 to 2.2
+    retry periods. They are as many as it can have failures in the document, and begin anew where those are more than a list may have."""
+    settings = document['settings']
+    retry = controller.get('retryPeriodMillis', settings.get('retryPeriodMillis', 2_000))
+    count = settings['endBeat'] * settings.get('beatMillis', 100) // retry + 2
+    draws = random.Random('%s %s' % (seed, controller.get('name')))
+    return [draws.randint(LEAST_WAIT, GREATEST_WAIT) for _ in range(min(count, MOST_WAITS))]
+
+
 def changed(document, changes):
-    """The document with other values. Its events are put in the order of their beats again."""
+    """The document with other values. Its events are put in the order of their beats again, and with waits it is one of version 4."""
     document = json.loads(json.dumps(document))
     places = [(holders(document, path), value) for path, value in changes]
     for (objects, key), value in places:
         for each in objects:
             each[key] = value
+    for (objects, key), value in places:
+        if key == 'waits':
+            document['version'] = max(document['version'], 4)
+        if is_drawn(value):
+            for each in objects:
+                each[key] = waits_of(document, each, value.removeprefix(DRAWN))
     if 'events' in document:
         document['events'].sort(key=lambda event: event['beat'])
     return document

@@ -42,7 +42,13 @@ def reduced(document, title):
                if event['type'] == 'put' and event['object'].get('kind') == 'Pod']
     return {'title': title, 'settings': {key: settings[key] for key in ('epoch', 'beatMillis') if key in settings},
             'controllers': [{key: each[key] for key in CLOCK_KEYS if key in each} for each in document['controllers']],
-            'objects': {'items': [reduced_object(item) for item in shown]}, 'events': events, 'bounds': bounds(document)}
+            'objects': {'items': [reduced_object(item) for item in shown]}, **reduced_sets(document), 'events': events, 'bounds': bounds(document)}
+
+
+def reduced_sets(document):
+    """Of sets of pods the names and the nodes, where there are sets."""
+    sets = [{key: each[key] for key in ('namespace', 'name', 'on') if key in each} for each in document.get('podSets') or []]
+    return {'podSets': sets} if sets else {}
 
 
 def bounds(document):

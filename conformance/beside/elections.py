@@ -8,6 +8,7 @@ DAY_SECONDS = 86_400
 LATER_ATTEMPT = differs("retry grid", "another instant of the third attempt after a failure, or of a later one")
 MORE_ATTEMPTS = differs("retry grid", "one attempt more or less before the deadline")
 OTHER_END = differs("retry grid", "another end, after attempts on the grid")
+CUT = left("an end: what was recorded stops before it, with its last plan")
 LONGER = differs("jitter", "longer without a leader than the longest here")
 SHORTER = differs("jitter", "shorter without a leader than the shortest here")
 
@@ -56,19 +57,38 @@ def instants_verdicts(case, program, elector, why_later):
         verdicts.append(MORE_ATTEMPTS)
     if here_stop == there_stop:
         return verdicts + [EXACT]
+    if is_same and there_stop < 0 and len(elector.starts) == len(case["plans"]):
+        return verdicts + [CUT]
     return verdicts + [unnamed("another end") if is_same else OTHER_END]
 
 
+class Crash:
+    """The documents of a recorded crash of `a`, whose rivals start when it leads: by the project's own rules, or with waits and the settings of
+    upstream's rules."""
+
+    def __init__(self, case, more, rules=()):
+        self.case, self.more, self.rules, self.beat = case, more, dict(rules), min(case["one_way_ms"], 1000)
+        self.crash = LEADS + case["crash_ms"] // self.beat
+        self.names = ["abc"[at] for at in range(case["candidates"] + 1)]
+
+    def document(self, waits=None):
+        lease = self.case["lease_ms"]
+        settings = {"beatMillis": self.beat, "endBeat": self.crash + (lease + 20_000) // self.beat, "leaseDurationSeconds": lease // 1000}
+        events = [{"beat": LEADS, "type": "start", "process": it} for it in self.names[1:]]
+        events.append({"beat": self.crash, "type": "crash", "process": "a"})
+        if waits is None:
+            return document({**settings, **self.more}, (), events, [{"name": it, "up": it == "a"} for it in self.names])
+        controllers = [{"name": it, "up": it == "a", "waits": waits} for it in self.names]
+        return document({**settings, **self.more, **self.rules}, (), events, controllers, version=4)
+
+    def gap(self, trace):
+        """For how many ms nobody leads."""
+        return ([at for at, _, deed in trace if deed[0] == "lead"][1] - self.crash) * self.beat
+
+
 def gap_here(case, program, more):
-    """For how many ms nobody leads in the document of a recorded crash."""
-    beat = min(case["one_way_ms"], 1000)
-    crash = LEADS + case["crash_ms"] // beat
-    names = ["abc"[at] for at in range(case["candidates"] + 1)]
-    settings = {"beatMillis": beat, "endBeat": crash + (case["lease_ms"] + 20_000) // beat, "leaseDurationSeconds": case["lease_ms"] // 1000}
-    events = [{"beat": LEADS, "type": "start", "process": it} for it in names[1:]]
-    events.append({"beat": crash, "type": "crash", "process": "a"})
-    trace = program.replay(document({**settings, **more}, (), events, [{"name": it, "up": it == "a"} for it in names]))
-    return ([at for at, _, deed in trace if deed[0] == "lead"][1] - crash) * beat
+    crash = Crash(case, more)
+    return crash.gap(program.replay(crash.document()))
 
 
 def failovers(cases, program, more):

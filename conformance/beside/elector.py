@@ -1,7 +1,11 @@
-"""The document of one controller whose calls take what a recorded plan says, in beats of 1 ms."""
+"""The document of one controller whose calls take what a recorded plan says, in beats of 1 ms; its next attempts come by the project's own rule, or
+by upstream's."""
 from .documents import LEADS, document
 
 MOST_DELAY = 6000
+# Upstream's rules of elections, as keys of a document of version 4.
+RULES_OF_1_20 = {"retries": "grid", "respect": "own"}
+RULES_OF_0_36 = {"retries": "ticks", "respect": "record"}
 
 
 class Elector:
@@ -10,6 +14,7 @@ class Elector:
     Whether they were right the trace tells: it has to have the writes and the end that were foreseen."""
 
     more_settings = {}
+    version = 1
 
     def __init__(self, case):
         self.case = case
@@ -17,7 +22,7 @@ class Elector:
         self.events, self.starts, self.writes, self.stop = [], [0], [3], -1
         self.shown = self.stored = 1  # versions of the Lease: the last one that the controller saw, and the store's
         self.now = self.observed = LEADS
-        self.deadline = LEADS + self.renew
+        self.deadline, self.grid = LEADS + self.renew, None  # the grid of retries, once there is one: where it begins
         for plan in case["plans"][1:]:
             if self.now >= self.deadline or not self.attempt(plan):
                 break
@@ -27,14 +32,20 @@ class Elector:
 
     def attempt(self, plan):
         """One attempt; false where the deadline is reached in it."""
-        self.starts.append(self.now)
+        began = self.now
+        self.starts.append(began)
         is_good = self.calls(plan)
         if self.now >= self.deadline:
             return False
         if is_good:
             self.deadline = self.now + self.retry + self.renew
-        self.now += self.retry
+            self.grid = None
+        self.now = self.now + self.retry if is_good else self.after_failure(began)
         return True
+
+    def after_failure(self, began):
+        """When the attempt after one that has just failed begins; that one began at `began`."""
+        return self.now + self.retry
 
     def calls(self, plan):
         """The calls of an attempt; true where it succeeds."""
@@ -80,7 +91,7 @@ class Elector:
         settings = {"beatMillis": 1, "leaseDurationSeconds": self.lease, "renewDeadlineMillis": self.renew, "retryPeriodMillis": self.retry,
                     "callTimeoutMillis": self.case["timeout_ms"], "restartMillis": 86_400_000, "endBeat": self.last, **self.more_settings}
         events = sorted((it for it in self.events if it["beat"] <= self.last), key=lambda it: it["beat"])
-        return document(settings, controllers=[{"name": "me"}], events=events)
+        return document(settings, controllers=[{"name": "me"}], events=events, version=self.version)
 
     def is_as_foreseen(self, trace):
         def beats(*words):
@@ -99,3 +110,28 @@ class FastElector(Elector):
         if self.now < self.observed + self.lease * 1000 and self.update(plan):
             return True
         return self.now < self.deadline and super().calls(plan)
+
+
+class GridElector(Elector):
+    """One of 1.20: after a failure on the grid of retry periods from the first failure since the last success."""
+
+    more_settings = RULES_OF_1_20
+    version = 4
+
+    def after_failure(self, began):
+        if self.grid is None:
+            self.grid = self.now
+        return self.grid + ((self.now - self.grid) // self.retry + 1) * self.retry
+
+
+class TicksElector(FastElector):
+    """One of 0.36: on the grid from when the first attempt since the last success began, and at once where a point of the grid was passed."""
+
+    more_settings = {**FastElector.more_settings, **RULES_OF_0_36}
+    version = 4
+
+    def after_failure(self, began):
+        if self.grid is None:
+            self.grid = began
+        passed = self.grid + (self.now - self.grid) // self.retry * self.retry
+        return self.now if passed > began else passed + self.retry

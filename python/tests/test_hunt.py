@@ -15,7 +15,7 @@ from kube_replay import Trace, engine
 pytest.importorskip('hypothesis')
 
 from kube_replay.hunt import MEASURES, Hunt, Run, Script, WrongBounds, document_of, read_bounds  # noqa: E402
-from kube_replay.hunt.bounds import Range  # noqa: E402
+from kube_replay.hunt.bounds import Range, Waits  # noqa: E402
 from kube_replay.hunt.measures import read_time  # noqa: E402
 
 DOCUMENT: dict[str, Any] = {
@@ -60,6 +60,9 @@ def test_bounds() -> None:
      ({'stops': {'most': 1, 'processes': ['kubelet/n1']}}, '/stops/processes: a `stop` is of controllers alone'),
      ({'losses': {'most': 1, 'of': ['all']}}, '/losses/of: not a list of requests, replies'),
      ({'clocks': {'ratePpm': [1, 2]}}, '/clocks/ratePpm: not a range within 500000 to 2000000'),
+     ({'waits': {}}, '/waits/most: is missing'), ({'waits': {'most': 0}}, '/waits/most: not a range within 1 to 100'),
+     ({'waits': {'most': 2, 'thousandths': [999, 1000]}}, '/waits/thousandths: not a range within 1000 to 2200'),
+     ({'waits': {'most': 2, 'processes': ['kubelet/*']}}, '/waits/processes: waits are of controllers alone'),
      ({'crashes': {'most': True}}, '/crashes/most: not two whole numbers')],
 )  # fmt: skip
 def test_wrong_bounds(given: Any, message: str) -> None:
@@ -76,6 +79,17 @@ def test_a_script_is_added_to_a_document() -> None:
     assert added['controllers'] == [{'name': 'a', 'ratePpm': 1_000_001}, {'name': 'b', 'ratePpm': 900000}]
     assert added['kubelets'] == [{'node': 'n1', 'offsetMillis': 7}]
     assert (added['version'], added['settings']) == (1, {'endBeat': 100})
+
+
+def test_waits() -> None:
+    given = {'waits': [{'most': 3, 'processes': ['b']}, {'most': 2, 'thousandths': [1_500, 1_600], 'processes': ['a']}]}
+    assert read_bounds(given, DOCUMENT).waits == (Waits(('b',), 3, Range(1_000, 2_200)), Waits(('a',), 2, Range(1_500, 1_600)))
+    assert read_bounds({'waits': {'most': 1}}, DOCUMENT).waits == (Waits(('a', 'b'), 1, Range(1_000, 2_200)),)
+    added = document_of(Script({}, (), {'b': (1_000, 2_200)}), DOCUMENT)
+    assert added['controllers'] == [{'name': 'a'}, {'name': 'b', 'ratePpm': 900000, 'waits': [1_000, 2_200]}]
+    assert (added['version'], added['kubelets'], added['events']) == (4, DOCUMENT['kubelets'], DOCUMENT['events'])
+    paused = document_of(Script({}, ({'beat': 1, 'type': 'pause', 'process': 'a', 'beats': 4},)), {**DOCUMENT, 'version': 4})
+    assert paused['version'] == 4
 
 
 def test_pauses_of_one_process_keep_their_distance() -> None:
@@ -119,6 +133,9 @@ def test_pods_of_healthy_nodes() -> None:
     trace = Trace('trace 1 beat=1000 end=9 premise=no\n2 kubelet/n2_1 crash\n' + evicted)
     assert MEASURES['healthy-evicted'].value(Run(document, trace)) == 1
     assert MEASURES['late-eviction'].value(Run(document, trace)) == 9
+    sets = [{'name': 'p', 'on': [{'node': 'n3', 'pods': 1}, {'node': 'n1', 'pods': 2}]}]
+    by_sets = Run({**document, 'objects': None, 'podSets': sets}, trace)
+    assert by_sets.nodes_of_pods == {'default/p-0': 'n3', 'default/p-1': 'n1', 'default/p-2': 'n1'}
     later = {**document, 'settings': {'epoch': '2024-01-01T01:00:00.5+01:00'}}
     assert MEASURES['late-eviction'].value(Run(later, trace)) == 9.5
 
@@ -149,6 +166,25 @@ def test_the_worst_is_found_and_shrunk() -> None:
     assert found is not None and found.value == 30
     assert found.script.events == ({'beat': 0, 'type': 'delay', 'process': 'b', 'requestBeats': 1, 'replyBeats': 30},)
     assert found.document['events'] == [*found.script.events, *DOCUMENT['events']]
+
+
+class LongWaits(Stub):
+    """An engine in which nobody leads for as many beats as the second wait of `b` is longer than a retry period, in hundredths."""
+
+    def __init__(self) -> None:
+        super().__init__(0, b'')
+
+    def run(self, words: Sequence[bytes], data: bytes) -> engine.Answer:
+        waits = json.loads(data)['controllers'][1]['waits']
+        return engine.Answer(0, b'trace 1 beat=100 end=100 premise=no\n%d a_1 lead v=1\n' % (1 + (waits[1] - 1_000) // 100))
+
+
+def test_the_worst_waits_are_found_and_shrunk() -> None:
+    engine.use(LongWaits())
+    bounds = read_bounds({'waits': {'most': 3, 'processes': ['b']}, 'crashes': {'most': 2}}, DOCUMENT)
+    found = Hunt(DOCUMENT, bounds, MEASURES['nobody-leads'], scripts=1_500, seconds=600).run()
+    assert found is not None and found.value == 13
+    assert (found.script.events, found.script.waits) == ((), {'b': (1_000, 2_200, 1_000)})
 
 
 def test_a_hunt_ends_where_it_is_bad_enough() -> None:

@@ -1,12 +1,14 @@
 #!/usr/bin/env python3
 """Makes documents of the lists in tools/data, which have kubectl's own shape, and looks at what is in them and how they run.
 
-    python3 tools/test/test_from_cluster.py [--program COMMAND] [--lens COMMAND]
+    python3 tools/test/test_from_cluster.py [--program COMMAND] [--lens COMMAND] [--large]
 
-COMMAND is the program, and kube_lens, by default the built ones. The step for CI that stands in docs/lens-margin.md is run as it stands there. The exit
-status is 1 where anything differs.
+COMMAND is the program, and kube_lens, by default the built ones. The step for CI that stands in docs/lens-margin.md is run as it stands there. --large
+makes a document of a list of 150,000 pods of 6 KB each too, which takes minutes, and looks at how much memory that takes. The exit status is 1 where
+anything differs.
 """
 import argparse
+import io
 import json
 import os
 import re
@@ -16,6 +18,9 @@ import sys
 import tempfile
 
 from places import HERE, TOOLS, TOP, built
+
+import cluster_sets
+import cluster_stream
 
 LENS = built('kube_lens')
 LIST = os.path.join(TOOLS, 'data', 'cluster.json')
@@ -302,6 +307,103 @@ def test_limits():
     has('those that are left out', many.stderr, 'at most 16 controllers: c16, c17, c18, c19 were left out')
 
 
+def names_of(made):
+    """The pods that are written out, and the sets with the counts of their pods by node."""
+    single = [item['metadata']['name'] for item in made['objects']['items'] if item['kind'] == 'Pod']
+    return single, {'%s/%s' % (each['namespace'], each['name']): {member['node']: member['pods'] for member in each['on']} for each in made.get('podSets', [])}
+
+
+def test_sets(program):
+    """Pods of one owner are a set; the document that says each of its pods has the same trace as the one with their own names, but for names."""
+    words = ('--kill', 'worker-1@60s', '--for', '20m')
+    made, plain = document('--sets', *words), document(*words)
+    single, sets = names_of(made)
+    same('pods without an owner, or alone', sorted(single), ['batch-z1-8vwlq', 'cart-5f6d8b7c9-h4t2n', 'db-0', 'queue-6c8f7d5b4-kd9sx'])
+    same('sets', sets, {'default/web-7d4b9c6f5': {'worker-1': 1, 'worker-2': 1, 'worker-4': 1}, 'kube-system/proxy-cp': {'cp-1': 1, 'cp-2': 1, 'cp-3': 1},
+                        'kube-system/proxy-worker': {'worker-1': 1, 'worker-2': 1, 'worker-3': 1, 'worker-4': 1}})
+    same('versions', (made['version'], plain['version']), (4, 1))
+    out = cluster_sets.written_out(made)
+    same('all else is the same', [out[key] for key in out if key not in ('version', 'objects')], [plain[key] for key in plain if key not in ('version', 'objects')])
+    nameless = lambda each: [re.sub(r' evict (\S+)/\S+ ', r' evict \1/_ ', line) for line in lines(program, 'replay', each)]
+    same('the same trace but for names', nameless(out), nameless(plain))
+    same('which evicts', sum(' evict ' in line for line in nameless(out)) >= 4, True)
+    has('told', make('--sets', *words).stderr, '14 pods (10 in 3 sets)')
+    hidden = document('--sets', '--redact', *words)
+    same('names that are hidden', sorted(names_of(hidden)[1]), ['namespace-1/pods-1', 'namespace-2/pods-2', 'namespace-2/pods-3'])
+    same('the same trace but for names, which are hidden', [len(nameless(cluster_sets.written_out(hidden))), nameless(cluster_sets.written_out(hidden))[-1].split()[0]],
+         [len(nameless(plain)), nameless(plain)[-1].split()[0]])
+
+
+def owned(name, owner=None, node='n0', **more):
+    meta = {'name': name, **({'ownerReferences': [{'kind': owner[0], 'name': owner[1], 'controller': True}]} if owner else {})}
+    return {'apiVersion': 'v1', 'kind': 'Pod', 'metadata': meta, 'spec': {**({'nodeName': node} if node else {}), **more}}
+
+
+def test_names_of_sets():
+    """No pod of a set has the name of another pod, whatever its owners are called; pods that wait for a node are in no set."""
+    items = [owned('web-0'), *[owned('a%d' % number, ('ReplicaSet', 'web')) for number in range(3)], *[owned('b%d' % number, ('Job', 'web'), 'n1') for number in range(2)],
+             *[owned('c%d' % number, ('ReplicaSet', 'web'), tolerations=[{'operator': 'Exists'}]) for number in range(2)],
+             *[owned('d%d' % number, ('Odd', 'It:is')) for number in range(2)], *[owned('e%d' % number, ('ReplicaSet', 'x' * 250)) for number in range(2)],
+             owned('f0', ('Job', 'alone')), owned('g0', ('Job', 'waits'), None), owned('g1', ('Job', 'waits'), None)]
+    text = json.dumps({'kind': 'List', 'items': [*json.loads(nodes(2))['items'], *items]})
+    made = document('--sets', '--controller', 'a', given=text)
+    single, sets = names_of(made)
+    same('single ones', single, ['web-0', 'g0', 'g1', 'f0'])
+    same('sets', sets, {'default/web.2': {'n0': 3}, 'default/web.3': {'n1': 2}, 'default/web.4': {'n0': 2}, 'default/pods': {'n0': 2}, 'default/' + 'x' * 234: {'n0': 2}})
+    keys = [item['metadata']['name'] for item in cluster_sets.written_out(made)['objects']['items'] if item['kind'] == 'Pod']
+    same('each once', (len(keys), len(set(keys)), max(map(len, keys)) <= 253), (15, 15, True))
+
+
+def test_many_pods():
+    """Pods are said by sets where that is asked for, else each of them."""
+    few, many = [json.dumps({'kind': 'List', 'items': [*json.loads(nodes(3))['items'], *[owned('p%d' % number, ('Job', 'j%d' % (number % 7)), 'n%d' % (number % 3)) for number in range(count)]]})
+                 for count in (2_000, 2_001)]
+    for given, words, wanted in ((few, (), (1, 2_000, 0)), (many, (), (1, 2_001, 0)), (few, ('--sets',), (4, 0, 7)), (many, ('--sets',), (4, 0, 7))):
+        made = document('--controller', 'a', *words, given=given)
+        same('many pods %s' % (words,), (made['version'], *map(len, names_of(made))), wanted)
+
+
+def test_stream():
+    """A list is read piece by piece, wherever a piece ends; what is no list is told."""
+    with open(LIST) as file:
+        text = file.read()
+    whole = [cluster_stream.slim(item, {}) for item in json.loads(text)['items']]
+    usual = cluster_stream.CHUNK
+    for cluster_stream.CHUNK in (1, 7, 1_000):
+        same('pieces of %d' % cluster_stream.CHUNK, cluster_stream.items_of(io.StringIO(text)), [item for item in whole if item])
+        same('the kind first', cluster_stream.items_of(io.StringIO('{"kind":"List","a":[1,{"items":[5]}],"b":12345.5,"items":[]}\n')), [])
+    cluster_stream.CHUNK = usual
+    for given, wanted in (('', 'no JSON'), (text[:-3], 'no JSON'), (text[:9_000], 'no JSON'), (text + '{}', 'no JSON: there is more'), ('{"kind":"List","items":[{},]}', 'no JSON'),
+                          ('[]', 'no List'), ('{"items":[]}', 'no List'), ('{"kind":"List" "items":[]}', 'no JSON')):
+        done = make('--controller', 'a', given=given)
+        same('not a list: %.40s' % given, (done.returncode, done.stdout, wanted in done.stderr), (1, '', True))
+
+
+# What runs from-cluster in a Python of its own and tells on standard error the most memory that it had, in KB.
+MEASURED = 'import resource, runpy, sys\nsys.argv = sys.argv[1:]\nrunpy.run_path(sys.argv[0], run_name="__main__")\n' \
+    'print("memory", resource.getrusage(resource.RUSAGE_SELF).ru_maxrss, file=sys.stderr)'
+
+
+def test_memory(count, most):
+    """A list of so many pods, each of 6 KB, is read within so many MB, and all of them are in the document."""
+    command = [sys.executable, '-c', MEASURED, os.path.join(TOOLS, 'from-cluster'), '--controller', 'a', '--for', '1m', '--sets']
+    process = subprocess.Popen(command, stdin=subprocess.PIPE, stdout=subprocess.DEVNULL, stderr=subprocess.PIPE, text=True)
+    rest = {'annotations': {'note': 'y' * 5_500}}
+    tolerations = [{'key': 'node.kubernetes.io/' + word, 'operator': 'Exists', 'effect': 'NoExecute', 'tolerationSeconds': 300} for word in ('not-ready', 'unreachable')]
+    process.stdin.write('{"apiVersion":"v1","items":[' + json.dumps(json.loads(nodes(5_000))['items'])[1:-1])
+    for number in range(count):
+        pod = owned('app-%d-%06x' % (number % 500, number), ('ReplicaSet', 'app-%d' % (number % 500)), 'n%d' % (number % 5_000), tolerations=tolerations)
+        process.stdin.write(',\n' + json.dumps({**pod, 'metadata': {**pod['metadata'], 'namespace': 'team-%d' % (number % 25), **rest}}))
+    process.stdin.write('],"kind":"List"}')
+    process.stdin.close()
+    said = process.stderr.read()
+    process.wait()
+    memory = re.search(r'^memory (\d+)$', said, re.M)
+    has('of %d pods' % count, said, '5000 nodes, %d pods (%d in 500 sets)' % (count, count))
+    same('%d pods within %d MB' % (count, most), bool(memory) and int(memory[1]) <= most * 1_024, True)
+    print('%d pods of 6 KB: %d MB of memory' % (count, int(memory[1]) // 1_024 if memory else 0), flush=True)
+
+
 def test_refused():
     cases = [(('--kill', 'worker-9@60s'), None, 'there is no node worker-9'), (('--kill-zone', 'mars@60s'), None, 'no node is in it'),
              (('--clock', 'cp-9=1.02'), None, 'no such controller'), (('--kill', 'worker-1@20m'), None, 'let it run longer'),
@@ -413,10 +515,15 @@ def main():
     options = argparse.ArgumentParser(description=__doc__.splitlines()[0])
     options.add_argument('--program', default=built('kube_replay'))
     options.add_argument('--lens', default=LENS)
+    options.add_argument('--large', action='store_true')
     given = options.parse_args()
-    for test in (test_document, test_flags, test_versions, test_explain, test_controllers, test_events, test_hosts, test_stalls, test_limits, test_refused):
+    for test in (test_document, test_flags, test_versions, test_explain, test_controllers, test_events, test_hosts, test_stalls, test_limits, test_refused,
+                 test_names_of_sets, test_many_pods, test_stream):
         test()
-    for test in (test_moment, test_comparisons, test_redacted, test_run, test_rules):
+    test_memory(10_000, 100)
+    if given.large:
+        test_memory(150_000, 500)
+    for test in (test_moment, test_comparisons, test_sets, test_redacted, test_run, test_rules):
         test(given.program)
     with tempfile.TemporaryDirectory() as folder:
         test_manifests(folder)

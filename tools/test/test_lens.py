@@ -36,6 +36,9 @@ def document(dice):
     """A document that is mostly read."""
     end = dice.randint(0, 60)
     settings = {'endBeat': end, 'beatMillis': dice.choice((1, 7, 100, 1000, dice.randint(1, 1000)))}
+    version = dice.choice((2, 2, 4))
+    if version == 4 and dice.random() < 0.8:
+        settings['respect'] = dice.choice(('own', 'own', 'record'))
     if dice.random() < 0.6:
         settings.update(timings(dice))
     controllers = []
@@ -54,7 +57,7 @@ def document(dice):
             events.append({'beat': beat, 'type': 'rate', 'process': dice.choice(names), 'ratePpm': rate(dice)})
         else:
             events.append({'beat': beat, 'type': dice.choice(('crash', 'start')), 'process': dice.choice(names)})
-    return {'version': 2, 'settings': settings, 'controllers': controllers, 'kubelets': kubelets, 'events': events}
+    return {'version': version, 'settings': settings, 'controllers': controllers, 'kubelets': kubelets, 'events': events}
 
 
 def broken(dice, doc):
@@ -92,6 +95,11 @@ class Reference:
     def timing(self, place, key, default):
         return self.doc['controllers'][place].get(key, self.doc['settings'].get(key, default))
 
+    def lease(self, place):
+        """The seconds that others wait: the controller's lease, or the shortest of all where each goes by its own."""
+        leases = [self.timing(each, 'leaseDurationSeconds', 15) for each in range(len(self.rates))]
+        return min(leases) if self.doc['settings'].get('respect') == 'own' else leases[place]
+
     def longest_pause(self, place):
         """The beats of the longest pause that the document itself has for a controller; 0 is none."""
         name = self.doc['controllers'][place]['name']
@@ -106,7 +114,7 @@ class Reference:
         return Fraction(waits * self.fastest, min(self.rates[place])) + Fraction(stands * self.fastest, 1000000)
 
     def line(self, place):
-        lease = self.timing(place, 'leaseDurationSeconds', 15)
+        lease = self.lease(place)
         bound = self.bound(place, 0)
         must = -(-bound.numerator // bound.denominator)
         least = next((str(s) + 's' for s in self.near(bound) if s * 1000 > bound), 'none')
@@ -132,7 +140,7 @@ class Reference:
         return low
 
     def text(self):
-        safe = all(self.timing(p, 'leaseDurationSeconds', 15) * 1000 > self.bound(p, 0) for p in range(len(self.rates)))
+        safe = all(self.lease(p) * 1000 > self.bound(p, 0) for p in range(len(self.rates)))
         lines = [self.line(place) for place in range(len(self.rates))]
         return '\n'.join(lines + ['safe' if safe else 'unsafe']) + '\n', safe
 

@@ -11,7 +11,7 @@ and not compared: it comes with its proof. The exit status is 1 where anything d
 import json
 import math
 import random
-from dataclasses import dataclass, field
+from dataclasses import dataclass, field, replace
 from fractions import Fraction
 from typing import Optional
 
@@ -51,10 +51,15 @@ class Controller:
     retry: Fraction
     timeout: Fraction
     wait: Optional[Fraction] = None
+    least_wait: Optional[Fraction] = None
 
     @property
     def longest_wait(self):
         return self.retry if self.wait is None else self.wait
+
+    @property
+    def shortest_wait(self):
+        return self.retry if self.least_wait is None else self.least_wait
 
 
 def looks(calm, least, most):
@@ -73,12 +78,12 @@ def found_at_least(near, far, beats):
 
 
 def over_at_most(calm, one, lease):
-    near, far = looks(calm, one.retry, one.longest_wait)
+    near, far = looks(calm, one.shortest_wait, one.longest_wait)
     return found_at_most(near, far, calm.enough(lease)) if lease else 0
 
 
 def over_at_least(calm, one, lease):
-    near, far = looks(calm, one.retry, one.longest_wait)
+    near, far = looks(calm, one.shortest_wait, one.longest_wait)
     return found_at_least(near, far, calm.needed(lease)) if lease else 0
 
 
@@ -166,16 +171,23 @@ class Bounds:
     stays_from: Optional[int]
 
 
-def bounds_of(calm, everyone, place, is_fast=False):
+def all_stay(calm, everyone, by_own=False):
+    """Whether each stays that may lead; `by_own` where each respects a record for its own lease's time alone."""
+    shortest = min(one.lease for one in everyone)
+    return all(stays(calm, replace(one, lease=shortest) if by_own else one) for one in everyone)
+
+
+def bounds_of(calm, everyone, place, is_fast=False, by_own=False):
     """Of the leader at this place, whoever of the others is up; where there is no other it may lead again itself."""
+    seen = lambda one: replace(leader, lease=one.lease) if by_own else leader
     leader, others = everyone[place], [one for at, one in enumerate(everyone) if at != place]
     millis = lambda beats: beats * calm.beat
-    are_answered, is_calm = all(replies_count(calm, one) for one in everyone), all(stays(calm, one) for one in everyone)
+    are_answered, is_calm = all(replies_count(calm, one) for one in everyone), all_stay(calm, everyone, by_own)
     after, again = (others if is_calm else []), others or [leader]
-    crashes, stops = [crash(calm, leader, one, is_fast) for one in after], [stop(calm, one) for one in after]
+    crashes, stops = [crash(calm, seen(one), one, is_fast) for one in after], [stop(calm, one) for one in after]
     widest = lambda pairs: (millis(min(least for least, _ in pairs)), millis(max(most for _, most in pairs))) if pairs else None
     return Bounds(widest(crashes), widest(stops), millis(acts_on(calm, leader)) if are_answered else None,
-                  millis(max(leads_by(calm, leader.lease, one) for one in again)) if are_answered else None,
+                  millis(max(leads_by(calm, seen(one).lease, one) for one in again)) if are_answered else None,
                   millis(max(stays_by(calm, everyone, one) for one in again)) if is_calm else None)
 
 
@@ -264,8 +276,10 @@ def controller_members(name, found):
 
 def seconds_of(doc, controller):
     value = {key: Fraction(controller.get(key, doc['settings'].get(key, default))) for key, default in DEFAULTS.items()}
-    return Controller(controller['name'], value['leaseDurationSeconds'], value['renewDeadlineMillis'] / 1000, value['retryPeriodMillis'] / 1000,
-                      value['callTimeoutMillis'] / 1000)
+    waits = [wait for one in doc['controllers'] for wait in one.get('waits', [1000])]
+    retry = value['retryPeriodMillis'] / 1000
+    return Controller(controller['name'], value['leaseDurationSeconds'], value['renewDeadlineMillis'] / 1000, retry, value['callTimeoutMillis'] / 1000,
+                      retry * max(waits) / 1000, retry * min(waits) / 1000)
 
 
 def of_processes(doc, processes, names):
@@ -300,16 +314,17 @@ def told_of_document(doc):
     far, rates = of_processes(doc, controllers, [one['name'] for one in controllers])
     posted, posts = of_processes(doc, kubelets, ['kubelet/' + one['node'] for one in kubelets])
     calm = Calm(beat, 1, far, passes(min(rates)), passes(max(rates)))
-    everyone = [seconds_of(doc, one) for one in controllers]
+    everyone, by_own = [seconds_of(doc, one) for one in controllers], settings.get('respect') == 'own'
     of = lambda key, default: Fraction(settings.get(key, default))
     nodes = Nodes((passes(min(posts)), passes(max(posts))) if posts else (1, 1), of('callTimeoutMillis', 2000) / 1000,
                   of('monitorPeriodMillis', 5000) / 1000, of('gracePeriodMillis', 40000) / 1000, of('nodeLeaseDurationSeconds', 40),
                   settings.get('primaryRate', 100), are_posted=bool(kubelets))
     margin = test_lens.Reference(doc)
-    safe = all(one.lease * 1000 > margin.bound(place, 0) for place, one in enumerate(everyone))
+    waited = lambda one: min(each.lease for each in everyone) if by_own else one.lease
+    safe = all(waited(one) * 1000 > margin.bound(place, 0) for place, one in enumerate(everyone))
     return Told(f'delay={beat}ms..{far * beat}ms',
-                [(one.name, bounds_of(calm, everyone, place, bool(settings.get('fastRenew', False)))) for place, one in enumerate(everyone)], nodes,
-                Calm(beat, 1, max(far, posted), calm.slow, calm.fast), tolerations(doc), all(stays(calm, one) for one in everyone), safe,
+                [(one.name, bounds_of(calm, everyone, place, bool(settings.get('fastRenew', False)), by_own)) for place, one in enumerate(everyone)], nodes,
+                Calm(beat, 1, max(far, posted), calm.slow, calm.fast), tolerations(doc), all_stay(calm, everyone, by_own), safe,
                 [('beatMillis', beat), ('leastDelayMillis', beat), ('delayMillis', far * beat)])
 
 
@@ -362,6 +377,9 @@ def with_nodes(dice, doc):
             settings[key] = dice.choice(values)
     if 'primaryRate' in settings:
         settings['secondaryRate'] = 0
+    for one in doc['controllers']:
+        if doc['version'] == 4 and dice.random() < 0.6:
+            one['waits'] = [dice.choice((1000, 2200, dice.randint(1000, 2200))) for _ in range(dice.randint(1, 4))]
     return doc
 
 

@@ -336,6 +336,21 @@ def test_pods(given, folder):
     wanted = {pod: {'node': 'node-c', 'silent': '15', 'unknown': '62', 'tainted': '62', 'evicted': '' if seconds is None else str(62 + seconds),
                     'delay': '' if seconds is None else str(47 + seconds)} for pod, seconds in tolerated.items()}
     same('pods', rows, wanted)
+    document = load(words[1])
+    placed = [item for item in document['objects']['items'] if item['kind'] == 'Pod']
+    document['objects']['items'] = [item for item in document['objects']['items'] if item['kind'] != 'Pod']
+    nodes = [pod['spec']['nodeName'] for pod in placed]
+    document['podSets'] = [{'name': 'p', 'on': [{'node': 'node-z', 'pods': 2}, *[{'node': node, 'pods': 1} for node in nodes]]}]
+    with open(os.path.join(folder, 'sets.json'), 'w') as file:
+        json.dump(document, file)
+    with open(words[2]) as file, open(os.path.join(folder, 'sets.txt'), 'w') as out:
+        text = file.read()
+        for number, pod in enumerate(placed):
+            text = text.replace('default/%s ' % pod['metadata']['name'], 'default/p-%d ' % (number + 2))
+        out.write(text)
+    found = {row.pop('pod'): row for row in csv.DictReader(sweep('pods', 'sets.json', 'sets.txt', folder=folder).splitlines())}
+    same('pods of sets', found, {'default/p-%d' % (number + 2): wanted['default/' + pod['metadata']['name']] for number, pod in enumerate(placed)
+                                 if 'default/' + pod['metadata']['name'] in wanted})
 
 
 def test_silent_before(given, folder):
@@ -410,11 +425,81 @@ def test_picture(given, folder):
         same('the picture says ' + words, words in picture, True)
 
 
+def documents(folder, name):
+    runs = os.path.join(folder, name, 'runs')
+    return [load(os.path.join(runs, each)) for each in sorted(os.listdir(runs)) if each.endswith('.json')]
+
+
+def stand_in_of(folder, name, line):
+    """A program that answers each document with a trace in which one leads, dies, and another one leads as the line of shell says."""
+    path = os.path.join(folder, name)
+    with open(path, 'w') as file:
+        file.write('#!/bin/sh\n%s\nprintf "trace 1 beat=100 end=560 premise=yes\\n4 kcm-a_1 lead v=1\\n30 kcm-a_1 crash\\n%%d kcm-b_1 lead v=3\\n" $beat\n' % line)
+    os.chmod(path, 0o755)
+    return path
+
+
+B_WAITS = '/controllers/kcm-b/waits'
+
+
+def test_lists_of_waits(given, folder):
+    """A list is a value; the document is one of version 4 then."""
+    sweep('plan', ONE_CRASH, 'lists', '--vary', B_WAITS + '=[1000];[1600, 2200];[2200]', '--set', '/controllers/kcm-a/waits=[1500]', '--ask', 'failover', folder=folder)
+    found = documents(folder, 'lists')
+    same('lists', [[each.get('waits') for each in run['controllers']] for run in found], [[[1500], [1000]], [[1500], [1600, 2200]], [[1500], [2200]]])
+    same('version', {run['version'] for run in found}, {4})
+    beat = 'beat=$(( 30 + $(grep -o "[0-9]*[]]}[]]" | grep -o "^[0-9]*") / 10 ))'
+    sweep('all', ONE_CRASH, 'lists', '--vary', B_WAITS + '=[1000];[1600, 2200];[2200]', '--set', '/controllers/kcm-a/waits=[1500]', '--ask', 'failover',
+          '--program', stand_in_of(folder, 'last-wait', beat), folder=folder)
+    rows = read_csv(os.path.join(folder, 'lists', 'answers.csv'))
+    same('table of lists', [(row[B_WAITS], row['failover']) for row in rows], [('[1000]', '10'), ('[1600, 2200]', '22'), ('[2200]', '22')])
+
+
+def test_drawn_waits(given, folder):
+    """Waits are drawn as the jitter does, one list a run; the same seed gives the same, and what a row tells gives that run again; the picture is a histogram."""
+    words = ('--vary', '/controllers/*/waits=draws:60', '--ask', 'failover')
+    for name, seed in (('drawn', '3'), ('drawn-again', '3'), ('drawn-else', '4')):
+        sweep('plan', ONE_CRASH, name, *words, '--seed', seed, folder=folder)
+    runs, again, others = [[each['controllers'] for each in documents(folder, name)] for name in ('drawn', 'drawn-again', 'drawn-else')]
+    same('draws of one seed', (runs == again, runs == others), (True, False))
+    drawn = [wait for run in runs for each in run for wait in each['waits']]
+    # 56 s and retry periods of 2 s: at most 28 failures, and two more. Of 3,600 even draws from 1,000 to 2,200 the mean lies within 1,580 to 1,620.
+    same('each its own', ({len(each['waits']) for run in runs for each in run}, len({tuple(each['waits']) for run in runs for each in run})), ({30}, 120))
+    same('as the jitter', (min(drawn) >= 1_000, max(drawn) <= 2_200, min(drawn) < 1_010, max(drawn) > 2_190, 1_580 < sum(drawn) / len(drawn) < 1_620), (True,) * 5)
+    beat = 'beat=$(( 30 + 150 + $(cksum | cut -d" " -f1) % 50 ))'
+    sweep('all', ONE_CRASH, 'drawn', *words, '--seed', '3', '--program', stand_in_of(folder, 'anything', beat), folder=folder)
+    rows = read_csv(os.path.join(folder, 'drawn', 'answers.csv'))
+    sweep('plan', ONE_CRASH, 'one-again', '--set', '/controllers/*/waits=' + rows[7]['/controllers/*/waits'], '--vary', '/settings/endBeat=560', folder=folder)
+    same('a row gives its run again', documents(folder, 'one-again')[0]['controllers'], runs[7])
+    with open(os.path.join(folder, 'drawn', 'answers.svg')) as file:
+        picture = file.read()
+    middle = sorted(float(row['failover']) for row in rows)[29]
+    for words in ('runs by seconds from the loss of the leader', 'of 60 runs, the middle one %g' % middle, 'fill-opacity'):
+        same('the histogram says ' + words, words in picture, True)
+    sweep('all', ONE_CRASH, 'parted', '--vary', B_WAITS + '=draws:30', '--vary', '/settings/leaseDurationSeconds=15,20', '--ask', 'failover',
+          '--program', os.path.join(folder, 'anything'), folder=folder)
+    with open(os.path.join(folder, 'parted', 'answers.svg')) as file:
+        same('two outlines', file.read().count('fill-opacity'), 2)
+
+
+def test_failovers_of_waits(given, folder):
+    """Drawn waits by the program, beside single runs; nobody leads for 13.0 to 23.8 s, and some messages more."""
+    sweep('all', ONE_CRASH, 'waits', '--vary', '/controllers/*/waits=draws:40', '--vary', '/events/1/beat=random:60..300:40', '--ask', 'failover', '--program', given.program, folder=folder)
+    rows = read_csv(os.path.join(folder, 'waits', 'answers.csv'))
+    if any(row['outcome'].startswith('refused 99 ') for row in rows):
+        print('waits: left out, since this program has none yet', flush=True)
+        return
+    compare('waits', given, folder, documents(folder, 'waits'), 'failover', failover)
+    found = spans(folder, 'waits')
+    same('by the jitter', (min(found) >= 13, 17.8 < max(found) <= 24.2), (True, True))
+
+
 def test_refused_words(given, folder):
     """Words that can't be are answered by one line and status 1; another sweep's folder is left as it is."""
     cases = [('all', CRASHES, 'none', '--ask', 'leaderless'), ('all', CRASHES, 'none', '--vary', 'settings=1'),
              ('all', CRASHES, 'none', '--vary', '/controllers/cp-9/up=true'), ('all', CRASHES, 'none', '--vary', '/objects/0/kind=1'),
-             ('plan', CRASHES, 'none', '--vary', '/events/0/beat=1..3', '--ask', 'luck'),
+             ('plan', CRASHES, 'none', '--vary', '/events/0/beat=1..3', '--ask', 'luck'), ('plan', CRASHES, 'none', '--vary', '/events/0/beat=draws:3'),
+             ('plan', CRASHES, 'none', '--set', '/settings/endBeat=drawn:3', '--vary', '/events/0/beat=1..3'),
              ('table', 'none'), ('replay', 'none', '--program', 'true'),
              ('plan', CRASHES, 'crashes', '--vary', '/events/0/beat=1..3', '--ask', 'failover')]
     for words in cases:
@@ -424,6 +509,7 @@ def test_refused_words(given, folder):
 
 TESTS = [test_written_by_hand, test_lease_duration, test_crash_beat, test_two_values, test_bounds_of_a_crash, test_bounds_of_a_stop,
          test_document_with_nodes, test_grace_period, test_pods, test_silent_before, test_objects, test_pauses, test_worst_minute, test_picture,
+         test_lists_of_waits, test_drawn_waits, test_failovers_of_waits,
          test_broken_off, test_over_ssh, test_shares, test_refused_words]
 
 

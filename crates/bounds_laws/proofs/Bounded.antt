@@ -1,46 +1,52 @@
 -- The numbers hold.
-use Rattle.std.proofs.Common.{◌≡◌, ◌<◌, ◌≤◌, ℕ, suc, ◌+◌, ◌-◌, ◌*◌, ◌&&◌, true, false, List, [], ◌∷◌, length, Option, Some, None, refl, sym, ap, ◌∙◌, subst, inl, inr, ⊎_elim, arith}
+use Rattle.std.proofs.Common.{◌≡◌, ◌<◌, ◌≤◌, ℕ, suc, ◌+◌, ◌-◌, ◌*◌, ◌/◌, ◌&&◌, max, true, false, List, [], ◌∷◌, length, Option, Some, None, refl, sym, ap, ◌∙◌, subst, inl, inr, ⊎_elim, arith}
 use Rattle.std.specs.Int.{div_ceil}
+use Rattle.std.specs.List.{list_all}
 use Rattle.std.proofs.lemmas.Bool.{ltb-true, cases_lt}
+use Rattle.kube_objects.specs.declared.rules.RespectRule.{RespectRule}
+use Rattle.kube_objects.specs.declared.rules.RespectRule.TheVariants.{Record, Own}
 use Rattle.kube_objects.specs.declared.script.Proc.{Proc}
-use Rattle.kube_objects.specs.Document.{Doc, end_beat, field, process_at, is_controller, of_millis, of_seconds, lease_duration, retry_period, renew_deadline}
+use Rattle.kube_objects.specs.Document.{Doc, end_beat, field, process_at, is_controller, of_millis, of_seconds, call_timeout, retry_period, renew_deadline}
 use Rattle.kube_objects.specs.Entry.{Identity}
 use Rattle.kube_objects.specs.Pauses.{is_paused}
 use Rattle.history.specs.History.{history}
 use Rattle.history.specs.Safe.{Acts}
 use Rattle.history_laws.proofs.Plainly.{some_is, and_left, and_right, and_both}
-use Rattle.span_laws.proofs.Quotients.{rounded_is}
+use Rattle.span_laws.specs.Looks.{IsGreatest}
+use Rattle.span_laws.specs.Quotients.{most_beats}
+use Rattle.span_laws.proofs.Quotients.{rounded_is, bounds_are_exact}
 use Rattle.call_laws.specs.Answering.{with_events}
 use Rattle.call_laws.proofs.Answering.{events_position}
 use Rattle.takeover_laws.specs.Acting.{AreInTime}
 use Rattle.takeover_laws.specs.Calm.{IsQuiet, IsCalm}
-use Rattle.calm_laws.specs.Bounds.{SomebodyActs, IsCandidate, LastsFor, early_record, takeover_bound}
-use Rattle.calm_laws.proofs.Bounded.{takeovers_are_told}
-use Rattle.settle_laws.specs.Settles.{EndsInBeats, AllLastFor, IsSettled, settle_bound}
-use Rattle.settle_laws.proofs.Settled.{settling_is_told}
+use Rattle.takeover_laws.specs.Waits.{blocked_for}
+use Rattle.calm_laws.specs.Bounds.{SomebodyActs, IsCandidate, AreBeats, LastsFor, early_record}
+use Rattle.calm_laws.proofs.Bounded.{takeovers_are_bounded, next_multiple}
+use Rattle.settle_laws.specs.Settles.{EndsBy, AllLastFor, IsSettled}
+use Rattle.settle_laws.proofs.Settled.{calm_spans_settle}
 use Rattle.silence_laws.specs.Silence.{LeadsUntil, Bears, IsStopped}
-use Rattle.silence_laws.specs.Least.{IsLead, takes_least, last_renewal}
-use Rattle.silence_laws.proofs.Lasting.{silences_are_told}
+use Rattle.silence_laws.specs.Least.{IsLead, TakesAtLeast, takes_beats, last_renewal}
+use Rattle.silence_laws.proofs.Lasting.{silences_last}
 use Rattle.silence_laws.proofs.Released.{releases_last}
-use Rattle.succession_laws.specs.Successions.{IsRival, IsFollowed, Hears, succession_bound}
-use Rattle.succession_laws.proofs.Following.{successors_are_told}
+use Rattle.succession_laws.specs.Successions.{IsRival, IsFollowed, Hears, last_ways}
+use Rattle.succession_laws.proofs.Following.{successors_lead}
 use Rattle.succession_laws.proofs.Lingering.{leaders_act_on}
-use Rattle.release_laws.specs.Releases.{release_bound}
-use Rattle.release_laws.proofs.Following.{releases_are_told}
+use Rattle.release_laws.proofs.Following.{releases_are_followed}
 use Rattle.document_laws.proofs.SoundDocuments.{sound-document}
 use Rattle.script_reader.specs.Lawful.{IsLawfulDoc}
 use Rattle.lens_bounds.specs.declared.calm.Calm.{Calm}
 use Rattle.lens_bounds.specs.declared.elections.Handover.{Handover}
 use Rattle.lens_bounds.specs.Documents.{calm_of}
-use Rattle.lens_bounds.specs.Elections.{retry, gets, acts_on, own_term, longest_term, longest_lease, handed_over, others, followers, replies_count, renews, outlasts, stays_by, lead, stay}
+use Rattle.lens_bounds.specs.Elections.{enough, wait, least_wait, retry, gets, acts_on, own_term, longest_term, longest_lease, as_respected, shortest_lease, handed_over, others, followers, replies_count, renews, outlasts, stays_by, lead, stay}
 use Rattle.bounds_laws.specs.Undisturbed.{far_of, LeadsUndisturbed, IsOther, GivesUp, IsWell, MayFollow, LeadsWell, StaysWell}
 use Rattle.bounds_laws.specs.Elections.{CrashesAreBounded, StopsAreBounded, ActsAreBounded, LeadsAreBounded, StaysAreBounded}
 use Rattle.bounds_laws.proofs.Reaching.{Standing, at_place}
 use Rattle.bounds_laws.proofs.Steady.{steady, undisturbed, runs_least, runs_most, some_far, reply_within}
-use Rattle.bounds_laws.proofs.Settings.{some_slow, some_fast, waits, in_time, counts_of, all_renew, bears, others_renew, others_renew_around}
+use Rattle.bounds_laws.proofs.Waiting.{blocked_is, wait_is, least_is}
+use Rattle.bounds_laws.proofs.Settings.{some_slow, some_fast, period_some, waits, in_time, counts_of, all_renew, bears, others_renew, others_renew_around}
 use Rattle.bounds_laws.proofs.Replies.{replies_come, released}
 use Rattle.bounds_laws.proofs.Folding.{IsWithin, other_within, alone, term_within, lease_within}
-use Rattle.bounds_laws.proofs.Telling.{crash_is, stop_is, acts_on_is, leads_is, stays_from_is, millis_most, millis_least, enough_beats, least_looks_is, crash_most_is, stop_most_is, leads_beats, stays_from_beats}
+use Rattle.bounds_laws.proofs.Telling.{crash_is, stop_is, acts_on_is, leads_is, stays_from_is, millis_most, millis_least, enough_beats}
 
 -- a controller's longest term without a success
 term_is : (doc : Doc) (p : ℕ) (x : Proc) → process_at doc p ≡ Some x → retry_period doc p + renew_deadline doc p ≡ of_millis (own_term x)
@@ -65,14 +71,34 @@ seconds_more m n le = omega (arith, le)
 within_same : (a : Handover) → IsWithin a a
 within_same a = record { crash_least = omega arith; crash_most = omega arith; stop_most = omega arith; leads = omega arith; stays_from = omega arith }
 
+-- the handover from a leader, as another one respects it, to that one
+abbrev handed_to : Doc → Proc → Proc → Handover
+handed_to doc leader x = handed_over (calm_of doc) (longest_term doc.controllers) (longest_lease doc.controllers) (as_respected (calm_of doc).respect x.lease_seconds leader) x
+
+as_same : (rule : RespectRule) (x : Proc) → as_respected rule x.lease_seconds x ≡ x
+as_same Record x = refl
+as_same Own x = refl
+
+same_retry : (rule : RespectRule) (seconds : ℕ) (x : Proc) → (as_respected rule seconds x).retry_millis ≡ x.retry_millis
+same_retry Record seconds x = refl
+same_retry Own seconds x = refl
+
+same_replies : (c : Calm) (rule : RespectRule) (seconds : ℕ) (x : Proc) → replies_count c (as_respected rule seconds x) ≡ replies_count c x
+same_replies c Record seconds x = refl
+same_replies c Own seconds x = refl
+
 -- where whoever leads stays, replies count
-each_replies : (c : Calm) (ps : List Proc) → stay c ps ≡ true → lead c ps ≡ true
-each_replies c [] stays = refl
-each_replies c (p ∷ ps) stays =
-    and_both (replies_count c p) (lead c ps) (and_left (replies_count c p) (renews c p) (and_left (replies_count c p && renews c p) (outlasts c p) (and_left (stays_by c p) (stay c ps) stays))) (each_replies c ps (and_right (stays_by c p) (stay c ps) stays))
+each_replies : (c : Calm) (least : ℕ) (ps : List Proc) → list_all (λ p. stays_by c (as_respected c.respect least p)) ps ≡ true → lead c ps ≡ true
+each_replies c least [] stays = refl
+each_replies c least (p ∷ ps) stays =
+    let x : Proc = as_respected c.respect least p in
+    let one : stays_by c x ≡ true = and_left (stays_by c x) (list_all (λ p. stays_by c (as_respected c.respect least p)) ps) stays in
+    let more : list_all (λ p. stays_by c (as_respected c.respect least p)) ps ≡ true = and_right (stays_by c x) (list_all (λ p. stays_by c (as_respected c.respect least p)) ps) stays in
+    and_both (replies_count c p) (lead c ps)
+    (sym (same_replies c c.respect least p) ∙ and_left (replies_count c x) (renews c x) (and_left (replies_count c x && renews c x) (outlasts c x) one)) (each_replies c least ps more)
 
 leads_where_stays : (doc : Doc) → stay (calm_of doc) doc.controllers ≡ true → lead (calm_of doc) doc.controllers ≡ true
-leads_where_stays doc = each_replies (calm_of doc) doc.controllers
+leads_where_stays doc = each_replies (calm_of doc) (shortest_lease doc.controllers) doc.controllers
 
 -- by a later beat
 followed_later : (doc : Doc) (b m n e : ℕ) (q : Identity) → m ≤ n → IsFollowed doc b m e q → IsFollowed doc b n e q
@@ -111,7 +137,7 @@ module _ (doc : Doc) (lawful : IsLawfulDoc doc) where
 
         on : k + 2 ≤ b + 2 * far + lasting
         on =
-            leaders_act_on doc 1 far b e q (sound-document doc lawful) (omega arith) (some_far doc lawful q.process l.role) l.end (waits doc lawful q.process l.role) leads_until quiet hears (calm_of doc).slow lasting (runs_least doc lawful q.process l.role b e)
+            leaders_act_on doc 1 far b e q (sound-document doc lawful) (omega arith) (some_far doc lawful q.process l.role) l.end (period_some doc lawful q.process l.role) leads_until quiet hears (calm_of doc).slow lasting (runs_least doc lawful q.process l.role b e)
             (rounded_is (calm_of doc).slow (retry_period doc q.process + renew_deadline doc q.process) (some_slow doc lawful)).0 k to acting
 
         same : lasting ≡ div_ceil (of_millis (own_term leader)) (calm_of doc).slow
@@ -134,10 +160,10 @@ module _ (doc : Doc) (lawful : IsLawfulDoc doc) where
 
       -- the bounds of each other one are within those of all
       all_within : (h : Handover) → others (calm_of doc) q.process leader doc.controllers ≡ Some h → (p : ℕ) (role : is_controller doc p ≡ true) → (p ≡ q.process → ⊥)
-          → IsWithin (handed_over (calm_of doc) (longest_term doc.controllers) (longest_lease doc.controllers) leader (at_place doc p role).proc) h
+          → IsWithin (handed_to doc leader (at_place doc p role).proc) h
       all_within h is p role other =
           let f = other_within (calm_of doc) (longest_term doc.controllers) (longest_lease doc.controllers) q.process leader 0 doc.controllers None p (at_place doc p role).proc (at_place doc p role).own (λ same. other (omega (arith, same))) in
-          subst (IsWithin (handed_over (calm_of doc) (longest_term doc.controllers) (longest_lease doc.controllers) leader (at_place doc p role).proc)) (some_is f.0 h (sym f.1 ∙ is)) f.2
+          subst (IsWithin (handed_to doc leader (at_place doc p role).proc)) (some_is f.0 h (sym f.1 ∙ is)) f.2
 
       -- ---- a crash
 
@@ -151,36 +177,76 @@ module _ (doc : Doc) (lawful : IsLawfulDoc doc) where
             same_own : retry (calm_of doc) leader + gets (calm_of doc) ≡ own
             same_own = ap (λ o. div_ceil (of_millis (field (λ (y : Proc). y.retry_millis) 0 o)) (calm_of doc).slow + last_renewal doc far) (sym leader_is)
 
-            few : 0 < h.crash_least → (p : ℕ) → (role : is_controller doc p ≡ true) → (p ≡ q.process → ⊥) → h.crash_least + own - 3 ≤ takes_least doc 1 far p (calm_of doc).slow (calm_of doc).fast (lease_duration doc q.process)
+            blocks : (p : ℕ) (role : is_controller doc p ≡ true) → of_seconds (as_respected (calm_of doc).respect (at_place doc p role).proc.lease_seconds leader).lease_seconds ≡ blocked_for doc p q.process
+            blocks p role = blocked_is doc p q.process (at_place doc p role).proc leader (at_place doc p role).whole leader_is
+
+            lasting : ℕ → ℕ
+            lasting p = div_ceil (blocked_for doc p q.process) (calm_of doc).fast
+
+            few : 0 < h.crash_least → (p : ℕ) → (role : is_controller doc p ≡ true) → (p ≡ q.process → ⊥)
+                → h.crash_least + own - 3 ≤ takes_beats 1 far (least_wait (calm_of doc) (at_place doc p role).proc) (wait (calm_of doc) (at_place doc p role).proc) (lasting p)
             few some p role other =
                 omega (
                   arith,
                   some,
                   (all_within h h_is p role other).crash_least,
                   same_own,
-                  least_looks_is doc q.process leader leader_is p (at_place doc p role).proc (at_place doc p role).whole,
+                  ap (λ n. enough (calm_of doc) (of_millis n)) (same_retry (calm_of doc).respect (at_place doc p role).proc.lease_seconds leader),
+                  ap (λ time. takes_beats 1 far (least_wait (calm_of doc) (at_place doc p role).proc) (wait (calm_of doc) (at_place doc p role).proc) (div_ceil time (calm_of doc).fast)) (blocks p role),
                 )
+
+            takes : 0 < h.crash_least → (p : ℕ) → is_controller doc p ≡ true → (p ≡ q.process → ⊥) → TakesAtLeast doc 1 far e p (blocked_for doc p q.process) (h.crash_least + own - 3)
+            takes some p role other = record {
+              slow = (calm_of doc).slow;
+              fast = (calm_of doc).fast;
+              wait = wait (calm_of doc) (at_place doc p role).proc;
+              needed = least_wait (calm_of doc) (at_place doc p role).proc;
+              lasting = lasting p;
+              runs_least = runs_least doc lawful p role 0 e;
+              runs_most = runs_most doc lawful p role 0 e;
+              wait_is = wait_is doc lawful p role (some_slow doc lawful);
+              needed_is = least_is doc lawful p role (some_fast doc lawful);
+              lasting_is = (rounded_is (calm_of doc).fast (blocked_for doc p q.process) (some_fast doc lawful)).1;
+              least_is =
+                  λ beats is. omega (
+                    arith,
+                    few some p role other,
+                    ((bounds_are_exact (least_wait (calm_of doc) (at_place doc p role).proc + 2 * 1) (wait (calm_of doc) (at_place doc p role).proc + 2 * far) (lasting p)).1 (omega (arith, some_far doc lawful p role))).1 beats is,
+                  );
+            }
 
             told : 0 < h.crash_least → b + (h.crash_least + own - 3) + 3 ≤ k + own
             told some =
                 omega (
                   arith,
-                  silences_are_told doc 1 far b e q leads_until bearing (inl (others_renew doc lawful stays b e q).before) quiet (λ p. (calm_of doc).slow) (λ p. (calm_of doc).fast)
-                      (λ p role other. record { some = some_slow doc lawful; least = runs_least doc lawful p role 0 e; most = runs_most doc lawful p role 0 e }) (h.crash_least + own - 3) (few some) k is,
+                  silences_last doc 1 far b e q leads_until bearing (inl (others_renew doc lawful stays b e q).before) quiet (h.crash_least + own - 3) (takes some) k is,
                 )
 
         crash_by : (p n : ℕ) → IsOther doc b q p → b ≤ n → h.crash_most ≤ n - b → n ≤ e → IsFollowed doc b n e q
         crash_by p n o from le to =
-            followed_later doc b (b + succession_bound doc 1 far p (calm_of doc).slow (calm_of doc).fast (lease_duration doc q.process)) n e q by_n
-            (successors_are_told doc 1 far b e q leads_until bearing quiet (replies_come doc lawful q.process l.role b b (omega arith) l.awake) (others_renew doc lawful stays b e q)
-            p (calm_of doc).slow (calm_of doc).fast (rival p o) (some_slow doc lawful) (some_fast doc lawful) (omega (arith, by_n, to)))
+            followed_later doc b (b + most + wait (calm_of doc) x + last_ways doc far) n e q by_n
+            (successors_lead doc 1 far b e q leads_until bearing quiet (replies_come doc lawful q.process l.role b b (omega arith) l.awake) (others_renew doc lawful stays b e q)
+            p (calm_of doc).slow (calm_of doc).fast (wait (calm_of doc) x) (least_wait (calm_of doc) x) (rival p o) (wait_is doc lawful p o.role (some_slow doc lawful)) (least_is doc lawful p o.role (some_fast doc lawful))
+            lasting most (rounded_is (calm_of doc).slow (blocked_for doc p q.process) (some_slow doc lawful)).0 ((bounds_are_exact (least_wait (calm_of doc) x + 2 * 1) (wait (calm_of doc) x + 2 * far) lasting).0 (omega arith)).1 (omega (arith, by_n, to)))
           where
-            by_n : b + succession_bound doc 1 far p (calm_of doc).slow (calm_of doc).fast (lease_duration doc q.process) ≤ n
+            x : Proc
+            x = (at_place doc p o.role).proc
+
+            lasting : ℕ
+            lasting = div_ceil (blocked_for doc p q.process) (calm_of doc).slow
+
+            most : ℕ
+            most = most_beats (least_wait (calm_of doc) x + 2 * 1) (wait (calm_of doc) x + 2 * far) lasting
+
+            blocks : of_seconds (as_respected (calm_of doc).respect x.lease_seconds leader).lease_seconds ≡ blocked_for doc p q.process
+            blocks = blocked_is doc p q.process x leader (at_place doc p o.role).whole leader_is
+
+            by_n : b + most + wait (calm_of doc) x + last_ways doc far ≤ n
             by_n =
                 omega (
                   arith,
                   (all_within h h_is p o.role o.other).crash_most,
-                  crash_most_is doc q.process leader leader_is p (at_place doc p o.role).proc (at_place doc p o.role).whole,
+                  ap (λ time. most_beats (least_wait (calm_of doc) x + 2 * 1) (wait (calm_of doc) x + 2 * far) (div_ceil time (calm_of doc).slow)) blocks,
                   le,
                   from,
                 )
@@ -193,19 +259,12 @@ module _ (doc : Doc) (lawful : IsLawfulDoc doc) where
 
         stop_by : (p n : ℕ) → IsOther doc b q p → b ≤ n → h.stop_most ≤ n - b → n ≤ e → IsFollowed doc b n e q
         stop_by p n o from le to =
-            followed_later doc b (b + release_bound doc far p (calm_of doc).slow) n e q by_n
-            (releases_are_told doc 1 far b e q leads_until bearing stop (released doc lawful b e q l.role gives) (replies_come doc lawful q.process l.role (suc b) b (omega arith) l.awake)
-            (others_renew_around doc lawful stays b e q) p (calm_of doc).slow (calm_of doc).fast (rival p o) (some_slow doc lawful) (omega (arith, by_n, to)))
+            followed_later doc b (b + wait (calm_of doc) (at_place doc p o.role).proc + (6 * far - 1)) n e q by_n
+            (releases_are_followed doc 1 far b e q leads_until bearing stop (released doc lawful b e q l.role gives) (replies_come doc lawful q.process l.role (suc b) b (omega arith) l.awake)
+            (others_renew_around doc lawful stays b e q) p (calm_of doc).slow (calm_of doc).fast (wait (calm_of doc) (at_place doc p o.role).proc) (rival p o) (wait_is doc lawful p o.role (some_slow doc lawful)) (omega (arith, by_n, to)))
           where
-            by_n : b + release_bound doc far p (calm_of doc).slow ≤ n
-            by_n =
-                omega (
-                  arith,
-                  (all_within h h_is p o.role o.other).stop_most,
-                  stop_most_is doc q.process leader leader_is p (at_place doc p o.role).proc (at_place doc p o.role).whole,
-                  le,
-                  from,
-                )
+            by_n : b + wait (calm_of doc) (at_place doc p o.role).proc + (6 * far - 1) ≤ n
+            by_n = omega (arith, (all_within h h_is p o.role o.other).stop_most, le, from)
 
   -- ---- a calm span
 
@@ -237,20 +296,41 @@ module _ (doc : Doc) (lawful : IsLawfulDoc doc) where
         runs_most = runs_most doc lawful p f.role (a - 1) e;
       }
 
+      -- its beats
+      abbrev lost : ℕ
+      lost = call_timeout doc p / (calm_of doc).slow
+
+      lost_is : lost ≡ of_millis follower.proc.timeout_millis / (calm_of doc).slow
+      lost_is = ap (λ o. of_millis (field (λ (y : Proc). y.timeout_millis) 0 o) / (calm_of doc).slow) follower.whole
+
+      beats : AreBeats doc p (calm_of doc).slow (calm_of doc).fast lost (wait (calm_of doc) follower.proc) (least_wait (calm_of doc) follower.proc)
+      beats = record {
+        lost_is = next_multiple (call_timeout doc p) (calm_of doc).slow (some_slow doc lawful);
+        wait_is = wait_is doc lawful p f.role (some_slow doc lawful);
+        needed_is = least_is doc lawful p f.role (some_fast doc lawful);
+      }
+
+      abbrev most_for : ℕ → ℕ
+      most_for time = most_beats (least_wait (calm_of doc) follower.proc + 2 * 1) (wait (calm_of doc) follower.proc + 2 * far_of doc) (div_ceil time (calm_of doc).slow)
+
+      greatest_for : (time : ℕ) → IsGreatest (least_wait (calm_of doc) follower.proc + 2 * 1) (wait (calm_of doc) follower.proc + 2 * far_of doc) (div_ceil time (calm_of doc).slow) (most_for time)
+      greatest_for time = ((bounds_are_exact (least_wait (calm_of doc) follower.proc + 2 * 1) (wait (calm_of doc) follower.proc + 2 * far_of doc) (div_ceil time (calm_of doc).slow)).0 (omega arith)).1
+
       -- its bounds are within the follower's
-      within : IsWithin (handed_over (calm_of doc) (longest_term doc.controllers) (longest_lease doc.controllers) leader follower.proc) (followers (calm_of doc) leader doc.controllers found)
+      within : IsWithin (handed_to doc leader follower.proc) (followers (calm_of doc) leader doc.controllers found)
       within = ⊎_elim of_other of_one f.other
         where
-          of_other : (p ≡ place → ⊥) → IsWithin (handed_over (calm_of doc) (longest_term doc.controllers) (longest_lease doc.controllers) leader follower.proc) (followers (calm_of doc) leader doc.controllers found)
+          of_other : (p ≡ place → ⊥) → IsWithin (handed_to doc leader follower.proc) (followers (calm_of doc) leader doc.controllers found)
           of_other other =
               let g = other_within (calm_of doc) (longest_term doc.controllers) (longest_lease doc.controllers) place leader 0 doc.controllers None p follower.proc follower.own (λ same. other (omega (arith, same))) in
-              subst (λ o. IsWithin (handed_over (calm_of doc) (longest_term doc.controllers) (longest_lease doc.controllers) leader follower.proc) (followers (calm_of doc) leader doc.controllers o)) (sym g.1) g.2
+              subst (λ o. IsWithin (handed_to doc leader follower.proc) (followers (calm_of doc) leader doc.controllers o)) (sym g.1) g.2
 
-          of_one : length doc.controllers ≡ 1 → IsWithin (handed_over (calm_of doc) (longest_term doc.controllers) (longest_lease doc.controllers) leader follower.proc) (followers (calm_of doc) leader doc.controllers found)
+          of_one : length doc.controllers ≡ 1 → IsWithin (handed_to doc leader follower.proc) (followers (calm_of doc) leader doc.controllers found)
           of_one one =
-              subst (λ o. IsWithin (handed_over (calm_of doc) (longest_term doc.controllers) (longest_lease doc.controllers) leader follower.proc) (followers (calm_of doc) leader doc.controllers o)) (sym none)
-              (subst (λ x. IsWithin (handed_over (calm_of doc) (longest_term doc.controllers) (longest_lease doc.controllers) leader x) (handed_over (calm_of doc) (longest_term doc.controllers) (longest_lease doc.controllers) leader leader)) (sym proc_is)
-              (within_same (handed_over (calm_of doc) (longest_term doc.controllers) (longest_lease doc.controllers) leader leader)))
+              subst (λ o. IsWithin (handed_to doc leader follower.proc) (followers (calm_of doc) leader doc.controllers o)) (sym none)
+              (subst (λ x. IsWithin (handed_to doc leader x) (handed_over (calm_of doc) (longest_term doc.controllers) (longest_lease doc.controllers) leader leader)) (sym proc_is)
+              (subst (λ y. IsWithin (handed_over (calm_of doc) (longest_term doc.controllers) (longest_lease doc.controllers) y leader) (handed_over (calm_of doc) (longest_term doc.controllers) (longest_lease doc.controllers) leader leader)) (sym (as_same (calm_of doc).respect leader))
+              (within_same (handed_over (calm_of doc) (longest_term doc.controllers) (longest_lease doc.controllers) leader leader))))
             where
               at_zero : place ≡ 0
               at_zero = omega (arith, one, ltb-true place (length doc.controllers) place_role)
@@ -267,7 +347,7 @@ module _ (doc : Doc) (lawful : IsLawfulDoc doc) where
     -- ---- somebody acts
 
     leads_by : (p n : ℕ) → MayFollow doc a e 0 place p → a ≤ n → (followers (calm_of doc) leader doc.controllers found).leads ≤ n - a → n ≤ e
-        → LastsFor (of_seconds leader.lease_seconds) (early_record a (history doc (a + far_of doc))) → LeadsWell doc a e n
+        → LastsFor doc p (blocked_for doc p place) (early_record a (history doc (a + far_of doc))) → LeadsWell doc a e n
     leads_by p n f from le to lasts = record {
       q = s.q;
       role = s.role;
@@ -275,20 +355,31 @@ module _ (doc : Doc) (lawful : IsLawfulDoc doc) where
       acts = record { k = s.acts.k; from = s.acts.from; to = omega (arith, s.acts.to, by_n); acts = s.acts.acts };
     }
       where
-        by_n : a + takeover_bound doc 1 (far_of doc) p 0 (calm_of doc).slow (calm_of doc).fast (of_seconds leader.lease_seconds) ≤ n
+        x : Proc
+        x = (follower p 0 f).proc
+
+        time : ℕ
+        time = blocked_for doc p place
+
+        first : ℕ
+        first = max (lost p 0 f) (4 * far_of doc - 1) + wait (calm_of doc) x
+
+        by_n : a + first + most_for p 0 f time + 4 * far_of doc ≤ n
         by_n =
             omega (
               arith,
               (within p 0 f).leads,
-              leads_beats doc place leader leader_is p (follower p 0 f).proc (follower p 0 f).whole,
+              lost_is p 0 f,
+              ap (most_for p 0 f) (blocked_is doc p place x leader (follower p 0 f).whole leader_is),
               le,
               from,
             )
 
-        s : SomebodyActs doc 1 (far_of doc) a e (a + takeover_bound doc 1 (far_of doc) p 0 (calm_of doc).slow (calm_of doc).fast (of_seconds leader.lease_seconds))
+        s : SomebodyActs doc 1 (far_of doc) a e (a + first + most_for p 0 f time + 4 * far_of doc)
         s =
-            takeovers_are_told doc 1 (far_of doc) a e (sound-document doc lawful) calm_span in_time_all (omega arith) (some_far doc lawful p f.role) end p 0 (calm_of doc).slow (calm_of doc).fast (candidate p 0 f)
-            (some_slow doc lawful) (some_fast doc lawful) (of_seconds leader.lease_seconds) lasts (omega (arith, by_n, to))
+            takeovers_are_bounded doc 1 (far_of doc) a e (sound-document doc lawful) calm_span in_time_all (omega arith) (some_far doc lawful p f.role) end p 0 (calm_of doc).slow (calm_of doc).fast
+            (lost p 0 f) (wait (calm_of doc) x) (least_wait (calm_of doc) x) (candidate p 0 f) (beats p 0 f) first (omega arith) (omega arith) (omega arith)
+            time (div_ceil time (calm_of doc).slow) (most_for p 0 f time) lasts (rounded_is (calm_of doc).slow time (some_slow doc lawful)).0 (greatest_for p 0 f time) (omega (arith, by_n, to))
 
     -- ---- and one stays
 
@@ -296,11 +387,12 @@ module _ (doc : Doc) (lawful : IsLawfulDoc doc) where
       abbrev old : ℕ
       old = acts_on (calm_of doc) (longest_term doc.controllers)
 
-      ends_in : (p : ℕ) (role : is_controller doc p ≡ true) → EndsInBeats doc (far_of doc) a e old p
-      ends_in p role = record {
+      ends_by : (p : ℕ) (role : is_controller doc p ≡ true) → EndsBy doc (far_of doc) a e old p
+      ends_by p role = record {
         slow = (calm_of doc).slow;
-        some = some_slow doc lawful;
+        beats = div_ceil (retry_period doc p + renew_deadline doc p) (calm_of doc).slow;
         runs = runs_least doc lawful p role a e;
+        beats_is = (rounded_is (calm_of doc).slow (retry_period doc p + renew_deadline doc p) (some_slow doc lawful)).0;
         in_old = omega (arith, some_far doc lawful p role, div_more (retry_period doc p + renew_deadline doc p) (of_millis (longest_term doc.controllers)) (calm_of doc).slow (some_slow doc lawful) shorter);
       }
         where
@@ -313,7 +405,7 @@ module _ (doc : Doc) (lawful : IsLawfulDoc doc) where
           (seconds_more (at_place doc p role).proc.lease_seconds (longest_lease doc.controllers) (lease_within doc.controllers p (at_place doc p role).proc (at_place doc p role).own))
 
       stays_by_beat : (p n : ℕ) → MayFollow doc a e old place p → a ≤ n → (followers (calm_of doc) leader doc.controllers found).stays_from ≤ n - a → n ≤ e
-          → LastsFor (of_seconds (longest_lease doc.controllers)) (early_record a (history doc (a + far_of doc))) → StaysWell doc a e n
+          → LastsFor doc p (of_seconds (longest_lease doc.controllers)) (early_record a (history doc (a + far_of doc))) → StaysWell doc a e n
       stays_by_beat p n f from le to lasts = record {
         q = s.q;
         role = s.role;
@@ -321,24 +413,24 @@ module _ (doc : Doc) (lawful : IsLawfulDoc doc) where
         stays = record { acts = λ k since upto. s.stays.acts k (omega (arith, by_n, since)) upto; alone = λ x before at since. s.stays.alone x before at (omega (arith, by_n, since)) };
       }
         where
-          bound : ℕ
-          bound = settle_bound doc 1 (far_of doc) p old (calm_of doc).slow (calm_of doc).fast old (of_seconds (longest_lease doc.controllers))
+          x : Proc
+          x = (follower p old f).proc
 
-          by_n : a + settle_bound doc 1 (far_of doc) p old (calm_of doc).slow (calm_of doc).fast old (of_seconds (longest_lease doc.controllers)) ≤ n
-          by_n =
-              omega (
-                arith,
-                (within p old f).stays_from,
-                stays_from_beats doc place leader leader_is p (follower p old f).proc (follower p old f).whole (longest_term doc.controllers) (longest_lease doc.controllers),
-                le,
-                from,
-              )
+          time : ℕ
+          time = of_seconds (longest_lease doc.controllers)
 
-          s : IsSettled doc 1 (far_of doc) a e (a + settle_bound doc 1 (far_of doc) p old (calm_of doc).slow (calm_of doc).fast old (of_seconds (longest_lease doc.controllers)))
+          first : ℕ
+          first = max old (max (lost p old f) (old + 4 * far_of doc - 1) + wait (calm_of doc) x)
+
+          by_n : a + first + most_for p old f time + 4 * far_of doc ≤ n
+          by_n = omega (arith, (within p old f).stays_from, lost_is p old f, le, from)
+
+          s : IsSettled doc 1 (far_of doc) a e (a + first + most_for p old f time + 4 * far_of doc)
           s =
-              settling_is_told doc 1 (far_of doc) a e (sound-document doc lawful) calm_span in_time_all (omega arith) (some_far doc lawful p f.role) end (λ r role steady. all_renew doc lawful stays a e r role)
-              old (λ r role steady. ends_in r role) p old (calm_of doc).slow (calm_of doc).fast (candidate p old f) (some_slow doc lawful) (some_fast doc lawful) (omega arith)
-              (of_seconds (longest_lease doc.controllers)) lasts all_last (omega (arith, by_n, to))
+              calm_spans_settle doc 1 (far_of doc) a e (sound-document doc lawful) calm_span in_time_all (omega arith) (some_far doc lawful p f.role) end (λ r role steady. all_renew doc lawful stays a e r role)
+              old (λ r role steady. ends_by r role) p old (calm_of doc).slow (calm_of doc).fast (lost p old f) (wait (calm_of doc) x) (least_wait (calm_of doc) x) (candidate p old f) (beats p old f) (omega arith)
+              first (omega arith) (omega arith) (omega arith) time (div_ceil time (calm_of doc).slow) (most_for p old f time) lasts all_last (rounded_is (calm_of doc).slow time (some_slow doc lawful)).0 (greatest_for p old f time)
+              (omega (arith, by_n, to))
 
 -- ---- the laws
 
@@ -361,12 +453,12 @@ acts_are_bounded doc lawful b e q leader leader_is l quiet awake time told k fro
     millis_most doc (acts_on (calm_of doc) (own_term leader)) time (k + 1 - b) (acts_on_is doc q.process leader time told).1 (acts_for doc lawful b e q leader leader_is l quiet awake k from to acting)
 
 pub leads_are_bounded : LeadsAreBounded
-leads_are_bounded doc lawful a e w end place leader role leader_is time told lasts p n f from le to =
+leads_are_bounded doc lawful a e w end place leader role leader_is time told p n f lasts from le to =
     let t = leads_is doc place leader time told in
     leads_by doc lawful a e w end place leader role leader_is t.0 p n f from (enough_beats doc (followers (calm_of doc) leader doc.controllers (others (calm_of doc) place leader doc.controllers)).leads time (n - a) lawful.settings.beat_least t.1 le) to lasts
 
 pub stays_are_bounded : StaysAreBounded
-stays_are_bounded doc lawful a e w end place leader role leader_is time told lasts p n f from le to =
+stays_are_bounded doc lawful a e w end place leader role leader_is time told p n f lasts from le to =
     let t = stays_from_is doc place leader time told in
     stays_by_beat doc lawful a e w end place leader role leader_is (leads_where_stays doc t.0) t.0 p n f from
     (enough_beats doc (followers (calm_of doc) leader doc.controllers (others (calm_of doc) place leader doc.controllers)).stays_from time (n - a) lawful.settings.beat_least t.1 le) to lasts

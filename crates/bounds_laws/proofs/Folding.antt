@@ -1,11 +1,11 @@
 -- The bounds over all that may follow a leader are over each of them.
-use Rattle.std.proofs.Common.{◌≡◌, ◌≤◌, ℕ, zero, suc, ◌+◌, ◌==◌, Bool, true, false, List, [], ◌∷◌, length, slice_get, Option, Some, None, refl, ap, ◌∙◌, subst, arith}
+use Rattle.std.proofs.Common.{◌≡◌, ◌≤◌, ℕ, zero, suc, ◌+◌, ◌==◌, Bool, true, false, List, [], ◌∷◌, length, slice_get, min, Option, Some, None, refl, ap, ◌∙◌, subst, arith}
 use Rattle.std.proofs.lemmas.Bool.{eqb-true}
 use Rattle.kube_objects.specs.declared.script.Proc.{Proc}
 use Rattle.history_laws.proofs.Plainly.{some_is, none_is}
 use Rattle.lens_bounds.specs.declared.calm.Calm.{Calm}
 use Rattle.lens_bounds.specs.declared.elections.Handover.{Handover}
-use Rattle.lens_bounds.specs.Elections.{handed_over, either, with_other, others_from, own_term, longest_term, longest_lease}
+use Rattle.lens_bounds.specs.Elections.{handed_over, either, with_other, others_from, own_term, longest_term, longest_lease, as_respected, shortest_from, shortest_lease}
 
 -- the bounds of one are within those of all
 pub record IsWithin (a h : Handover) : Type 0 where
@@ -34,6 +34,9 @@ right : (a b : Handover) → IsWithin b (either a b)
 right a b = record { crash_least = omega arith; crash_most = omega arith; stop_most = omega arith; leads = omega arith; stays_from = omega arith }
 
 module _ (c : Calm) (term seconds place : ℕ) (leader : Proc) where
+  abbrev pub handed : Proc → Handover
+  handed p = handed_over c term seconds (as_respected c.respect p.lease_seconds leader) p
+
   -- one more keeps those that were found, and is found where it isn't the leader
   kept : (t : Bool) (found : Option Handover) (b a : Handover) → found ≡ Some a → (x : Handover) × (with_other t found b ≡ Some x) × IsWithin a x
   kept true found b a is = (a, is, same a)
@@ -48,24 +51,24 @@ module _ (c : Calm) (term seconds place : ℕ) (leader : Proc) where
   found_within : (at : ℕ) (ps : List Proc) (found : Option Handover) (a : Handover) → found ≡ Some a → (h : Handover) × (others_from c term seconds place leader at ps found ≡ Some h) × IsWithin a h
   found_within at [] found a before = (a, before, same a)
   found_within at (p ∷ ps) found a before =
-      let k = kept (at == place) found (handed_over c term seconds leader p) a before in
-      let f = found_within (at + 1) ps (with_other (at == place) found (handed_over c term seconds leader p)) k.0 k.1 in
+      let k = kept (at == place) found (handed p) a before in
+      let f = found_within (at + 1) ps (with_other (at == place) found (handed p)) k.0 k.1 in
       (f.0, f.1, within_trans a k.0 f.0 k.2 f.2)
 
   -- and of each other
   pub other_within : (at : ℕ) (ps : List Proc) (found : Option Handover) (i : ℕ) (p : Proc) → slice_get ps i ≡ Some p → (at + i ≡ place → ⊥)
-      → (h : Handover) × (others_from c term seconds place leader at ps found ≡ Some h) × IsWithin (handed_over c term seconds leader p) h
+      → (h : Handover) × (others_from c term seconds place leader at ps found ≡ Some h) × IsWithin (handed p) h
   other_within at [] found i p stands other = absurd (none_is p stands)
-  other_within at (x ∷ ps) found (suc i) p stands other = other_within (at + 1) ps (with_other (at == place) found (handed_over c term seconds leader x)) i p stands (λ e. other (omega (arith, e)))
+  other_within at (x ∷ ps) found (suc i) p stands other = other_within (at + 1) ps (with_other (at == place) found (handed x)) i p stands (λ e. other (omega (arith, e)))
   other_within at (x ∷ ps) found zero p stands other =
-      subst (λ p. (h : Handover) × (others_from c term seconds place leader at (x ∷ ps) found ≡ Some h) × IsWithin (handed_over c term seconds leader p) h) (some_is x p stands) (by_test (at == place) refl)
+      subst (λ p. (h : Handover) × (others_from c term seconds place leader at (x ∷ ps) found ≡ Some h) × IsWithin (handed p) h) (some_is x p stands) (by_test (at == place) refl)
     where
-      by_test : (t : Bool) → (at == place) ≡ t → (h : Handover) × (others_from c term seconds place leader at (x ∷ ps) found ≡ Some h) × IsWithin (handed_over c term seconds leader x) h
+      by_test : (t : Bool) → (at == place) ≡ t → (h : Handover) × (others_from c term seconds place leader at (x ∷ ps) found ≡ Some h) × IsWithin (handed x) h
       by_test true e = let e2 : at ≡ place = eqb-true at place e in absurd (other (omega (arith, e2)))
       by_test false e =
-          let k = added found (handed_over c term seconds leader x) in
-          let f = found_within (at + 1) ps (with_other (at == place) found (handed_over c term seconds leader x)) k.0 (ap (λ t. with_other t found (handed_over c term seconds leader x)) e ∙ k.1) in
-          (f.0, f.1, within_trans (handed_over c term seconds leader x) k.0 f.0 k.2 f.2)
+          let k = added found (handed x) in
+          let f = found_within (at + 1) ps (with_other (at == place) found (handed x)) k.0 (ap (λ t. with_other t found (handed x)) e ∙ k.1) in
+          (f.0, f.1, within_trans (handed x) k.0 f.0 k.2 f.2)
 
 -- the only one has no other
 pub alone : (c : Calm) (term seconds : ℕ) (leader : Proc) (ps : List Proc) → length ps ≡ 1 → others_from c term seconds 0 leader 0 ps None ≡ None
@@ -83,3 +86,17 @@ pub lease_within : (ps : List Proc) (i : ℕ) (p : Proc) → slice_get ps i ≡ 
 lease_within [] i p is = absurd (none_is p is)
 lease_within (x ∷ ps) zero p is = subst (λ (p : Proc). p.lease_seconds ≤ longest_lease (x ∷ ps)) (some_is x p is) (omega arith)
 lease_within (x ∷ ps) (suc i) p is = let below = lease_within ps i p is in omega (arith, below)
+
+-- and the shortest is no longer
+shortest_falls : (least : ℕ) (ps : List Proc) → shortest_from least ps ≤ least
+shortest_falls least [] = omega arith
+shortest_falls least (p ∷ ps) = omega (arith, shortest_falls (min p.lease_seconds least) ps)
+
+shortest_of : (least : ℕ) (ps : List Proc) (i : ℕ) (p : Proc) → slice_get ps i ≡ Some p → shortest_from least ps ≤ p.lease_seconds
+shortest_of least [] i p is = absurd (none_is p is)
+shortest_of least (x ∷ ps) zero p is =
+    subst (λ (p : Proc). shortest_from least (x ∷ ps) ≤ p.lease_seconds) (some_is x p is) (omega (arith, shortest_falls (min x.lease_seconds least) ps))
+shortest_of least (x ∷ ps) (suc i) p is = shortest_of (min x.lease_seconds least) ps i p is
+
+pub shortest_within : (ps : List Proc) (i : ℕ) (p : Proc) → slice_get ps i ≡ Some p → shortest_lease ps ≤ p.lease_seconds
+shortest_within ps i p is = shortest_of 4294967295 ps i p is

@@ -1,7 +1,9 @@
 pub mod Reaching
 pub mod Steady
+pub mod Waiting
+pub mod Folding
 pub mod Settings
 pub mod Replies
-pub mod Folding
 pub mod Telling
 pub mod Bounded
+pub mod Alike

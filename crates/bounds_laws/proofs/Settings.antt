@@ -4,12 +4,15 @@ use Rattle.std.specs.Int.{div_ceil}
 use Rattle.std.specs.List.{list_all}
 use Rattle.std.proofs.lemmas.Bool.{leb-true, ltb-true}
 use Rattle.std.proofs.lemmas.List.Elements.{All-head, All-tail}
+use Rattle.kube_objects.specs.declared.rules.RespectRule.{RespectRule}
+use Rattle.kube_objects.specs.declared.rules.RespectRule.TheVariants.{Record, Own}
 use Rattle.kube_objects.specs.declared.script.Proc.{Proc}
-use Rattle.kube_objects.specs.Document.{Doc, end_beat, field, is_controller, of_millis, of_seconds, lease_duration, retry_period, renew_deadline}
+use Rattle.kube_objects.specs.Document.{Doc, end_beat, field, is_controller, of_millis, of_seconds, retry_period, renew_deadline}
 use Rattle.kube_objects.specs.Entry.{Identity}
 use Rattle.history_laws.proofs.Plainly.{some_is, none_is, and_left, and_right}
 use Rattle.span_laws.proofs.Quotients.{rounded_is}
 use Rattle.takeover_laws.specs.Calm.{IsInTime}
+use Rattle.takeover_laws.specs.Waits.{longest_wait, blocked_for}
 use Rattle.stay_laws.specs.Stays.{RenewsInTime}
 use Rattle.silence_laws.specs.Silence.{Bears}
 use Rattle.succession_laws.specs.Successions.{OthersRenew}
@@ -18,10 +21,12 @@ use Rattle.document_laws.proofs.SoundDocuments.{sound-document}
 use Rattle.script_reader.specs.Lawful.{IsLawful, IsLawfulDoc}
 use Rattle.lens_bounds.specs.declared.calm.Calm.{Calm}
 use Rattle.lens_bounds.specs.Documents.{calm_of}
-use Rattle.lens_bounds.specs.Elections.{IsCalm, replies_count, renews, outlasts, stays_by, lead, stay}
+use Rattle.lens_bounds.specs.Elections.{IsCalm, retry, replies_count, renews, outlasts, stays_by, as_respected, shortest_lease, lead, stay}
 use Rattle.lens_bounds.proofs.Reaches.{calm-is}
 use Rattle.bounds_laws.specs.Undisturbed.{far_of}
 use Rattle.bounds_laws.proofs.Reaching.{Standing, at_place}
+use Rattle.bounds_laws.proofs.Folding.{shortest_within}
+use Rattle.bounds_laws.proofs.Waiting.{some_wait, blocked_is}
 use Rattle.bounds_laws.proofs.Steady.{runs_least, runs_most, some_far}
 
 each_of : (f : Proc → Bool) (ps : List Proc) (i : ℕ) (x : Proc) → list_all f ps ≡ true → slice_get ps i ≡ Some x → f x ≡ true
@@ -37,6 +42,34 @@ each_lawful (p ∷ ps) (suc i) x all is = each_lawful ps i x (All-tail IsLawful 
 some_millis : (n : ℕ) → 1 ≤ n → 1 ≤ of_millis n
 unfolding of_millis
 some_millis n some = omega (arith, some)
+
+seconds_more : (m n : ℕ) → m ≤ n → of_seconds m ≤ of_seconds n
+unfolding of_seconds
+seconds_more m n le = omega (arith, le)
+
+-- a leader stays whose record others respect for so many seconds
+record StaysFor (c : Calm) (x : Proc) (seconds : ℕ) : Type 0 where
+  replies : replies_count c x ≡ true
+  renewal : renews c x ≡ true
+  lasts : (retry c x + 5 * c.far - c.near) * c.fast < of_seconds seconds
+
+stays_for : (c : Calm) (x : Proc) → stays_by c x ≡ true → StaysFor c x x.lease_seconds
+stays_for c x is = record {
+  replies = and_left (replies_count c x) (renews c x) (and_left (replies_count c x && renews c x) (outlasts c x) is);
+  renewal = and_right (replies_count c x) (renews c x) (and_left (replies_count c x && renews c x) (outlasts c x) is);
+  lasts = ltb-true ((retry c x + 5 * c.far - c.near) * c.fast) (of_seconds x.lease_seconds) (and_right (replies_count c x && renews c x) (outlasts c x) is);
+}
+
+stays_respected : (c : Calm) (rule : RespectRule) (seconds : ℕ) (x : Proc) → stays_by c (as_respected rule seconds x) ≡ true → StaysFor c x (as_respected rule seconds x).lease_seconds
+stays_respected c Record seconds x is = stays_for c x is
+stays_respected c Own seconds x is =
+    let s : StaysFor c (record x { lease_seconds = seconds }) seconds = stays_for c (record x { lease_seconds = seconds }) is in
+    record { replies = s.replies; renewal = s.renewal; lasts = s.lasts }
+
+-- which is no longer than it blocks any of them
+respected_more : (rule : RespectRule) (x : Proc) (least seconds : ℕ) → least ≤ seconds → (as_respected rule least x).lease_seconds ≤ (as_respected rule seconds x).lease_seconds
+respected_more Record x least seconds le = omega arith
+respected_more Own x least seconds le = le
 
 module _ (doc : Doc) (lawful : IsLawfulDoc doc) where
   abbrev pub c : Calm
@@ -61,8 +94,11 @@ module _ (doc : Doc) (lawful : IsLawfulDoc doc) where
     pub own_lawful : IsLawful x
     own_lawful = each_lawful doc.controllers p x lawful.controllers place.own
 
-    pub waits : 1 ≤ retry_period doc p
-    waits = subst (λ o. 1 ≤ of_millis (field (λ (y : Proc). y.retry_millis) 0 o)) (sym place.whole) (some_millis x.retry_millis own_lawful.retry_least)
+    pub period_some : 1 ≤ retry_period doc p
+    period_some = subst (λ o. 1 ≤ of_millis (field (λ (y : Proc). y.retry_millis) 0 o)) (sym place.whole) (some_millis x.retry_millis own_lawful.retry_least)
+
+    pub waits : 1 ≤ longest_wait doc p
+    waits = some_wait doc lawful p role period_some
 
     pub lasts_some : 1 ≤ renew_deadline doc p
     lasts_some = subst (λ o. 1 ≤ of_millis (field (λ (y : Proc). y.renew_millis) 0 o)) (sym place.whole) (some_millis x.renew_millis own_lawful.renew_least)
@@ -80,12 +116,12 @@ module _ (doc : Doc) (lawful : IsLawfulDoc doc) where
 
     -- ---- and whose lead lasts
 
-    module _ (stays : stays_by (calm_of doc) x ≡ true) where
-      first : (replies_count (calm_of doc) x && renews (calm_of doc) x) ≡ true
-      first = and_left (replies_count (calm_of doc) x && renews (calm_of doc) x) (outlasts (calm_of doc) x) stays
+    module _ (stays : stays_by (calm_of doc) (as_respected (calm_of doc).respect (shortest_lease doc.controllers) x) ≡ true) where
+      s : StaysFor (calm_of doc) x (as_respected (calm_of doc).respect (shortest_lease doc.controllers) x).lease_seconds
+      s = stays_respected (calm_of doc) (calm_of doc).respect (shortest_lease doc.controllers) x stays
 
       pub replies : replies_count (calm_of doc) x ≡ true
-      replies = and_left (replies_count (calm_of doc) x) (renews (calm_of doc) x) first
+      replies = s.replies
 
       abbrev pub wait : ℕ
       wait = div_ceil (retry_period doc p) (calm_of doc).slow
@@ -93,12 +129,22 @@ module _ (doc : Doc) (lawful : IsLawfulDoc doc) where
       pub renewal : (4 * far_of doc) * (calm_of doc).fast ≤ renew_deadline doc p
       renewal =
           subst (λ o. (4 * far_of doc) * (calm_of doc).fast ≤ of_millis (field (λ (y : Proc). y.renew_millis) 0 o)) (sym place.whole)
-          (leb-true (4 * far_of doc * (calm_of doc).fast) (of_millis x.renew_millis) (and_right (replies_count (calm_of doc) x) (renews (calm_of doc) x) first))
+          (leb-true (4 * far_of doc * (calm_of doc).fast) (of_millis x.renew_millis) s.renewal)
 
-      pub lasts : (wait + 5 * far_of doc - 1) * (calm_of doc).fast < lease_duration doc p
-      lasts =
-          subst (λ o. (div_ceil (of_millis (field (λ (y : Proc). y.retry_millis) 0 o)) (calm_of doc).slow + 5 * far_of doc - 1) * (calm_of doc).fast < of_seconds (field (λ (y : Proc). y.lease_seconds) 0 o)) (sym place.whole)
-          (ltb-true ((div_ceil (of_millis x.retry_millis) (calm_of doc).slow + 5 * far_of doc - 1) * (calm_of doc).fast) (of_seconds x.lease_seconds) (and_right (replies_count (calm_of doc) x && renews (calm_of doc) x) (outlasts (calm_of doc) x) stays))
+      pub lasts : (r : ℕ) → is_controller doc r ≡ true → (wait + 5 * far_of doc - 1) * (calm_of doc).fast < blocked_for doc r p
+      lasts r other = omega (arith, least, more, blocked_is doc r p rival x (at_place doc r other).whole place.whole)
+        where
+          rival : Proc
+          rival = (at_place doc r other).proc
+
+          least : (wait + 5 * far_of doc - 1) * (calm_of doc).fast < of_seconds (as_respected (calm_of doc).respect (shortest_lease doc.controllers) x).lease_seconds
+          least =
+              subst (λ o. (div_ceil (of_millis (field (λ (y : Proc). y.retry_millis) 0 o)) (calm_of doc).slow + 5 * far_of doc - 1) * (calm_of doc).fast < of_seconds (as_respected (calm_of doc).respect (shortest_lease doc.controllers) x).lease_seconds) (sym place.whole) s.lasts
+
+          more : of_seconds (as_respected (calm_of doc).respect (shortest_lease doc.controllers) x).lease_seconds ≤ of_seconds (as_respected (calm_of doc).respect rival.lease_seconds x).lease_seconds
+          more =
+              seconds_more (as_respected (calm_of doc).respect (shortest_lease doc.controllers) x).lease_seconds (as_respected (calm_of doc).respect rival.lease_seconds x).lease_seconds
+              (respected_more (calm_of doc).respect x (shortest_lease doc.controllers) rival.lease_seconds (shortest_within doc.controllers r rival (at_place doc r other).own))
 
       abbrev pub renews_in_time : (a e i : ℕ) → RenewsInTime doc 1 (far_of doc) a e (record { process = p; incarnation = i })
       renews_in_time a e i = record {
@@ -111,7 +157,7 @@ module _ (doc : Doc) (lawful : IsLawfulDoc doc) where
         others = λ r other steady. runs_most doc lawful r other a e;
         wait_is = (rounded_is (calm_of doc).slow (retry_period doc p) some_slow).0;
         deadline = renewal;
-        lasts = lasts;
+        lasts = λ r other steady. lasts r other;
       }
 
   -- ---- of all controllers
@@ -120,8 +166,8 @@ module _ (doc : Doc) (lawful : IsLawfulDoc doc) where
   counts_of is p role = each_of (replies_count (calm_of doc)) doc.controllers p (x p role) is (place p role).own
 
   module _ (is : stay (calm_of doc) doc.controllers ≡ true) where
-    pub stays_of : (p : ℕ) (role : is_controller doc p ≡ true) → stays_by (calm_of doc) (x p role) ≡ true
-    stays_of p role = each_of (stays_by (calm_of doc)) doc.controllers p (x p role) is (place p role).own
+    pub stays_of : (p : ℕ) (role : is_controller doc p ≡ true) → stays_by (calm_of doc) (as_respected (calm_of doc).respect (shortest_lease doc.controllers) (x p role)) ≡ true
+    stays_of p role = each_of (λ p. stays_by (calm_of doc) (as_respected (calm_of doc).respect (shortest_lease doc.controllers) p)) doc.controllers p (x p role) is (place p role).own
 
     pub all_in_time : (a e p : ℕ) → is_controller doc p ≡ true → IsInTime doc (far_of doc) a e p
     all_in_time a e p role = in_time p role (replies p role (stays_of p role)) a e

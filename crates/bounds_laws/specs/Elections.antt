@@ -7,6 +7,7 @@ use Rattle.kube_objects.specs.Pauses.{is_paused}
 use Rattle.history.specs.History.{history}
 use Rattle.history.specs.Safe.{Acts}
 use Rattle.takeover_laws.specs.Calm.{IsQuiet}
+use Rattle.takeover_laws.specs.Waits.{blocked_for}
 use Rattle.calm_laws.specs.Bounds.{early_record, LastsFor}
 use Rattle.silence_laws.specs.Silence.{IsStopped}
 use Rattle.silence_laws.specs.Least.{IsLead}
@@ -60,26 +61,27 @@ ActingIsBounded doc =
 abbrev pub ActsAreBounded : Type 0
 ActsAreBounded = (doc : Doc) → IsLawfulDoc doc → ActingIsBounded doc
 
--- while all is well from beat a on, and the election Lease as it was then blocks others for no longer than the lease of the controller at a place: this
--- time after a somebody acts, where another controller is up after its turn at a
+-- while all is well from beat a on, and the election Lease as it was then blocks another controller for no longer than a record of the one at a place
+-- does: this time after a somebody acts, where that other one is up after its turn at a
 abbrev pub LeadIsBounded : Doc → Type 0
 LeadIsBounded doc =
     (a e : ℕ) → IsWell doc a e → e ≤ end_beat doc → (place : ℕ) (leader : Proc) → is_controller doc place ≡ true → process_at doc place ≡ Some leader
     → (time : ℕ) → (bounds_of doc place leader).leads ≡ Some time
-    → LastsFor (of_seconds leader.lease_seconds) (early_record a (history doc (a + far_of doc)))
-    → (p n : ℕ) → MayFollow doc a e 0 place p → a ≤ n → time ≤ millis doc (n - a) → n ≤ e → LeadsWell doc a e n
+    → (p n : ℕ) → MayFollow doc a e 0 place p → LastsFor doc p (blocked_for doc p place) (early_record a (history doc (a + far_of doc)))
+    → a ≤ n → time ≤ millis doc (n - a) → n ≤ e → LeadsWell doc a e n
 
 abbrev pub LeadsAreBounded : Type 0
 LeadsAreBounded = (doc : Doc) → IsLawfulDoc doc → LeadIsBounded doc
 
--- and by this time one leads that stays, where that record blocks others for no longer than the longest lease, and another controller is up after a
+-- and by this time one leads that stays, where that record blocks another controller for no longer than the longest lease, and that one is up after a
 -- turn at which the terms of before are over
 abbrev pub StayIsBounded : Doc → Type 0
 StayIsBounded doc =
     (a e : ℕ) → IsWell doc a e → e ≤ end_beat doc → (place : ℕ) (leader : Proc) → is_controller doc place ≡ true → process_at doc place ≡ Some leader
     → (time : ℕ) → (bounds_of doc place leader).stays_from ≡ Some time
-    → LastsFor (of_seconds (longest_lease doc.controllers)) (early_record a (history doc (a + far_of doc)))
-    → (p n : ℕ) → MayFollow doc a e (acts_on (calm_of doc) (longest_term doc.controllers)) place p → a ≤ n → time ≤ millis doc (n - a) → n ≤ e → StaysWell doc a e n
+    → (p n : ℕ) → MayFollow doc a e (acts_on (calm_of doc) (longest_term doc.controllers)) place p
+    → LastsFor doc p (of_seconds (longest_lease doc.controllers)) (early_record a (history doc (a + far_of doc)))
+    → a ≤ n → time ≤ millis doc (n - a) → n ≤ e → StaysWell doc a e n
 
 abbrev pub StaysAreBounded : Type 0
 StaysAreBounded = (doc : Doc) → IsLawfulDoc doc → StayIsBounded doc

@@ -1,5 +1,5 @@
-//! Laws of calls, of every history: what arrives is answered and delivered; and under the project's own rules when it arrives, and what
-//! waits. Each is the contract of a function with an empty body.
+//! Laws of calls, of every history: what arrives is answered and delivered; and under the project's own rules but for those of elections when it
+//! arrives, and what waits. Each is the contract of a function with an empty body.
 #![tactic(auto)]
 
 ghost use Rattle.call_laws.specs.Answering.{RequestsAreAnswered, RepliesAreDelivered};

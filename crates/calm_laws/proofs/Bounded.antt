@@ -4,7 +4,7 @@ use Rattle.std.proofs.lemmas.Nat.{le-div}
 use Rattle.std.proofs.Math.Nat.{mul-le-mul_right}
 use Rattle.std.specs.Int.{div_ceil}
 use Rattle.std.proofs.lemmas.Bool.{ltb-false, cases_lt}
-use Rattle.kube_objects.specs.Document.{Doc, processes, end_beat, is_controller, call_timeout, retry_period}
+use Rattle.kube_objects.specs.Document.{Doc, processes, end_beat, is_controller, call_timeout}
 use Rattle.kube_objects.specs.Elector.{leads}
 use Rattle.kube_objects.specs.Clocks.{local}
 use Rattle.kube_objects.proofs.Clocks.{local_up}
@@ -34,6 +34,7 @@ use Rattle.call_laws.proofs.Above.{in_head}
 use Rattle.call_laws.proofs.Answering.{events_position}
 use Rattle.takeover_laws.specs.Acting.{NobodyActs}
 use Rattle.takeover_laws.specs.Calm.{IsSteady, IsCalm, IsInTime, WritesElection}
+use Rattle.takeover_laws.specs.Waits.{longest_wait, shortest_wait}
 use Rattle.takeover_laws.proofs.Records.{no_write, record_stays}
 use Rattle.takeover_laws.proofs.Standing.{controllers_first, persists}
 use Rattle.calm_laws.specs.Bounds.{IsCandidate, AreBeats, LastsFor, SomebodyActs, takeover_bound, TakeoversAreBounded, TakeoversAreTold}
@@ -80,8 +81,8 @@ events_low doc p k =
     turns_add doc k p one (step_three doc k two) (three_adds doc k one two (two_adds doc k one one (tail_all one)))
 
 module _ (doc : Doc) (rules : IsOwn doc) (near far a settled e n : ℕ) (calm : IsCalm doc near far a e) (one : 1 ≤ near) (ways : near ≤ far) (ordered : a ≤ settled) (within : n ≤ e) (kept : IsKept doc far settled n)
-    (lasting : ℕ) (lasts : LastsFor lasting (object_of (stored election (history doc (settled + far)))))
-    (p later slow fast lost wait needed : ℕ) (c : IsCandidate doc near far a e p later slow fast) (b : AreBeats doc p slow fast lost wait needed) (my_time : IsInTime doc far a e p)
+    (lasting p later slow fast lost wait needed : ℕ) (lasts : LastsFor doc p lasting (object_of (stored election (history doc (settled + far)))))
+    (c : IsCandidate doc near far a e p later slow fast) (b : AreBeats doc p slow fast lost wait needed) (my_time : IsInTime doc far a e p)
     (first : ℕ) (up_by : later ≤ first) (lost_by : lost + wait ≤ first) (ways_by : settled + 4 * far + wait ≤ a + first + 1)
     (enough most : ℕ) (enough_is : IsEnough slow lasting enough) (most_is : IsGreatest (needed + 2 * near) (wait + 2 * far) enough most) (room : a + first + most + 4 * far ≤ n)
     (i : ℕ) (idle : (k : ℕ) → a ≤ k → k ≤ n → Acts doc (identity p i) k → ⊥) (led : (h : List Entry) → IsTail h (history doc (suc n)) → leads (identity p i) h ≡ false)
@@ -118,7 +119,7 @@ module _ (doc : Doc) (rules : IsOwn doc) (near far a settled e n : ℕ) (calm : 
   top = stored election (history doc (settled + far))
 
   lease : HasLease top
-  lease = has_lease lasting top lasts
+  lease = has_lease doc p lasting top lasts
 
   -- a call that was sent before the calm is late once its timeout is over
   overdue : (call : Call) (k : ℕ) → call.sent < a → G ≤ k + wait → k ≤ n → is_late doc q k call ≡ true
@@ -191,14 +192,14 @@ takeovers_are_bounded doc near far a e sound calm time one ways end p later slow
           stays = λ m from late g low at. record_stays doc near far a e n sound calm end within one ways time none m from late g low at;
         }
 
-        the_record : LastsFor lasting (object_of (stored election (history doc (a + far))))
+        the_record : LastsFor doc p lasting (object_of (stored election (history doc (a + far))))
         the_record =
-            subst (LastsFor lasting)
+            subst (LastsFor doc p lasting)
             (sym (early_is_stored doc far a n sound (omega (arith, within, end)) kept (omega (arith, one, ways)) (omega (arith, one, ways)) (history doc (a + far)) (tail_all (history doc (a + far))))) lasts
 
         with_identity : (i : ℕ) → alive p S ≡ Some i → ⊥
         with_identity i up =
-            no_candidate doc sound.2 near far a a e n calm one ways (omega arith) within kept lasting the_record p later slow fast lost wait needed c b my_time first up_by lost_by (omega (arith, ways_by, one, ways))
+            no_candidate doc sound.2 near far a a e n calm one ways (omega arith) within kept lasting p later slow fast lost wait needed the_record c b my_time first up_by lost_by (omega (arith, ways_by, one, ways))
             enough most enough_is most_is (omega arith) i (none (identity p i) c.role c.steady) led late stays
           where
             late : (h : List Entry) → IsTail S h → IsTail h (history doc (suc n)) → alive p h ≡ Some i
@@ -229,17 +230,17 @@ pub takeovers_are_told : TakeoversAreTold
 takeovers_are_told doc near far a e sound calm time one ways end p later slow fast c some_slow some_fast lasting lasts within =
     subst (SomebodyActs doc near far a e) sum
     (takeovers_are_bounded doc near far a e sound calm time one ways end p later slow fast lost wait needed c
-    (record { lost_is = next_multiple (call_timeout doc p) slow some_slow; wait_is = (rounded_is slow (retry_period doc p) some_slow).0; needed_is = (rounded_is fast (retry_period doc p) some_fast).1 })
+    (record { lost_is = next_multiple (call_timeout doc p) slow some_slow; wait_is = (rounded_is slow (longest_wait doc p) some_slow).0; needed_is = (rounded_is fast (shortest_wait doc p) some_fast).1 })
     first (omega arith) (omega arith) (omega arith) lasting enough most lasts (rounded_is slow lasting some_slow).0 ((bounds_are_exact (needed + 2 * near) (wait + 2 * far) enough).0 some_step).1 (omega (arith, sum, within)))
   where
     lost : ℕ
     lost = call_timeout doc p / slow
 
     wait : ℕ
-    wait = div_ceil (retry_period doc p) slow
+    wait = div_ceil (longest_wait doc p) slow
 
     needed : ℕ
-    needed = div_ceil (retry_period doc p) fast
+    needed = div_ceil (shortest_wait doc p) fast
 
     enough : ℕ
     enough = div_ceil lasting slow

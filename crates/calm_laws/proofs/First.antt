@@ -3,10 +3,10 @@ use Rattle.std.proofs.Common.{◌≡◌, ◌⊎◌, ◌<◌, ◌≤◌, ℕ, zer
 use Rattle.std.proofs.Math.Nat.{mul-le-mul_right}
 use Rattle.std.proofs.lemmas.Bool.{ltb-true, cases_lt}
 use Rattle.kube_objects.proofs.Clocks.{local_up}
-use Rattle.kube_objects.proofs.Own.{is_late-own, retry_at-own}
+use Rattle.kube_objects.proofs.Own.{is_late-own}
 use Rattle.kube_objects.specs.Answers.{lease_in, as_kind, answer_get}
 use Rattle.kube_objects.specs.Clocks.{local}
-use Rattle.kube_objects.specs.Document.{Doc, processes, is_controller, call_timeout, retry_period}
+use Rattle.kube_objects.specs.Document.{Doc, processes, is_controller, call_timeout}
 use Rattle.kube_objects.specs.Elector.{Follow, Fails, Asks, Succeeds, is_fast, lead_says, leads, follow_on, timer_follow, timer_says, timer, retry_at}
 use Rattle.kube_objects.specs.Entry.{Entry, Identity, Call, Release, Fact, First as FirstPut, Event as Happens, Starts, Stops, Sends, Answers, Delivers, Expires, Leads, Ends, Crashes, Stalls, Ticks, actor_of, entry, StepsDown, ReleaseBegins, ReleaseEnds, ReleaseStops}
 use Rattle.kube_objects.specs.Identities.{is_by}
@@ -46,6 +46,8 @@ use Rattle.takeover_laws.proofs.Standing.{controllers_first, persists}
 use Rattle.takeover_laws.proofs.Writers.{since_low, replies_count}
 use Rattle.takeover_laws.specs.Calm.{IsSteady, IsInTime}
 use Rattle.takeover_laws.specs.Rounds.{HasCounted}
+use Rattle.takeover_laws.specs.Waits.{longest_wait, shortest_wait}
+use Rattle.takeover_laws.proofs.Waits.{retry_most}
 use Rattle.calm_laws.proofs.Asked.{IsWrite, reason_key, reason_of}
 use Rattle.calm_laws.proofs.Begun.{Begun, begun_by, by_is, waits_between, Timed, timed_by}
 use Rattle.calm_laws.proofs.Life.{up_between, restart_adds, restart_same, turn_unset}
@@ -67,19 +69,19 @@ entry_is x step q d at by is =
 
 module _ (doc : Doc) (rules : IsOwn doc) (near far a e n : ℕ) (one : 1 ≤ near) (ways : near ≤ far) (within : n ≤ e) (q : Identity) (role : is_controller doc q.process ≡ true)
     (steady : IsSteady doc near far a e q.process) (my_time : IsInTime doc far a e q.process) (none : (k : ℕ) → a ≤ k → k ≤ n → Acts doc q k → ⊥) (led : (h : List Entry) → IsTail h (history doc (suc n)) → leads q h ≡ false)
-    (lasting : ℕ) (top : Option Held) (lasts : LastsFor lasting (object_of top)) (K : ℕ) (some : a < K)
+    (lasting : ℕ) (top : Option Held) (lasts : LastsFor doc q.process lasting (object_of top)) (K : ℕ) (some : a < K)
     (given : (w : Call) (reply : Reply) (T : List Entry) (y : ℕ) → (o : Origin doc q w reply T y) → IsTail T (history doc (suc n)) → w.request ≡ Get election → K ≤ y → y + far ≤ n → o.e.beat + far ≤ n → reply ≡ answer_get (as_kind lease_in top))
     (refused : (w : Call) (reply : Reply) (T : List Entry) (y : ℕ) → (o : Origin doc q w reply T y) → IsTail T (history doc (suc n)) → IsWrite w.request → K ≤ y → y + far ≤ n → o.e.beat + far ≤ n → (version : Version) → reply ≡ Done version → ⊥)
     (no_writes : (x : Entry) (T : List Entry) (call : Call) (arrives : Option ℕ) → IsTail (x ∷ T) (history doc (suc n)) → x.actor ≡ actor_of q → x.fact ≡ Sends call arrives → open_as call.kind call ≡ Some call → IsWrite call.request → K ≤ x.beat + 2 * far → x.beat + 2 * far ≤ n → ⊥)
     (slow fast wait needed from : ℕ) (low_from : from ≤ K) (runs_least : RunsAtLeast doc q.process from e slow) (runs_most : RunsAtMost doc q.process from e fast)
-    (waits : 1 ≤ retry_period doc q.process) (wait_is : IsEnough slow (retry_period doc q.process) wait) (needed_is : IsNeeded fast (retry_period doc q.process) needed)
+    (waits : 1 ≤ longest_wait doc q.process) (wait_is : IsEnough slow (longest_wait doc q.process) wait) (needed_is : IsNeeded fast (shortest_wait doc q.process) needed)
     (enough most : ℕ) (enough_is : IsEnough slow lasting enough) (most_is : IsGreatest (needed + 2 * near) (wait + 2 * far) enough most)
     (G : ℕ) (after : K + wait ≤ G + 1) (low_wait : from + wait ≤ G) (room : G + most + 4 * far ≤ n)
     (overdue : (call : Call) (k : ℕ) → call.sent < a → G ≤ k + wait → k ≤ n → is_late doc q k call ≡ true) where
   some_wait : 1 ≤ wait
   some_wait = by_wait wait wait_is
     where
-      by_wait : (k : ℕ) → retry_period doc q.process ≤ k * slow → 1 ≤ k
+      by_wait : (k : ℕ) → longest_wait doc q.process ≤ k * slow → 1 ≤ k
       by_wait zero le = absurd (omega (arith, le, waits))
       by_wait (suc k) le = omega arith
 
@@ -243,12 +245,12 @@ module _ (doc : Doc) (rules : IsOwn doc) (near far a e n : ℕ) (one : 1 ≤ nea
 
   -- ---- a timer that is ahead at the end of beat G was set late
 
-  -- a reading that a retry period leads beyond beat G
-  recent : (y : ℕ) → local doc q.process G < local doc q.process y + retry_period doc q.process → G < y + wait
+  -- a reading that the longest wait leads beyond beat G
+  recent : (y : ℕ) → local doc q.process G < local doc q.process y + longest_wait doc q.process → G < y + wait
   recent y lt = ⊎_elim (λ less. less) (λ le. absurd (over le)) (cases_lt G (y + wait))
     where
-      grows : (z : ℕ) → from ≤ z → z + wait ≤ G → local doc q.process z + retry_period doc q.process ≤ local doc q.process G
-      grows z low le = readings_grow doc q.process from e slow (retry_period doc q.process) wait runs_least wait_is z G low le (omega (arith, room, within))
+      grows : (z : ℕ) → from ≤ z → z + wait ≤ G → local doc q.process z + longest_wait doc q.process ≤ local doc q.process G
+      grows z low le = readings_grow doc q.process from e slow (longest_wait doc q.process) wait runs_least wait_is z G low le (omega (arith, room, within))
 
       over : y + wait ≤ G → ⊥
       over le = ⊎_elim early late (cases_lt y from)
@@ -407,7 +409,7 @@ module _ (doc : Doc) (rules : IsOwn doc) (near far a e n : ℕ) (one : 1 ≤ nea
             ∙ ap (λ b. has (upper (when b version) (newest (λ e T. lead_says q e.actor e.fact) T))) (when_test (is_by q x.actor) (local doc q.process x.beat) t says)
     timer_from (Expires c) fact made t says lt =
         expiry c made (and_left (is_by q x.actor) (not (is_fast c.kind)) (when_test (is_by q x.actor && not (is_fast c.kind)) (retry_at (leads q T) doc q x T) t says))
-        (recent x.beat (omega (arith, lt, sym (retry_at-own doc rules (leads q T) q x T) ∙ when_value (is_by q x.actor && not (is_fast c.kind)) (retry_at (leads q T) doc q x T) t says)))
+        (recent x.beat (omega (arith, lt, retry_most doc (leads q T) (led T high) q x T, when_value (is_by q x.actor && not (is_fast c.kind)) (retry_at (leads q T) doc q x T) t says)))
     timer_from (Delivers w reply true) fact made t says lt = by_follow (follow_on doc q x.beat w.kind w.request reply (x ∷ T)) refl (leads q T) (led T high) value
       where
         mine : x.actor ≡ actor_of q
@@ -417,7 +419,7 @@ module _ (doc : Doc) (rules : IsOwn doc) (near far a e n : ℕ) (one : 1 ≤ nea
         value = only_value (is_by q x.actor) (timer_follow doc q x T (leads q T) (follow_on doc q x.beat w.kind w.request reply (x ∷ T))) t says
 
         by_follow : (f : Follow) → follow_on doc q x.beat w.kind w.request reply (x ∷ T) ≡ f → (b : Bool) → b ≡ false → timer_follow doc q x T b f ≡ Some t → ⊥
-        by_follow Fails failed b led_b is = reply_failed w reply made mine fact (recent x.beat (omega (arith, lt, sym (retry_at-own doc rules b q x T) ∙ some_is (retry_at b doc q x T) t is))) failed
+        by_follow Fails failed b led_b is = reply_failed w reply made mine fact (recent x.beat (omega (arith, lt, retry_most doc b led_b q x T, some_is (retry_at b doc q x T) t is))) failed
         by_follow (Asks request) failed b led_b is = not_set t is
         by_follow (Succeeds version) failed true led_b is = true_is led_b
         by_follow (Succeeds version) failed false led_b is = not_set t is

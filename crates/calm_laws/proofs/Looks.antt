@@ -1,11 +1,11 @@
 -- The looks of a candidate at a record that it is shown from a beat on: each fails, and the next one comes in time.
-use Rattle.std.proofs.Common.{◌≡◌, ◌⊎◌, ◌<◌, ◌≤◌, ℕ, zero, suc, ◌+◌, ◌-◌, ◌*◌, Bool, true, false, cond, List, [], ◌∷◌, Option, Some, None, refl, sym, ap, ◌∙◌, subst, inl, inr, ⊎_elim, arith}
+use Rattle.std.proofs.Common.{◌&&◌, ◌≡◌, ◌⊎◌, ◌<◌, ◌≤◌, ℕ, zero, suc, ◌+◌, ◌-◌, ◌*◌, nat_lt, Bool, true, false, cond, List, [], ◌∷◌, Option, Some, None, refl, sym, ap, ◌∙◌, subst, inl, inr, ⊎_elim, arith}
 use Rattle.std.proofs.lemmas.Bool.{ltb-true, cases_lt, eq-eqb}
 use Rattle.kube_base.specs.declared.numbers.Version.{Version}
 use Rattle.kube_objects.proofs.Clocks.{local_up}
 use Rattle.kube_objects.specs.Answers.{lease_in, versioned, as_kind, answer_get, answer}
 use Rattle.kube_objects.specs.Clocks.{local}
-use Rattle.kube_objects.specs.Document.{Doc, is_controller, of_seconds, retry_period}
+use Rattle.kube_objects.specs.Document.{Doc, is_controller, lease_seconds}
 use Rattle.kube_objects.specs.Elector.{Moment, moment, Follow, Fails, Asks, Succeeds, is_blocked, is_valid, updated, created, follow_get, follow, follow_on, leads, Shown, told, shows, shown, is_known, newly, found_shows, observed, observed_at, done_shows, respected}
 use Rattle.kube_objects.specs.Entry.{Entry, Identity, Call, Plain, Sends, Delivers, actor_of, entry, Fact, First, Event, Starts, Stops, Answers, Expires, Leads, Ends, Crashes, Stalls, Ticks, StepsDown, ReleaseBegins, ReleaseEnds, ReleaseStops}
 use Rattle.kube_objects.specs.Identities.{is_other, is_by}
@@ -22,7 +22,6 @@ use Rattle.kube_objects.specs.declared.lease.Lease.{Lease}
 use Rattle.kube_objects.specs.declared.object.Object.{Object}
 use Rattle.kube_objects.specs.declared.lease.Holder.TheVariants as holder
 use Rattle.kube_objects.specs.declared.object.Object.TheVariants as object
-use Rattle.kube_objects.specs.declared.rules.RespectRule.TheVariants.{Record}
 use Rattle.kube_objects.specs.Own.{IsOwn}
 use Rattle.history.specs.History.{history}
 use Rattle.history.specs.Safe.{Acts}
@@ -43,6 +42,9 @@ use Rattle.takeover_laws.proofs.Asking.{candidates_ask}
 use Rattle.takeover_laws.proofs.Writers.{follow_adds, IsReacted, replies_react}
 use Rattle.takeover_laws.specs.Asking.{HasAsked}
 use Rattle.takeover_laws.specs.Calm.{IsSteady, IsInTime}
+use Rattle.lease_laws.specs.Respects.{respected_time}
+use Rattle.takeover_laws.specs.Waits.{longest_wait, shortest_wait}
+use Rattle.takeover_laws.proofs.Waits.{shortest_least, blocked_is}
 use Rattle.calm_laws.proofs.Asked.{IsWrite, asks_same, fails_not, reason_key, reason_of}
 use Rattle.calm_laws.proofs.Begun.{by_is}
 use Rattle.calm_laws.proofs.Origins.{Origin, origin}
@@ -90,11 +92,11 @@ abbrev pub object_of : Option Held → Option Object
 object_of None = None
 object_of (Some x) = Some x.object
 
-pub has_lease : (time : ℕ) (o : Option Held) → LastsFor time (object_of o) → HasLease o
-has_lease time None lasts = tt
-has_lease time (Some x) lasts = by_object x.object lasts
+pub has_lease : (doc : Doc) (p time : ℕ) (o : Option Held) → LastsFor doc p time (object_of o) → HasLease o
+has_lease doc p time None lasts = tt
+has_lease doc p time (Some x) lasts = by_object x.object lasts
   where
-    by_object : (y : Object) → LastsFor time (Some y) → (lease : Lease) × (lease_in y ≡ Some lease)
+    by_object : (y : Object) → LastsFor doc p time (Some y) → (lease : Lease) × (lease_in y ≡ Some lease)
     by_object (object.Lease lease) lasts = (lease, refl)
     by_object (object.Node node) lasts = absurd lasts
     by_object (object.Pod pod) lasts = absurd lasts
@@ -105,26 +107,30 @@ pub record Blocked (q : Identity) (m : Moment) (seen : ℕ) (reply : Reply) (tim
   pub found : reply ≡ Found version lease
   pub before : m.now < seen + time
 
-pub blocked_by : (q : Identity) (m : Moment) → m.respect ≡ Record → (seen time : ℕ) (o : Option Held) → LastsFor time (object_of o) → follow_get q m seen (answer_get (as_kind lease_in o)) ≡ Fails → Blocked q m seen (answer_get (as_kind lease_in o)) time
-blocked_by q m own seen time None lasts is = absurd (asks_fails (Create election (created q m)) is)
-blocked_by q m own seen time (Some x) lasts is = by_object x.object lasts is
+pub blocked_by : (doc : Doc) (q : Identity) (k seen time : ℕ) (o : Option Held) → LastsFor doc q.process time (object_of o) → follow_get q (moment doc q k) seen (answer_get (as_kind lease_in o)) ≡ Fails
+    → Blocked q (moment doc q k) seen (answer_get (as_kind lease_in o)) time
+blocked_by doc q k seen time None lasts is = absurd (asks_fails (Create election (created q (moment doc q k))) is)
+blocked_by doc q k seen time (Some x) lasts is = by_object x.object lasts is
   where
-    by_object : (y : Object) → LastsFor time (Some y) → follow_get q m seen (answer_get (versioned x.version (lease_in y))) ≡ Fails → Blocked q m seen (answer_get (versioned x.version (lease_in y))) time
+    m : Moment
+    m = moment doc q k
+
+    by_object : (y : Object) → LastsFor doc q.process time (Some y) → follow_get q (moment doc q k) seen (answer_get (versioned x.version (lease_in y))) ≡ Fails → Blocked q (moment doc q k) seen (answer_get (versioned x.version (lease_in y))) time
     by_object (object.Node node) lasts is = absurd lasts
     by_object (object.Pod pod) lasts is = absurd lasts
     by_object (object.Lease lease) lasts is = by_test (is_blocked q m.now seen (respected m.respect m.seconds lease)) refl is
       where
-        blocks_so : is_blocked q m.now seen (respected m.respect m.seconds lease) ≡ is_blocked q m.now seen lease
-        blocks_so = ap (λ rule. is_blocked q m.now seen (respected rule m.seconds lease)) own
+        valid : Bool
+        valid = nat_lt m.now (seen + respected_time doc q.process lease)
 
-        bounded : is_blocked q m.now seen lease ≡ true → (lease.holder ≡ holder.Nobody) ⊎ (of_seconds (or_zero lease.duration) ≤ time) → m.now < seen + time
-        bounded blocks (inl nobody) = absurd (true_is (sym (and_left (is_other q lease.holder) (is_valid m.now seen lease) blocks) ∙ ap (is_other q) nobody))
+        bounded : (is_other q lease.holder && valid) ≡ true → (lease.holder ≡ holder.Nobody) ⊎ (respected_time doc q.process lease ≤ time) → m.now < seen + time
+        bounded blocks (inl nobody) = absurd (true_is (sym (and_left (is_other q lease.holder) valid blocks) ∙ ap (is_other q) nobody))
         bounded blocks (inr le) =
-            let lt : m.now < seen + of_seconds (or_zero lease.duration) = ltb-true m.now (seen + of_seconds (or_zero lease.duration)) (and_right (is_other q lease.holder) (is_valid m.now seen lease) blocks) in
+            let lt : m.now < seen + respected_time doc q.process lease = ltb-true m.now (seen + respected_time doc q.process lease) (and_right (is_other q lease.holder) valid blocks) in
             omega (arith, lt, le)
 
         by_test : (b : Bool) → is_blocked q m.now seen (respected m.respect m.seconds lease) ≡ b → cond b Fails (Asks (Update election x.version (updated q m lease))) ≡ Fails → Blocked q m seen (Found x.version lease) time
-        by_test true blocks is = record { version = x.version; lease = lease; found = refl; before = bounded (sym blocks_so ∙ blocks) lasts }
+        by_test true blocks is = record { version = x.version; lease = lease; found = refl; before = bounded (sym (blocked_is doc q.process q m.now seen lease) ∙ blocks) lasts }
         by_test false blocks is = absurd (asks_fails (Update election x.version (updated q m lease)) is)
 
 -- what was seen was seen by the last of these entries
@@ -144,7 +150,7 @@ seen_upto q o (x ∷ h) all = by_shows (shows q x.actor x.fact) (seen_upto q o h
 
 module _ (doc : Doc) (rules : IsOwn doc) (near far a e n : ℕ) (one : 1 ≤ near) (ways : near ≤ far) (within : n ≤ e) (q : Identity) (role : is_controller doc q.process ≡ true)
     (steady : IsSteady doc near far a e q.process) (my_time : IsInTime doc far a e q.process) (none : (k : ℕ) → a ≤ k → k ≤ n → Acts doc q k → ⊥) (led : (h : List Entry) → IsTail h (history doc (suc n)) → leads q h ≡ false)
-    (lasting : ℕ) (top : Option Held) (lasts : LastsFor lasting (object_of top)) (K : ℕ) (some : a < K)
+    (lasting : ℕ) (top : Option Held) (lasts : LastsFor doc q.process lasting (object_of top)) (K : ℕ) (some : a < K)
     (given : (w : Call) (reply : Reply) (T : List Entry) (y : ℕ) → (o : Origin doc q w reply T y) → IsTail T (history doc (suc n)) → w.request ≡ Get election → K ≤ y → y + far ≤ n → o.e.beat + far ≤ n → reply ≡ answer_get (as_kind lease_in top))
     (refused : (w : Call) (reply : Reply) (T : List Entry) (y : ℕ) → (o : Origin doc q w reply T y) → IsTail T (history doc (suc n)) → IsWrite w.request → K ≤ y → y + far ≤ n → o.e.beat + far ≤ n → (version : Version) → reply ≡ Done version → ⊥)
     (no_writes : (x : Entry) (T : List Entry) (call : Call) (arrives : Option ℕ) → IsTail (x ∷ T) (history doc (suc n)) → x.actor ≡ actor_of q → x.fact ≡ Sends call arrives → open_as call.kind call ≡ Some call → IsWrite call.request → K ≤ x.beat + 2 * far → x.beat + 2 * far ≤ n → ⊥) where
@@ -366,12 +372,12 @@ module _ (doc : Doc) (rules : IsOwn doc) (near far a e n : ℕ) (one : 1 ≤ nea
     -- ---- from one look to the next
 
     module _ (slow fast wait needed from : ℕ) (low_from : from ≤ K) (runs_least : RunsAtLeast doc q.process from e slow) (runs_most : RunsAtMost doc q.process from e fast)
-        (waits : 1 ≤ retry_period doc q.process) (wait_is : IsEnough slow (retry_period doc q.process) wait) (needed_is : IsNeeded fast (retry_period doc q.process) needed) where
-      -- a reading grows by a retry period in that many beats, and in no fewer
+        (waits : 1 ≤ longest_wait doc q.process) (wait_is : IsEnough slow (longest_wait doc q.process) wait) (needed_is : IsNeeded fast (shortest_wait doc q.process) needed) where
+      -- a reading grows by the longest wait in that many beats, and by the shortest in no fewer
       some_wait : 1 ≤ wait
       some_wait = by_wait wait wait_is
         where
-          by_wait : (k : ℕ) → retry_period doc q.process ≤ k * slow → 1 ≤ k
+          by_wait : (k : ℕ) → longest_wait doc q.process ≤ k * slow → 1 ≤ k
           by_wait zero le = absurd (omega (arith, le, waits))
           by_wait (suc k) le = omega arith
 
@@ -382,7 +388,7 @@ module _ (doc : Doc) (rules : IsOwn doc) (near far a e n : ℕ) (one : 1 ≤ nea
       needed_least : (r : ℕ) → from ≤ r → r < e → needed ≤ wait
       needed_least r since to =
           let le : slow ≤ fast = omega (arith, runs_least r since to, runs_most r since to) in
-          needed_is wait (omega (arith, wait_is, no_less wait le))
+          needed_is wait (omega (arith, wait_is, shortest_least doc q.process, no_less wait le))
 
       near_step : ℕ
       near_step = needed + 2 * near
@@ -418,11 +424,11 @@ module _ (doc : Doc) (rules : IsOwn doc) (near far a e n : ℕ) (one : 1 ≤ nea
               k : ℕ
               k = r + wait
 
-              h : HasAsked doc q (local doc q.process r + retry_period doc q.process) here (history doc (suc k))
+              h : HasAsked doc q (local doc q.process r + shortest_wait doc q.process) here (history doc (suc k))
               h =
                   candidates_ask doc rules near far a e n r k q role my_time.deadline steady within none (omega (arith, late, some)) s.w s.reply s.before (tail_trans (with_events doc a) start s.before after s.low) at
                   (up s.before s.low (tail_trans s.before here (history doc (suc n)) (inr (tail_all s.before)) at)) s.failed (omega (arith, some_wait)) le
-                  (readings_grow doc q.process from e slow (retry_period doc q.process) wait runs_least wait_is r k (omega (arith, late, low_from)) (omega arith) (omega (arith, le, within)))
+                  (readings_grow doc q.process from e slow (longest_wait doc q.process) wait runs_least wait_is r k (omega (arith, late, low_from)) (omega arith) (omega (arith, le, within)))
 
               upto : h.x.beat ≤ k
               upto = ⊎_elim (λ lt. omega (arith, lt)) (λ first. omega (arith, first.0)) (entries_are_earlier doc (suc k) h.x (in_head h.x h.before (history doc (suc k)) h.position))
@@ -434,7 +440,7 @@ module _ (doc : Doc) (rules : IsOwn doc) (near far a e n : ℕ) (one : 1 ≤ nea
               after_r = (next_above (λ y. r ≤ y.beat) (history doc r) h.before (history doc (suc k)) h.x (from_beat doc r (suc k) (omega arith)) below h.position).0
 
               since : r + needed ≤ h.x.beat
-              since = readings_last doc q.process from e fast (retry_period doc q.process) needed runs_most needed_is r h.x.beat (omega (arith, late, low_from)) after_r (omega (arith, upto, le, within)) h.reached
+              since = readings_last doc q.process from e fast (shortest_wait doc q.process) needed runs_most needed_is r h.x.beat (omega (arith, late, low_from)) after_r (omega (arith, upto, le, within)) h.reached
 
               by_time : (n < h.x.beat + 2 * far) ⊎ (h.x.beat + 2 * far ≤ n) → Next r
               by_time (inl lt) = too_late r (h.x.beat + 2 * far) (omega (arith, since, ways)) (omega (arith, upto)) (omega (arith, lt))
@@ -453,7 +459,7 @@ module _ (doc : Doc) (rules : IsOwn doc) (near far a e n : ℕ) (one : 1 ≤ nea
 
         blocked : (r : ℕ) (s : Look r) → Blocked q (moment doc q r) (observed_at doc q (entry r 3 q (Delivers s.w s.reply true) ∷ s.before)) there_is lasting
         blocked r s =
-            blocked_by q (moment doc q r) (ap (λ r. r.respect) rules.rules) seen lasting top lasts
+            blocked_by doc q r seen lasting top lasts
             (ap (λ reply. follow q (moment doc q r) seen s.w.kind (Get election) reply) (sym s.shows_it) ∙ ap (λ request. follow q (moment doc q r) seen s.w.kind request s.reply) (sym s.get) ∙ s.failed)
           where
             seen : ℕ

@@ -1,11 +1,11 @@
 -- Numbers of a document lie in their ranges.
-use Rattle.std.proofs.Common.{◌≡◌, ℕ, ◌≤◌, nat_le, nat_lt, ◌&&◌, cond, Bool, true, false, codes, List, Option, Some, None, Result, ℤ, ◌≤ℤ◌, leb-true, ltb-false}
+use Rattle.std.proofs.Common.{◌≡◌, ℕ, ◌≤◌, nat_le, nat_lt, ◌&&◌, cond, Bool, true, false, codes, List, Option, Some, None, Result, ℤ, ◌≤ℤ◌, leb-true, ltb-false, arith}
 use Rattle.std.specs.Prelude.{int_le}
 use Rattle.std.specs.Str.{bytes_eq}
 use Rattle.std.proofs.lemmas.Bool.{and_parts}
 use Rattle.std.proofs.lemmas.Float.{T_from_true}
 use Rattle.std.specs.Int.Signed.{le_z_yes}
-use Rattle.serde_json.specs.Data.{Data}
+use Rattle.serde_json.specs.Data.{Data, Items, no_items, item}
 use Rattle.serde_json.specs.Find.{get, as_array}
 use Rattle.manifest_json.specs.declared.codes.TheConstants.{OUT_OF_RANGE, WRONG_TYPE}
 use Rattle.manifest_json.specs.declared.fault.Refusal.{Refusal}
@@ -13,7 +13,7 @@ use Rattle.manifest_json.specs.Fields.{or_refuse}
 use Rattle.manifest_json.specs.Walk.{items_len}
 use Rattle.kube_objects.specs.declared.node.ReadyStatus.TheVariants as statuses
 use Rattle.script_reader.specs.Lawful.{IsPosted}
-use Rattle.script_reader.specs.Fields.{under, default_of, required, whole_or, whole_in, whole_at, needed_whole, signed_or, signed_in, signed_at, array_in, text_at, needed_text, posted_of, posted_at, needed_posted}
+use Rattle.script_reader.specs.Fields.{under, default_of, required, whole_or, whole_in, whole_at, needed_whole, signed_or, signed_in, signed_at, array_in, not_empty, text_at, needed_text, posted_of, posted_at, needed_posted}
 use Rattle.manifest_laws.proofs.Getting.{Gets, Has, done, refused, by_test, skip, of_option}
 
 -- a key that may be missing
@@ -79,6 +79,10 @@ pub array-few : (most : ℕ) (path : List ℕ) (d : Data) → Gets (λ items. it
 unfolding array_in
 array-few most path d =
     skip (or_refuse (as_array d) WRONG_TYPE path) (λ items. by_test (nat_lt most (items_len items)) _ _ (λ e. refused _) (λ few. done items (ltb-false most (items_len items) few)))
+
+pub not_empty-some : (most : ℕ) (path : List ℕ) (items : Items) → items_len items ≤ most → Gets (λ some. IsIn 1 most (items_len some)) (not_empty path items)
+not_empty-some most path no_items few = refused _
+not_empty-some most path (item d rest) few = done (item d rest) (omega arith, few)
 
 -- ---- statuses that a kubelet posts
 

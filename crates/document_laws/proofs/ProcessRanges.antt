@@ -9,8 +9,6 @@ use Rattle.std.proofs.lemmas.List.Elements.{All-push, All-nil, All-weaker}
 use Rattle.serde_json.specs.Data.{Data, Items, no_items, item}
 use Rattle.kube_base.specs.Times.{time_of}
 use Rattle.kube_base.specs.declared.numbers.Wall.{Wall}
-use Rattle.kube_objects.specs.Document.{own_waits_each}
-use Rattle.kube_objects.specs.Rules.{own_waits}
 use Rattle.kube_objects.specs.declared.script.Proc.{Proc}
 use Rattle.kube_objects.specs.declared.settings.Settings.{Settings}
 use Rattle.manifest_laws.proofs.Getting.{Gets, done, refused, weaker, by_test, and_then, skip}
@@ -27,14 +25,14 @@ use Rattle.script_reader.specs.declared.parts.Rates.{Rates}
 use Rattle.script_reader.specs.declared.parts.Timings.{Timings}
 use Rattle.script_reader.specs.declared.table.Table.TheVariants as tables
 use Rattle.script_reader.specs.declared.table.Version.{Version}
-use Rattle.script_reader.specs.Fields.{under, text_at, needed_text, if_name, needed_name, name_at, needed_whole, whole_at, flag_at, policy_at, if_epoch, epoch_at, not_empty}
+use Rattle.script_reader.specs.Fields.{under, text_at, needed_text, if_name, needed_name, name_at, needed_whole, whole_at, flag_at, policy_at, if_epoch, epoch_at}
 use Rattle.script_reader.specs.Choices.{preset_at}
 use Rattle.script_reader.specs.Rules.{rules_at, agree}
-use Rattle.script_reader.specs.Waits.{waits_at}
-use Rattle.script_reader.specs.Lawful.{AreLawful, IsPosted, IsLawful, AreNamedApart}
+use Rattle.script_reader.specs.Lawful.{AreLawful, IsPosted, IsLawful, AreNamedApart, AreWaits}
 use Rattle.script_reader.specs.Walk.{Team, if_sound, if_controller, object_in, if_end, beats_at, timings_at, standard, periods_at, rates_at, is_sound, settings_of, settings_at, named_at, clock_at, timings_of, has_name, numbers_of, controller_of, controller_at, controllers_from, controllers_in, kubelet_of, kubelet_at, kubelets_from, kubelets_in}
-use Rattle.document_laws.proofs.OwnRules.{itself, unless-none, rules-none, rules-own, waits-own, each-push}
-use Rattle.document_laws.proofs.FieldRanges.{IsIn, whole_at-in, IsSignedIn, signed_at-in, posted_at-in, array-few}
+use Rattle.document_laws.proofs.OwnRules.{itself, rules-none, rules-own}
+use Rattle.document_laws.proofs.WaitRanges.{waits_at-in}
+use Rattle.document_laws.proofs.FieldRanges.{IsIn, whole_at-in, IsSignedIn, signed_at-in, posted_at-in, array-few, not_empty-some}
 use Rattle.script_reader.proofs.Named.{any_map, numbers-push}
 
 -- ---- settings
@@ -135,7 +133,7 @@ pub record AreRead (s : Settings) : Type 0 where
   pub outlast : Outlast (timings_of s)
 
 -- the own rule of settings
-sound-in : (path : List ℕ) (t : Timings) (r : Rates) (settings : Settings)
+pub sound-in : (path : List ℕ) (t : Timings) (r : Rates) (settings : Settings)
     → Gets (λ s. (is_sound t ≡ true) × (r.secondary ≤ r.primary) × (s ≡ settings)) (if_sound path t r settings)
 sound-in path t r settings =
     by_test (is_sound t && nat_le r.secondary r.primary && agree settings.rules) _ _
@@ -190,7 +188,7 @@ settings-in version path value =
         secondary = parts.1;
         large_zone = r.large_zone;
         percent = r.percent;
-        rules = rules-own preset path d rules none given;
+        rules = (rules-own preset path d none).at rules given;
         renew_within_lease = own.lease;
         retry_within_renew = own.renew;
       };
@@ -230,10 +228,6 @@ lawful-from c t p clock timings own posted rate offset lease renew retry timeout
       renew_within_lease = rw (renew, lease) own.lease;
       retry_within_renew = rw (renew, retry) own.renew;
     }
-
-not_empty-some : (path : List ℕ) (items : Items) → items_len items ≤ 16 → Gets (λ some. IsIn 1 16 (items_len some)) (not_empty path items)
-not_empty-some path no_items few = refused _
-not_empty-some path (item d rest) few = done (item d rest) (omega arith, few)
 
 -- ---- names
 
@@ -305,11 +299,27 @@ AreMany many names ps = AreProcs names ps × (length ps ≡ many)
 
 -- a controller with its waits, behind earlier ones
 abbrev IsController : List Proc → Texts → Proc × List ℕ → Type 0
-IsController earlier names c = IsProc earlier names c.0 × (c.1 ≡ own_waits)
+IsController earlier names c = IsProc earlier names c.0 × AreWaits c.1
+
+-- the waits of each of these controllers
+pub record AreWaitsEach (ps : List Proc) (waits : List (List ℕ)) : Type 0 where
+  pub lawful : All AreWaits waits
+  pub each : length waits ≡ length ps
+
+AreWaitsEach-none : AreWaitsEach [] []
+AreWaitsEach-none = record { lawful = All-nil AreWaits; each = refl }
+
+AreWaitsEach-push : (ps : List Proc) (p : Proc) (all : List (List ℕ)) (waits : List ℕ) → AreWaitsEach ps all → AreWaits waits
+    → AreWaitsEach (ps ++ p ∷ []) (all ++ waits ∷ [])
+AreWaitsEach-push ps p all waits h one =
+    record {
+      lawful = All-push AreWaits all waits h.lawful one;
+      each = omega (arith, h.each, length-append all (waits ∷ []), length-append ps (p ∷ []));
+    }
 
 -- controllers and the waits of each, of which there are so many
 abbrev IsTeam : ℕ → Texts → Team → Type 0
-IsTeam many names team = AreMany many names team.0 × (team.1 ≡ own_waits_each team.0)
+IsTeam many names team = AreMany many names team.0 × AreWaitsEach team.0 team.1
 
 if_controller-in : (names : Texts) (path : List ℕ) (earlier : List Proc) (name : ℕ × Texts) (clock : Clock) (watch : Bool) (ts : Timings)
     → Grows names name.1 × IsNameNumber name.1 name.0 → IsClock clock → AreTimings ts
@@ -331,27 +341,26 @@ module _ (settings : Settings) (timings : AreTimings (timings_of settings)) (own
       and_then (clock-in path d) (λ clock c.
       skip (flag_at true path (codes "watch") d) (λ watch.
       and_then (timings-in (timings_of settings) path d timings) (λ ts t.
-      and_then (itself (waits_at path d)) (λ waits given.
+      and_then (waits_at-in path d) (λ waits w.
       and_then (if_controller-in names path earlier name clock watch ts n c t) (λ controller r.
-      and_then (unless-none path (codes "waits") d) (λ built none.
-      done ((controller.0, waits), controller.1) (r.0, (r.1, waits-own path d waits none given))))))))))
+      done ((controller.0, waits), controller.1) (r.0, (r.1, w)))))))))
 
   controllers_from-in : (version : Version) (names : Texts) (place : ℕ) (earlier : List Proc) (waits : List (List ℕ)) (rest : Items) → AreProcs names earlier
-      → waits ≡ own_waits_each earlier → Reads names (IsTeam (length earlier + items_len rest)) (controllers_from version settings names place earlier waits rest)
+      → AreWaitsEach earlier waits → Reads names (IsTeam (length earlier + items_len rest)) (controllers_from version settings names place earlier waits rest)
   unfolding controllers_from
-  controllers_from-in version names place earlier waits no_items all own = done _ (Grows-none names, ((all, omega arith), own))
-  controllers_from-in version names place earlier waits (item d rest) all own =
+  controllers_from-in version names place earlier waits no_items all each = done _ (Grows-none names, ((all, omega arith), each))
+  controllers_from-in version names place earlier waits (item d rest) all each =
       and_then (controller-in version names (member_path [] (codes "/controllers/") place) earlier d) (λ next n.
-      weaker (controllers_from-in version next.1 (place + 1) (earlier ++ next.0.0 ∷ []) (waits ++ next.0.1 ∷ []) rest (AreProcs-push n.0 earlier next.0.0 all n.1.0) (each-push earlier next.0.0 waits next.0.1 own n.1.1))
+      weaker (controllers_from-in version next.1 (place + 1) (earlier ++ next.0.0 ∷ []) (waits ++ next.0.1 ∷ []) rest (AreProcs-push n.0 earlier next.0.0 all n.1.0) (AreWaitsEach-push earlier next.0.0 waits next.0.1 each n.1.1))
       (λ r h. (Grows-then n.0 h.0, ((h.1.0.0, omega (arith, h.1.0.1, length-append earlier (next.0.0 ∷ []))), h.1.1))))
 
   -- 1 to 16 controllers
-  pub controllers-in : (version : Version) (names : Texts) (d : Data) → Reads names (λ ns team. (AreProcs ns team.0 × (1 ≤ length team.0) × (length team.0 ≤ 16)) × (team.1 ≡ own_waits_each team.0)) (controllers_in version settings names d)
+  pub controllers-in : (version : Version) (names : Texts) (d : Data) → Reads names (λ ns team. (AreProcs ns team.0 × (1 ≤ length team.0) × (length team.0 ≤ 16)) × AreWaitsEach team.0 team.1) (controllers_in version settings names d)
   unfolding controllers_in
   controllers-in version names d =
       and_then (array-few 16 (codes "/controllers") d) (λ all few.
-      and_then (not_empty-some (codes "/controllers") all few) (λ some h.
-      weaker (controllers_from-in version names 0 [] [] some (AreProcs-none names) refl)
+      and_then (not_empty-some 16 (codes "/controllers") all few) (λ some h.
+      weaker (controllers_from-in version names 0 [] [] some (AreProcs-none names) AreWaitsEach-none)
       (λ r k. (k.0, ((k.1.0.0, omega (arith, k.1.0.1, h.0), omega (arith, k.1.0.1, h.1)), k.1.1)))))
 
   -- ---- kubelets

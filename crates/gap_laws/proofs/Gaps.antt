@@ -5,10 +5,10 @@ use Rattle.kube_objects.specs.declared.call.Reply.TheVariants.{Done}
 use Rattle.kube_objects.specs.declared.lease.Lease.{Lease}
 use Rattle.kube_objects.specs.declared.object.Object.{Object}
 use Rattle.kube_objects.specs.declared.object.Object.TheVariants as object
-use Rattle.kube_objects.specs.Document.{Doc, end_beat, of_seconds, is_controller}
+use Rattle.kube_objects.specs.Document.{Doc, end_beat, is_controller}
 use Rattle.kube_objects.specs.Elector.{lead_says, succeeds}
 use Rattle.kube_objects.specs.Entry.{Entry, Identity}
-use Rattle.kube_objects.specs.Newest.{added, has, or_zero}
+use Rattle.kube_objects.specs.Newest.{added, has}
 use Rattle.kube_objects.specs.Stored.{Held, Write, election, stored, at_key, write_of, writes, next_version}
 use Rattle.history.specs.History.{whole_history}
 use Rattle.history.specs.Premise.{greatest_below}
@@ -19,6 +19,7 @@ use Rattle.history_laws.proofs.Tailed.{tail_trans, tail_all, tails_meet, writes_
 use Rattle.lease_laws.proofs.Premises.{rates_at_most}
 use Rattle.span_laws.specs.Spans.{RunsAtMost, IsNeeded}
 use Rattle.span_laws.proofs.Spans.{readings_last}
+use Rattle.lease_laws.specs.Respects.{respected_time}
 use Rattle.gap_laws.specs.Gaps.{IsDelayed, IsWriteOf, IsTakenFrom, GapsLast}
 use Rattle.gap_laws.proofs.Waits.{Slow, Late, Waited, WaitedFor, Topped, Took, Success, LedFrom, Waits}
 use Rattle.gap_laws.proofs.Histories.{whole_known}
@@ -61,7 +62,7 @@ done_is a b is = cc
 -- three messages after the time of the record
 module _ (doc : Doc) (sound : IsSound doc) (q : Identity) (role : is_controller doc q.process ≡ true) (e : Entry) (earlier before : List Entry) (version : Version) (stands : IsTail (e ∷ earlier) (whole_history doc))
     (lead : lead_says q e.actor e.fact ≡ Some version) (write : IsWriteOf version earlier before) (y : Held) (lease : Lease) (over : IsTakenFrom q before y lease)
-    (fast needed : ℕ) (runs : RunsAtMost doc q.process y.beat e.beat fast) (is : IsNeeded fast (of_seconds (or_zero lease.duration)) needed) where
+    (fast needed : ℕ) (runs : RunsAtMost doc q.process y.beat e.beat fast) (is : IsNeeded fast (respected_time doc q.process lease) needed) where
   gap_by : (least : ℕ) → IsDelayed doc q.process y.beat least → (y.beat + needed + 3 ≤ e.beat) × (y.beat + needed + 3 * least ≤ e.beat)
   gap_by least delayed = (omega (arith, waited.late.0, counted, comes.0, success.comes.0), omega (arith, waited.late.1 refl (omega arith), counted, comes.1 refl since, success.comes.1 refl (omega (arith, since, comes.0))))
     where
@@ -101,7 +102,7 @@ module _ (doc : Doc) (sound : IsSound doc) (q : Identity) (role : is_controller 
       comes = subst (λ (q : Identity). Late w q.process success.b.call.sent success.e.beat) success.who (answered.1.after.1 success.plain)
 
       counted : waited.seen + needed ≤ success.b.call.sent
-      counted = readings_last doc q.process y.beat e.beat fast (of_seconds (or_zero lease.duration)) needed runs is waited.seen success.b.call.sent
+      counted = readings_last doc q.process y.beat e.beat fast (respected_time doc q.process lease) needed runs is waited.seen success.b.call.sent
           (omega (arith, waited.late.0)) waited.before (omega (arith, comes.0, success.comes.0)) waited.over
 
 pub gaps_last : GapsLast

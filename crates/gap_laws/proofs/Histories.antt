@@ -151,7 +151,7 @@ module _ (doc : Doc) (sound : IsSound doc) (high : ℕ) (greatest : AtMost doc h
   follows_known k b waiting h request role follows inv s =
       let g = after_reply k b waiting h in
       sends k 3 b.who Plain request g (omega arith)
-      (λ i t role. followed_base doc sound.2 w k g b.who waiting.kind waiting.request b.reply request (t.seen b.who) (told_late doc w high k h b waiting i t role) follows) inv s
+      (λ i t role. followed_base doc w k g b.who waiting.kind waiting.request b.reply request (t.seen b.who) (told_late doc w high k h b waiting i t role) follows) inv s
 
   later : (k : ℕ) (h : List Entry) → Waits doc w k h → Waits doc w (suc k) h
   later k h s = record {

@@ -7,16 +7,15 @@ use Rattle.kube_objects.specs.declared.lease.Lease.{Lease}
 use Rattle.kube_objects.specs.declared.object.Object.{Object}
 use Rattle.kube_objects.specs.declared.object.Object.TheVariants as object
 use Rattle.kube_objects.specs.Clocks.{local}
-use Rattle.kube_objects.specs.Document.{Doc, processes, end_beat, beat_micros, of_seconds, is_controller, lease_seconds, lease_duration, call_timeout, retry_period, renew_deadline}
+use Rattle.kube_objects.specs.Document.{Doc, processes, end_beat, beat_micros, is_controller, lease_seconds, call_timeout, retry_period, renew_deadline}
 use Rattle.kube_objects.specs.Elector.{deadline, succeeds, is_before}
 use Rattle.kube_objects.specs.Entry.{Entry, Identity}
 use Rattle.kube_objects.specs.Identities.{is_same, is_by, is_other, holder_of}
-use Rattle.kube_objects.specs.Newest.{or_zero}
 use Rattle.kube_objects.specs.Process.{alive, is_present, is_stop, stops}
 use Rattle.kube_objects.specs.Stored.{Held, election, stored}
 use Rattle.kube_objects.specs.Wire.{Back}
 use Rattle.history.specs.History.{history, whole_history, at_turn}
-use Rattle.history.specs.Premise.{longest}
+use Rattle.history.specs.Premise.{longest, waited_by}
 use Rattle.history.specs.Safe.{Acts}
 use Rattle.history.specs.Sound.{IsSound}
 use Rattle.history_laws.specs.Tails.{IsTail}
@@ -28,6 +27,7 @@ use Rattle.lease_laws.proofs.Histories.{turn_right}
 use Rattle.lease_laws.proofs.Invariant.{view, FitObject, CoveredBy, Covered, BackRight, HeldRight, Led, Within, Inv}
 use Rattle.lease_laws.proofs.Pauses.{true_time}
 use Rattle.lease_laws.proofs.Premises.{Premise, premise_from}
+use Rattle.lease_laws.proofs.Waited.{waits_for}
 use Rattle.span_laws.specs.Spans.{RunsAtLeast, RunsAtMost, IsEnough, IsNeeded}
 use Rattle.span_laws.proofs.Spans.{goes_least, readings_last}
 use Rattle.span_laws.proofs.Looks.{not_over}
@@ -112,7 +112,7 @@ abbrev Kept : Doc → Identity → ℕ → ℕ → Option Held → Type 0
 Kept doc p from needed t = (y : Held) × (t ≡ Some y) × (Mine doc p from y ⊎ (from + needed + 2 ≤ y.beat))
 
 module _ (doc : Doc) (premise : Premise doc) (sound : IsSound doc) (p q : Identity) (j k : ℕ) (end : k ≤ end_beat doc) (order : j ≤ k) (first : Acts doc p j) (last : Acts doc q k) (differ : p ≡ q → ⊥)
-    (keeps : KeepsLead doc p (at_turn doc p.process j)) (fast needed : ℕ) (runs : (c : ℕ) → is_controller doc c ≡ true → RunsAtMost doc c 0 k fast) (need : IsNeeded fast (lease_duration doc p.process) needed) where
+    (keeps : KeepsLead doc p (at_turn doc p.process j)) (fast needed : ℕ) (runs : (c : ℕ) → is_controller doc c ≡ true → RunsAtMost doc c 0 k fast) (need : IsNeeded fast (waited_by doc.settings.rules.respect doc p.process) needed) where
   below_processes : (c : ℕ) → is_controller doc c ≡ true → c ≤ processes doc
   below_processes c role = let e : processes doc ≡ length doc.controllers + length doc.kubelets = length-append doc.controllers doc.kubelets in omega (arith, ltb-true c (length doc.controllers) role, e)
 
@@ -165,11 +165,11 @@ module _ (doc : Doc) (premise : Premise doc) (sound : IsSound doc) (p q : Identi
       by_same true same = let e = same_is p t.b.who same in ⊎_elim (λ fit. inl (own e t.lease t.object fit.0 fit.1)) (λ free. absurd (given_up e free.0)) t.fit
       by_same false other =
           let waited : Waited doc w t.b.who t.b.call.sent y mine.lease = base.1 mine.lease mine.object (ap (is_other t.b.who) mine.holder ∙ ap not other) in
-          let over : local doc t.b.who.process waited.seen + lease_duration doc p.process ≤ local doc t.b.who.process t.b.call.sent =
-          subst (λ o. local doc t.b.who.process waited.seen + of_seconds (or_zero o) ≤ local doc t.b.who.process t.b.call.sent) mine.duration waited.over in
+          let over : local doc t.b.who.process waited.seen + waited_by doc.settings.rules.respect doc p.process ≤ local doc t.b.who.process t.b.call.sent =
+          omega (arith, waited.over, waits_for doc doc.settings.rules.respect p.process t.b.who.process mine.lease t.role mine.duration) in
           let then : x.beat ≤ k = by_then x T at in
           let counted : waited.seen + needed ≤ t.b.call.sent =
-          readings_last doc t.b.who.process 0 k fast (lease_duration doc p.process) needed (runs t.b.who.process t.role) need waited.seen t.b.call.sent (omega arith) waited.before (omega (arith, then, took.after.0)) over in
+          readings_last doc t.b.who.process 0 k fast (waited_by doc.settings.rules.respect doc p.process) needed (runs t.b.who.process t.role) need waited.seen t.b.call.sent (omega arith) waited.before (omega (arith, then, took.after.0)) over in
           inr (omega (arith, counted, waited.late.0, mine.since, took.after.0, t.beat))
 
   led_before : (T : List Entry) → IsTail start T → deadline doc p T ≡ None → ⊥
@@ -240,7 +240,7 @@ module _ (doc : Doc) (premise : Premise doc) (sound : IsSound doc) (p q : Identi
           by_top : CoveredBy doc premise.high q s.b.call.sent (Some y) → ⊥
           by_top (inl own) = differ (some_is p q (sym by ∙ own.0))
           by_top (inr wide) =
-              crossed (y.beat - s.b.call.sent) (k - s.b.call.sent) (beat_micros doc) (premise.low q.process) premise.high (lease_duration doc q.process) (call_timeout doc q.process + retry_period doc q.process + renew_deadline doc q.process) (longest doc q.process)
+              crossed (y.beat - s.b.call.sent) (k - s.b.call.sent) (beat_micros doc) (premise.low q.process) premise.high (waited_by doc.settings.rules.respect doc q.process) (call_timeout doc q.process + retry_period doc q.process + renew_deadline doc q.process) (longest doc q.process)
               (omega (arith, held.beat, order)) wide (true_time doc (premise.low q.process) q.process (premise.least q.process) s.b.call.sent k d end acting within) (premise.lease q.process last.0)
 
           covered : CoveredBy doc premise.high q s.b.call.sent (stored election start) → ⊥
@@ -278,8 +278,8 @@ module _ (doc : Doc) (premise : Premise doc) (sound : IsSound doc) (p q : Identi
   sent_before y top s (inl stopped) = absurd (omega (arith, stopped, never_stopped))
   sent_before y top s (inr by) = cases (subst (CoveredBy doc premise.high p s) top by)
     where
-      long : 0 < lease_duration doc p.process
-      long = positive (lease_duration doc p.process) (longest doc p.process * (beat_micros doc * premise.high) * premise.low p.process + (call_timeout doc p.process + retry_period doc p.process + renew_deadline doc p.process) * premise.high) (premise.low p.process) (premise.lease p.process first.0)
+      long : 0 < waited_by doc.settings.rules.respect doc p.process
+      long = positive (waited_by doc.settings.rules.respect doc p.process) (longest doc p.process * (beat_micros doc * premise.high) * premise.low p.process + (call_timeout doc p.process + retry_period doc p.process + renew_deadline doc p.process) * premise.high) (premise.low p.process) (premise.lease p.process first.0)
 
       cases : CoveredBy doc premise.high p s (Some y) → s < y.beat
       cases (inl own) = own.1

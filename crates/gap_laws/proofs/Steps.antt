@@ -13,7 +13,7 @@ use Rattle.kube_objects.specs.declared.lease.Holder.TheVariants as holder
 use Rattle.kube_objects.specs.declared.lease.Lease.{Lease}
 use Rattle.kube_objects.specs.declared.object.Object.TheVariants as object
 use Rattle.kube_objects.specs.Clocks.{local}
-use Rattle.kube_objects.specs.Document.{Doc, of_seconds, is_controller, call_timeout, retry_period, renew_deadline}
+use Rattle.kube_objects.specs.Document.{Doc, is_controller, lease_seconds, call_timeout, retry_period, renew_deadline}
 use Rattle.kube_objects.specs.Elector.{moment, Shown, told, shows, shown, newly, is_known, observed, observed_at, succeeds, leads, lead_says, deadline_says, deadline, is_blocked, is_valid, renewed, updated, created, Fails, Asks, Succeeds, follow_get, is_done, not_done, follow_write, follow_on, attempt_from, attempt, release_from, given_up, respected}
 use Rattle.kube_objects.specs.Entry.{Entry, Identity, Call, CallKind, Plain, Fast, Release, Fact, Sends, Delivers, Leads, Expires, entry, Look, Emptying, ReleaseBegins}
 use Rattle.kube_objects.specs.Identities.{identity, is_by, is_same, is_own, is_other}
@@ -23,9 +23,7 @@ use Rattle.kube_objects.specs.Pauses.{can_at}
 use Rattle.kube_objects.specs.Process.{open_as, call_says, last_call, call_in}
 use Rattle.kube_objects.specs.Stored.{Held, election, stored}
 use Rattle.kube_objects.specs.Wire.{arrival, request_delay, loses_requests, request_arrival, next_call, send, Sent, Back, sent_of, back_of}
-use Rattle.kube_objects.specs.Own.{IsOwn}
 use Rattle.kube_objects.specs.Stalls.{at_store}
-use Rattle.kube_objects.proofs.Own.{respected-own}
 use Rattle.kube_objects.proofs.OwnCalls.{timely}
 use Rattle.kube_objects.proofs.Stalls.{awake_later}
 use Rattle.history_laws.specs.Tails.{In, IsTail}
@@ -35,6 +33,8 @@ use Rattle.history_laws.proofs.Walk.{Coming, after_reply}
 use Rattle.lease_laws.proofs.Invariant.{view, OnTop, Wrote, Saw, Within, Asked, AnswerRight, SentRight, BackRight, NumberedIn, Inv}
 use Rattle.lease_laws.proofs.Pauses.{within_success}
 use Rattle.lease_laws.proofs.Steps.{no_ask, no_success, asks_is}
+use Rattle.lease_laws.proofs.Waited.{respected_holder}
+use Rattle.lease_laws.specs.Respects.{respected_time}
 use Rattle.gap_laws.proofs.Waits.{Slow, Late, late_early, is_release, Arrives, Waited, WaitedFor, BaseWaited, SentWell, Took, Answered, Topped, TopsOrPut, Success, LedFrom, TermFrom, Waits, each_position, position, Moves, moved, more_success}
 
 -- ---- what any entry leaves
@@ -404,11 +404,16 @@ shown_late doc w high k h inv s q role = both (shown q h) (inv.shown q role) (s.
 
 -- over another's record that was found
 found_base : (doc : Doc) (w : Slow) (k : ℕ) (h : List Entry) (q : Identity) (version : Version) (lease next : Lease) → or_zero (observed q h) ≤ k → ShownLate doc w h q (version, lease)
-    → is_blocked q (local doc q.process k) (observed_at doc q h) lease ≡ false → BaseWaited doc w q k (stored election h) (Update election version next)
+    → is_blocked q (local doc q.process k) (observed_at doc q h) (respected doc.settings.rules.respect (lease_seconds doc q.process) lease) ≡ false → BaseWaited doc w q k (stored election h) (Update election version next)
 found_base doc w k h q version lease next seen saw free = on_top (stored election h) saw.0.1 saw.1
   where
-    over : is_other q lease.holder ≡ true → local doc q.process (or_zero (observed q h)) + of_seconds (or_zero lease.duration) ≤ local doc q.process k
-    over other = ltb-false _ _ (subst (λ b. (b && is_valid (local doc q.process k) (observed_at doc q h) lease) ≡ false) other free)
+    respects : Lease
+    respects = respected doc.settings.rules.respect (lease_seconds doc q.process) lease
+
+    over : is_other q lease.holder ≡ true → local doc q.process (or_zero (observed q h)) + respected_time doc q.process lease ≤ local doc q.process k
+    over other =
+        let held = ap (is_other q) (respected_holder doc.settings.rules.respect (lease_seconds doc q.process) lease) ∙ other in
+        ltb-false _ _ (subst (λ b. (b && is_valid (local doc q.process k) (observed_at doc q h) respects) ≡ false) held free)
 
     waited : (y : Held) → y.object ≡ object.Lease lease → Late w q.process y.beat (or_zero (observed q h)) → WaitedFor doc w q k y
     waited y object late other_lease is other =
@@ -427,9 +432,9 @@ own_base doc w k h q x next saw own = on_top (stored election h) saw.0.1
     on_top None a = tt
     on_top (Some y) a = λ is lease object other. absurd (not_both q lease.holder (subst (λ (l : Lease). is_own q l.holder ≡ true) (sym (one_lease y x.1 lease (a is).0 object)) own) other)
 
-pub followed_base : (doc : Doc) → IsOwn doc → (w : Slow) (k : ℕ) (h : List Entry) (q : Identity) (way : CallKind) (request : Request) (reply : Reply) (next : Request) → or_zero (observed q h) ≤ k → IfSome (told request reply) (ShownLate doc w h q)
+pub followed_base : (doc : Doc) (w : Slow) (k : ℕ) (h : List Entry) (q : Identity) (way : CallKind) (request : Request) (reply : Reply) (next : Request) → or_zero (observed q h) ≤ k → IfSome (told request reply) (ShownLate doc w h q)
     → follow_on doc q k way request reply h ≡ Asks next → BaseWaited doc w q k (stored election h) next
-followed_base doc own w k h q way request reply next seen saw is = cases request saw is
+followed_base doc w k h q way request reply next seen saw is = cases request saw is
   where
     Based : Request → Type 0
     Based = BaseWaited doc w q k (stored election h)
@@ -453,7 +458,7 @@ followed_base doc own w k h q way request reply next seen saw is = cases request
     found v lease saw true blocked is = absurd (no_ask next is)
     found v lease saw false free is =
         subst Based (asks_is (Update election v (updated q (moment doc q k) lease)) next is)
-        (found_base doc w k h q v lease (updated q (moment doc q k) lease) seen saw (subst (λ l. is_blocked q (local doc q.process k) (observed_at doc q h) l ≡ false) (respected-own doc own q k lease) free))
+        (found_base doc w k h q v lease (updated q (moment doc q k) lease) seen saw free)
 
     get : (key : Key) (reply : Reply) → IfSome (told (Get key) reply) (ShownLate doc w h q) → follow_get q (moment doc q k) (observed_at doc q h) reply ≡ Asks next → Based next
     get key Absent saw is = subst Based (asks_is (Create election (created q (moment doc q k))) next is) tt

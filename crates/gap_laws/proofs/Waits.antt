@@ -7,7 +7,7 @@ use Rattle.kube_objects.specs.declared.call.Request.TheVariants.{Update}
 use Rattle.kube_objects.specs.declared.lease.Lease.{Lease}
 use Rattle.kube_objects.specs.declared.object.Object.TheVariants as object
 use Rattle.kube_objects.specs.Clocks.{local}
-use Rattle.kube_objects.specs.Document.{Doc, of_seconds, is_controller}
+use Rattle.kube_objects.specs.Document.{Doc, is_controller}
 use Rattle.kube_objects.specs.Elector.{shown, observed, succeeds, lead_says, deadline}
 use Rattle.kube_objects.specs.Entry.{Entry, Identity, CallKind, Plain, Fast, Release, Look, Emptying}
 use Rattle.kube_objects.specs.Identities.{identity_of, is_other}
@@ -17,6 +17,7 @@ use Rattle.kube_objects.specs.Wire.{Sent, Back, sent_of, back_of}
 use Rattle.history_laws.specs.Tails.{In, IsTail}
 use Rattle.history_laws.proofs.Tailed.{same_head, same_rest}
 use Rattle.lease_laws.proofs.Invariant.{view, Fit, OnTop, Within}
+use Rattle.lease_laws.specs.Respects.{respected_time}
 
 -- from a beat on the delays of a process are at least so many beats
 pub record Slow : Type 0 where
@@ -47,7 +48,7 @@ pub record Waited (doc : Doc) (w : Slow) (q : Identity) (d : ℕ) (y : Held) (le
   pub seen : ℕ
   pub late : Late w q.process y.beat seen
   pub before : seen ≤ d
-  pub over : local doc q.process seen + of_seconds (or_zero lease.duration) ≤ local doc q.process d
+  pub over : local doc q.process seen + respected_time doc q.process lease ≤ local doc q.process d
 
 abbrev pub WaitedFor : Doc → Slow → Identity → ℕ → Held → Type 0
 WaitedFor doc w q d y = (lease : Lease) → y.object ≡ object.Lease lease → is_other q lease.holder ≡ true → Waited doc w q d y lease

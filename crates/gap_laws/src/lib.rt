@@ -3,8 +3,9 @@
 
 ghost use Rattle.gap_laws.specs.Gaps.{GapsLast, OthersWait};
 
-/// Whoever comes to lead over a record that another holds does so no sooner than the record's duration takes on its own clock since the record
-/// was written, and three messages take: for every document that can be read.
+/// Whoever comes to lead over a record that another holds does so no sooner than what it waits for such a record takes on its own clock since
+/// the record was written, and three messages take: for every document that can be read. It waits the record's duration, or its own where each
+/// controller goes by its own.
 pub fn gaps_last()
     ensures { GapsLast }
 {}

@@ -2,7 +2,7 @@
 use Rattle.std.proofs.Common.{◌≡◌, ℕ, zero, suc, ◌+◌, ◌*◌, ◌&&◌, nat_lt, Bool, true, false, List, ◌∷◌, length, Option, Some, None, refl, sym, ap, ◌∙◌}
 use Rattle.std.specs.Prelude.{if◌then◌else◌}
 use Rattle.kube_objects.specs.declared.call.Reply.{Reply}
-use Rattle.kube_objects.specs.Document.{Doc, end_beat, beat_micros, lease_duration, call_timeout, retry_period, renew_deadline}
+use Rattle.kube_objects.specs.Document.{Doc, end_beat, beat_micros, call_timeout, retry_period, renew_deadline}
 use Rattle.kube_objects.specs.Elector.{acts, follow_on, leads, release}
 use Rattle.kube_objects.specs.Entry.{Entry, Identity, Call, Stops, entry}
 use Rattle.kube_objects.specs.Own.{IsOwn}
@@ -30,13 +30,13 @@ module _ (doc : Doc) (own : IsOwn doc) where
       nat_lt
       (longest doc p * (beat_micros doc * high) * least_rate doc p (end_beat doc)
       + (call_timeout doc p + retry_period doc p + renew_deadline doc p) * high)
-      (lease_duration doc p * least_rate doc p (end_beat doc))
+      (waited_by doc.settings.rules.respect doc p * least_rate doc p (end_beat doc))
   is_long-own high p =
       ap
       (λ r. nat_lt
       (stall_by (late_calls r.release r.in_release) doc p * (beat_micros doc * high) * least_rate doc p (end_beat doc)
       + span_by (late_calls r.release r.in_release) doc p * high)
-      (waited_by r.respect doc p * least_rate doc p (end_beat doc)))
+      (waited_by doc.settings.rules.respect doc p * least_rate doc p (end_beat doc)))
       own.rules
 
   pub premise-own : lease_premise doc ≡ lease_part doc

@@ -1,22 +1,14 @@
 -- The project's own rules change nothing.
+use Rattle.std.proofs.Common.{◌+◌, ◌*◌, nat_lt, ap, ◌∙◌}
+use Rattle.kube_objects.specs.Document.{end_beat, beat_micros, call_timeout, retry_period, renew_deadline}
 use Rattle.kube_objects.proofs.Own.{request_arrival-own, is_late-own, expire_as-own, retry_at-own, respected-own, acts-own, end_term-own}
 use Rattle.kube_objects.proofs.Own.{has_settled-own, pass_period-own, heard-own, cleaned-own, tainted-own, has_token-own, evict-own, evicted-own}
 use Rattle.history.proofs.Own.{stop-own, react-own, ticks-own, is_long-own, premise-own}
+use Rattle.history.specs.Premise.{least_rate, longest, waited_by}
 use Rattle.history_laws.specs.Own.{OwnRulesChangeNothing}
 
 pub own_rules_change_nothing : OwnRulesChangeNothing
 own_rules_change_nothing doc own = (
-  record {
-    arrives = request_arrival-own doc own;
-    is_late = is_late-own doc own;
-    expires = expire_as-own doc own;
-    retries = retry_at-own doc own;
-    respects = respected-own doc own;
-    acts = acts-own doc own;
-    ends = end_term-own doc own;
-    stops = stop-own doc own;
-    reacts = react-own doc own;
-  },
   record {
     ticks = ticks-own doc own;
     settles = has_settled-own doc own;
@@ -28,8 +20,25 @@ own_rules_change_nothing doc own = (
     evicts = evict-own doc own;
     evictions = evicted-own doc own;
   },
-  record {
-    long = is_long-own doc own;
-    all = premise-own doc own;
-  },
+  λ elects. (
+    record {
+      arrives = request_arrival-own doc own;
+      is_late = is_late-own doc own;
+      expires = expire_as-own doc own;
+      retries = retry_at-own doc elects;
+      respects = respected-own doc elects;
+      acts = acts-own doc own;
+      ends = end_term-own doc own;
+      stops = stop-own doc own;
+      reacts = react-own doc own;
+    },
+    record {
+      long = λ high p. is_long-own doc own high p ∙ ap (λ r.
+          nat_lt
+          (longest doc p * (beat_micros doc * high) * least_rate doc p (end_beat doc)
+          + (call_timeout doc p + retry_period doc p + renew_deadline doc p) * high)
+          (waited_by r doc p * least_rate doc p (end_beat doc))) elects.respect;
+      all = premise-own doc own;
+    },
+  ),
 )

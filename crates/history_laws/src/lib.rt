@@ -36,7 +36,8 @@ pub fn entries_are_ordered()
     ensures adds { StepsOnlyAdd }
 {}
 
-/// A document that goes by the project's own rules has the history that it had before there were others.
+/// In a document that goes by the project's own rules but for those of elections, each definition of a tick that asks for a rule is the one that
+/// asks for none; where it elects by them too, so is each of elections and of the lease premise.
 pub fn own_rules_change_nothing()
     ensures { OwnRulesChangeNothing }
 {}

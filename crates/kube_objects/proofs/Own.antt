@@ -10,7 +10,7 @@ use Rattle.kube_objects.specs.Elector.{acts, leads_on, in_term, led_at, moment, 
 use Rattle.kube_objects.specs.Entry.{Entry, Identity, Place, Call, CallKind, Ends, Expires, entry}
 use Rattle.kube_objects.specs.Health.{heard, probe, pass_period, pass_work}
 use Rattle.kube_objects.specs.Newest.{has, or_else}
-use Rattle.kube_objects.specs.Own.{AreUnstalled, IsOwn}
+use Rattle.kube_objects.specs.Own.{AreUnstalled, IsOwn, ElectsByOwn}
 use Rattle.kube_objects.specs.Pauses.{is_paused, end_of}
 use Rattle.kube_objects.specs.Process.{release_begun, is_release_over, is_late}
 use Rattle.kube_objects.specs.Retries.{wait_after}
@@ -59,39 +59,7 @@ module _ (doc : Doc) (own : IsOwn doc) where
       → expire_as doc k q call (release_begun doc.settings.rules.release call.kind) h ≡ entry k 4 q (Expires call) ∷ h
   expire_as-own k q call h = ap (λ o. expire_as doc k q call o h) (release_begun-own call.kind)
 
-  -- ---- retries
-
-  waits_all : (cs : List Proc) (p : ℕ) → waits_or own_waits (slice_get (own_waits_each cs) p) ≡ own_waits
-  waits_all [] p = refl
-  waits_all (c ∷ cs) zero = refl
-  waits_all (c ∷ cs) (suc p) = waits_all cs p
-
-  pub waits_of-own : (p : ℕ) → waits_of doc p ≡ own_waits
-  waits_of-own p = ap (λ w. waits_or own_waits (slice_get w p)) own.waits ∙ waits_all doc.controllers p
-
-  one_wait : (n : ℕ) → or_else 1000 (slice_get own_waits n) ≡ 1000
-  one_wait zero = refl
-  one_wait (suc n) = refl
-
-  whole : (period : ℕ) → period * 1000 / 1000 ≡ period
-  whole period = omega arith
-
-  pub wait_after-own : (period n : ℕ) → wait_after period own_waits n ≡ period
-  wait_after-own period n = ap (λ w. period * w / 1000) (one_wait (n % 1)) ∙ whole period
-
-  pub retry_at-own : (led : Bool) (q : Identity) (e : Entry) (h : List Entry)
-      → retry_at led doc q e h ≡ local doc q.process e.beat + retry_period doc q.process
-  retry_at-own true q e h = ap (λ r. leader_waits r.retries doc q e.beat (e ∷ h)) own.rules
-  retry_at-own false q e h =
-      let period = retry_period doc q.process in
-      ap
-      (λ n. local doc q.process e.beat + n)
-      (ap (λ w. wait_after period w (failures doc q h)) (waits_of-own q.process) ∙ wait_after-own period (failures doc q h))
-
-  -- ---- the election
-
-  pub respected-own : (q : Identity) (k : ℕ) (lease : Lease) → respected (moment doc q k).respect (moment doc q k).seconds lease ≡ lease
-  respected-own q k lease = ap (λ r. respected r.respect (lease_seconds doc q.process) lease) own.rules
+  -- ---- the term
 
   pub acts-own : (q : Identity) (k : ℕ) (h : List Entry) → acts doc q k h ≡ (not (is_paused doc q.process k) && in_term doc q k h)
   acts-own q k h =
@@ -131,3 +99,38 @@ module _ (doc : Doc) (own : IsOwn doc) where
       ap
       (λ n. elim (n == 0) [ true ↦ for_each (evict doc k q) (pod_keys h) h | false ↦ for_each (evict_within doc k q) (dues doc q (pod_keys h) h) h ])
       (ap (λ r. r.evict_burst) own.rules)
+
+module _ (doc : Doc) (own : ElectsByOwn doc) where
+  -- ---- retries
+
+  waits_all : (cs : List Proc) (p : ℕ) → waits_or own_waits (slice_get (own_waits_each cs) p) ≡ own_waits
+  waits_all [] p = refl
+  waits_all (c ∷ cs) zero = refl
+  waits_all (c ∷ cs) (suc p) = waits_all cs p
+
+  pub waits_of-own : (p : ℕ) → waits_of doc p ≡ own_waits
+  waits_of-own p = ap (λ w. waits_or own_waits (slice_get w p)) own.waits ∙ waits_all doc.controllers p
+
+  one_wait : (n : ℕ) → or_else 1000 (slice_get own_waits n) ≡ 1000
+  one_wait zero = refl
+  one_wait (suc n) = refl
+
+  whole : (period : ℕ) → period * 1000 / 1000 ≡ period
+  whole period = omega arith
+
+  pub wait_after-own : (period n : ℕ) → wait_after period own_waits n ≡ period
+  wait_after-own period n = ap (λ w. period * w / 1000) (one_wait (n % 1)) ∙ whole period
+
+  pub retry_at-own : (led : Bool) (q : Identity) (e : Entry) (h : List Entry)
+      → retry_at led doc q e h ≡ local doc q.process e.beat + retry_period doc q.process
+  retry_at-own true q e h = ap (λ r. leader_waits r doc q e.beat (e ∷ h)) own.retries
+  retry_at-own false q e h =
+      let period = retry_period doc q.process in
+      ap
+      (λ n. local doc q.process e.beat + n)
+      (ap (λ w. wait_after period w (failures doc q h)) (waits_of-own q.process) ∙ wait_after-own period (failures doc q h))
+
+  -- ---- whose duration is respected
+
+  pub respected-own : (q : Identity) (k : ℕ) (lease : Lease) → respected (moment doc q k).respect (moment doc q k).seconds lease ≡ lease
+  respected-own q k lease = ap (λ r. respected r (lease_seconds doc q.process) lease) own.respect

@@ -1,6 +1,6 @@
 -- When the attempt after a failed one comes, as arithmetic on readings.
--- Source: client-go 1.20, `leaderelection.go`: `acquire` waits by `wait.JitterUntil`; `renew` tries again by `wait.PollImmediateUntil`, at the
--- ticks of a ticker, which keeps a tick that comes while an attempt runs.
+-- Source: client-go 1.20, `leaderelection.go`: `acquire` waits by `wait.JitterUntil`; `renew` tries again by `wait.PollImmediateUntil`; in
+-- 0.36 at the ticks of a ticker, which keeps a tick that comes while an attempt runs.
 use Rattle.std.specs.Prelude.{ℕ, ◌+◌, ◌-◌, ◌*◌, ◌/◌, ◌%◌, nat_lt, if◌then◌else◌, List, length, slice_get}
 use Rattle.kube_objects.specs.Newest.{or_else}
 

@@ -2,8 +2,8 @@
 ghost use Rattle.std.specs.Prelude.{◌≡◌};
 ghost use Rattle.kube_objects.specs.Rules.{own_rules};
 
-/// When the attempt after a failed one comes: a wait after it, on the grid of a leader's renewals from its first failure on, or at the ticks of
-/// retry periods from its first attempt on.
+/// When a leader's attempt after a failed one comes: a retry period after it; at whole retry periods after its first failure; or after its first
+/// attempt, at once where one came meanwhile. A candidate goes by its waits under each.
 #[derive(Clone, Copy)]
 pub enum RetryRule {
     After,

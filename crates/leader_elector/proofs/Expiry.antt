@@ -1,20 +1,23 @@
 -- A turn begins with the expiry of a call.
-use Rattle.std.proofs.Common.{◌≡◌, ◌∙◌, ℕ, ◌+◌, not, Bool, true, false, List, ◌∷◌, Option, Some, None, refl, sym, ap, subst}
+use Rattle.std.proofs.Common.{◌≡◌, ◌∙◌, ℕ, ◌+◌, ◌&&◌, ◌||◌, not, Bool, true, false, List, ◌∷◌, Option, Some, None, refl, sym, ap, subst}
 use Rattle.std.specs.Prelude.{if◌then◌else◌}
 use Rattle.kube_base.specs.declared.numbers.Local.{Local}
 use Rattle.kube_objects.specs.declared.call_slot.CallSlot.{CallSlot}
 use Rattle.kube_objects.specs.CallSlots.{CallSlotStands, is_late_call, release_of}
 use Rattle.kube_objects.specs.Clocks.{local}
-use Rattle.kube_objects.specs.Document.{Doc, retry_period}
-use Rattle.kube_objects.specs.Elector.{timer, acts_on, is_fast, leads, deadline}
+use Rattle.kube_objects.specs.Document.{Doc}
+use Rattle.kube_objects.specs.Elector.{timer, acts_on, fails, is_fast, leads, deadline, retry_at, trying_says}
 use Rattle.kube_objects.specs.Entry.{Entry, Identity, Call, Expires, entry}
-use Rattle.kube_objects.specs.Newest.{when, or_else}
+use Rattle.kube_objects.specs.Newest.{has, when, or_else}
 use Rattle.kube_objects.specs.Process.{call_in, is_late, release_begun}
 use Rattle.kube_objects.specs.Releases.{and_end}
 use Rattle.kube_objects.specs.Turns.{expire_as, expire_call, is_fast_call, just_expired}
-use Rattle.kube_objects.proofs.OwnCalls.{call_in-expired, late_expires}
+use Rattle.kube_objects.proofs.OwnCalls.{call_in-expired, late_expires, mine}
 use Rattle.leader_elector.specs.declared.elector.Elector.{Elector}
-use Rattle.leader_elector.specs.Stands.{ElectorStands, IsSettled, is_fast_wait, waiting_in, waiting_of}
+use Rattle.leader_elector.specs.declared.attempts.Attempts.{Attempts}
+use Rattle.leader_elector.specs.Attempts.{after_failure, attempts_of, waits_until}
+use Rattle.leader_elector.specs.Stands.{AreWaitsIf, AttemptsStand, ElectorStands, IsSettled, is_fast_wait, waiting_in}
+use Rattle.leader_elector.proofs.Failing.{attempts-beside, attempts-failed, until-is}
 use Rattle.leader_elector.proofs.Own.{timer-expired, fast_expired, settled-slow}
 
 module _ (doc : Doc) (k : ℕ) (q : Identity) (h : List Entry) where
@@ -51,31 +54,66 @@ module _ (doc : Doc) (k : ℕ) (q : Identity) (h : List Entry) where
   deadline-expiry None = refl
   deadline-expiry (Some call) = deadline_as call (is_late doc q k call)
 
-  -- the state after an expiry
-  expiry_of : (call : Call) (e : Elector) (slot : CallSlot) (at : Local) → ElectorStands doc q h e → call_in q h ≡ Some call → CallSlotStands doc q (entry k 4 q (Expires call) ∷ h) slot →
-      at.0 ≡ or_else e.timer.0 (when (not (is_fast_wait (waiting_of e.waiting))) (local doc q.process k + retry_period doc q.process)) →
-      ElectorStands doc q (entry k 4 q (Expires call) ∷ h) (record e { slot = slot; waiting = None; timer = at })
-  expiry_of call e slot at s is free at_is =
-      let next = local doc q.process k + retry_period doc q.process in
-      let fast : is_fast_wait (waiting_of e.waiting) ≡ is_fast call.kind = ap is_fast_wait (s.waiting ∙ ap (waiting_in doc q) is) in
-      record {
-        process = s.process;
-        incarnation = s.incarnation;
-        timing = s.timing;
-        slot = free;
-        waiting = sym (ap (waiting_in doc q) (call_in-expired q h k 4 call));
-        shown = s.shown;
-        observed = s.observed;
-        timer = at_is ∙ ap (λ t. or_else t (when (not (is_fast_wait (waiting_of e.waiting))) next)) s.timer ∙ ap (λ b. or_else (timer doc q h) (when (not b) next)) fast ∙ sym (timer-expired doc s.timing.own q h k 4 call);
-      }
+  -- the state after an expiry: that of an update without a Get is no failure
+  module _ (call : Call) (e : Elector) (slot : CallSlot) (at : Local) (tried : Attempts) (s : ElectorStands doc q h e) (is : call_in q h ≡ Some call)
+      (free : CallSlotStands doc q (entry k 4 q (Expires call) ∷ h) slot) where
+    abbrev expiring : Entry
+    expiring = entry k 4 q (Expires call)
 
-  pub expiry-stands : (c : Option Call) (e : Elector) (slot : CallSlot) (at : Local) → ElectorStands doc q h e → call_in q h ≡ c → is_late_call doc q k c ≡ true →
-      ((call : Call) → CallSlotStands doc q (entry k 4 q (Expires call) ∷ h) slot) →
-      at.0 ≡ or_else e.timer.0 (when (not (is_fast_wait (waiting_of e.waiting))) (local doc q.process k + retry_period doc q.process)) →
-      ElectorStands doc q (expire_call doc k q c h) (record e { slot = slot; waiting = None; timer = at })
-  expiry-stands None e slot at s is late free at_is = cc
-  expiry-stands (Some call) e slot at s is late free at_is =
-      subst (λ x. ElectorStands doc q x (record e { slot = slot; waiting = None; timer = at })) (sym (late_expires doc k q h call (ap (release_of doc) (sym is) ∙ s.slot.ordinary) late)) (expiry_of call e slot at s is (free call) at_is)
+    fails_is : fails doc q expiring h (Expires call) ≡ not (is_fast call.kind)
+    fails_is = ap (λ b. b && not (is_fast call.kind)) (mine q)
+
+    trying_is : trying_says doc q expiring h (Expires call) ≡ when (not (is_fast call.kind) || false) false
+    trying_is = ap (λ b. when (b || false) false) fails_is
+
+    idle : has (call_in q (expiring ∷ h)) ≡ false
+    idle = ap has (call_in-expired q h k 4 call)
+
+    with_attempts : at.0 ≡ timer doc q (expiring ∷ h) → AttemptsStand doc q (expiring ∷ h) (attempts_of tried) →
+        ElectorStands doc q (expiring ∷ h) (record e { slot = slot; waiting = None; timer = at; attempts = tried })
+    with_attempts timer_is attempts =
+        record {
+          process = s.process;
+          incarnation = s.incarnation;
+          timing = s.timing;
+          slot = free;
+          waiting = sym (ap (waiting_in doc q) (call_in-expired q h k 4 call));
+          shown = s.shown;
+          observed = s.observed;
+          timer = timer_is;
+          attempts = attempts;
+          tries = λ waits. absurd (cc (idle, waits));
+        }
+
+    pub expiry-lost : is_fast call.kind ≡ true → at ≡ e.timer → tried ≡ e.attempts →
+        ElectorStands doc q (expiring ∷ h) (record e { slot = slot; waiting = None; timer = at; attempts = tried })
+    expiry-lost fast at_is tried_is =
+        with_attempts
+        (ap (λ t. t.0) at_is ∙ s.timer ∙ sym (timer-expired doc q h k 4 call ∙ ap (λ b. or_else (timer doc q h) (when (not b) (retry_at (leads q h) doc q expiring h))) fast))
+        (subst (λ a. AttemptsStand doc q (expiring ∷ h) (attempts_of a)) (sym tried_is)
+        (attempts-beside doc q expiring h (attempts_of e.attempts) (fails_is ∙ ap not fast) refl (trying_is ∙ ap (λ b. when (not b || false) false) fast) refl refl s.attempts))
+
+    pub expiry-failed : (waits : List ℕ) (led : Bool) (now : ℕ) → is_fast call.kind ≡ false → leads q h ≡ led → AreWaitsIf led doc q.process waits → now ≡ local doc q.process k →
+        at.0 ≡ waits_until e.timing waits led now (attempts_of e.attempts) → attempts_of tried ≡ after_failure e.timing.retries waits led now (attempts_of e.attempts) →
+        ElectorStands doc q (expiring ∷ h) (record e { slot = slot; waiting = None; timer = at; attempts = tried })
+    expiry-failed waits led now slow led_is are now_is at_is tried_is =
+        let a = attempts_of e.attempts in
+        let failed : fails doc q expiring h (Expires call) ≡ true = fails_is ∙ ap not slow in
+        let trying = s.tries (ap has is) in
+        with_attempts
+        (at_is ∙ ap (λ n. waits_until e.timing waits led n a) now_is
+        ∙ until-is doc q expiring h failed refl trying a s.attempts e.timing s.timing waits led led_is are
+        ∙ ap (λ l. retry_at l doc q expiring h) (sym led_is)
+        ∙ sym (timer-expired doc q h k 4 call ∙ ap (λ b. or_else (timer doc q h) (when (not b) (retry_at (leads q h) doc q expiring h))) slow))
+        (subst (AttemptsStand doc q (expiring ∷ h)) (sym (tried_is ∙ ap (λ n. after_failure e.timing.retries waits led n a) now_is))
+        (attempts-failed doc q expiring h failed refl trying a s.attempts e.timing s.timing waits led led_is are (trying_is ∙ ap (λ b. when (not b || false) false) slow) refl))
+
+  -- what stands after the expiry of the call that waits, stands after the turn's
+  pub expiry-stands : (c : Option Call) (e x : Elector) → ElectorStands doc q h e → call_in q h ≡ c → is_late_call doc q k c ≡ true →
+      ((call : Call) → c ≡ Some call → ElectorStands doc q (entry k 4 q (Expires call) ∷ h) x) → ElectorStands doc q (expire_call doc k q c h) x
+  expiry-stands None e x s is late stands = cc
+  expiry-stands (Some call) e x s is late stands =
+      subst (λ g. ElectorStands doc q g x) (sym (late_expires doc k q h call (ap (release_of doc) (sym is) ∙ s.slot.ordinary) late)) (stands call refl)
 
   pub expiry-fast : (c : Option Call) → release_of doc c ≡ None → is_late_call doc q k c ≡ true → is_fast_call (just_expired q k (expire_call doc k q c h)) ≡ is_fast_wait (waiting_in doc q c)
   expiry-fast None ordinary late = cc

@@ -1,6 +1,7 @@
 pub mod Own
 pub mod Expiry
-pub mod Attempts
+pub mod Beginning
+pub mod Failing
 pub mod Replies
 pub mod Taken
 pub mod Tries

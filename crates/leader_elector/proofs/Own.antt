@@ -2,15 +2,12 @@
 use Rattle.std.proofs.Common.{◌≡◌, ◌∙◌, ℕ, ◌+◌, ◌==◌, ◌&&◌, not, Bool, true, false, List, ◌∷◌, Option, Some, None, refl, ap}
 use Rattle.kube_objects.specs.CallSlots.{waits}
 use Rattle.kube_objects.specs.Clocks.{local}
-use Rattle.kube_objects.specs.Document.{Doc, retry_period}
-use Rattle.kube_objects.specs.Elector.{leads, retry_at, timer, timer_follow, timer_says, is_fast, Follow, Fails, Asks, Succeeds}
+use Rattle.kube_objects.specs.Document.{Doc}
+use Rattle.kube_objects.specs.Elector.{leads, retry_at, timer, timer_says, is_fast}
 use Rattle.kube_objects.specs.Entry.{Entry, Identity, Call, Fact, Starts, Expires, entry}
 use Rattle.kube_objects.specs.Newest.{newest, when, or_zero, or_else}
-use Rattle.kube_objects.specs.Own.{IsOwn}
 use Rattle.kube_objects.specs.Turns.{expired_in, just_expired, is_fast_call}
-use Rattle.kube_objects.proofs.Own.{retry_at-own}
 use Rattle.kube_objects.proofs.OwnCalls.{just_expired-own, mine, said, same_beat}
-use Rattle.leader_elector.specs.Plain.{next_attempt}
 use Rattle.leader_elector.specs.Stands.{IsSettled, kind_of}
 
 pub waits-kind : (fast : Bool) → waits (kind_of fast) ≡ true
@@ -29,19 +26,12 @@ last_timer doc q h = newest (λ e T. timer_says doc q e T e.fact) h
 pub timer-started : (doc : Doc) (q : Identity) (h : List Entry) (k step : ℕ) → timer doc q (entry k step q Starts ∷ h) ≡ local doc q.process k
 timer-started doc q h k step = ap (λ b. or_zero (said (when b (local doc q.process k)) (last_timer doc q h))) (mine q)
 
-pub timer-expired : (doc : Doc) (own : IsOwn doc) (q : Identity) (h : List Entry) (k step : ℕ) (call : Call) →
-    timer doc q (entry k step q (Expires call) ∷ h) ≡ or_else (timer doc q h) (when (not (is_fast call.kind)) (local doc q.process k + retry_period doc q.process))
-timer-expired doc own q h k step call =
+pub timer-expired : (doc : Doc) (q : Identity) (h : List Entry) (k step : ℕ) (call : Call) →
+    timer doc q (entry k step q (Expires call) ∷ h) ≡ or_else (timer doc q h) (when (not (is_fast call.kind)) (retry_at (leads q h) doc q (entry k step q (Expires call)) h))
+timer-expired doc q h k step call =
     let e = entry k step q (Expires call) in
     ap (λ b. or_zero (said (when (b && not (is_fast call.kind)) (retry_at (leads q h) doc q e h)) (last_timer doc q h))) (mine q)
-    ∙ ap (λ at. or_zero (said (when (not (is_fast call.kind)) at) (last_timer doc q h))) (retry_at-own doc own (leads q h) q e h)
-    ∙ or_zero-said (when (not (is_fast call.kind)) (local doc q.process k + retry_period doc q.process)) (last_timer doc q h)
-
--- what follows a reply sets the timer as it does without other rules
-pub next-own : (doc : Doc) (own : IsOwn doc) (q : Identity) (e : Entry) (h : List Entry) (led : Bool) (f : Follow) → timer_follow doc q e h led f ≡ next_attempt f led (local doc q.process e.beat + retry_period doc q.process)
-next-own doc own q e h led Fails = ap (λ at. Some at) (retry_at-own doc own led q e h)
-next-own doc own q e h led (Asks request) = refl
-next-own doc own q e h led (Succeeds version) = refl
+    ∙ or_zero-said (when (not (is_fast call.kind)) (retry_at (leads q h) doc q e h)) (last_timer doc q h)
 
 -- ---- expiry in this turn
 

@@ -13,7 +13,7 @@ use Rattle.kube_objects.specs.Turns.{attempt_if, end_as, end_term, expire_call, 
 use Rattle.kube_objects.proofs.Own.{end_term-own, expire_as-own, is_late-own}
 use Rattle.leader_elector.specs.Moves.{IsLeast, leading_turn, try_before, wake_before, wake_from}
 use Rattle.leader_elector.specs.Stands.{IsSettled}
-use Rattle.leader_elector.proofs.Attempts.{try-due, try-none}
+use Rattle.leader_elector.proofs.Beginning.{try-due, try-none}
 use Rattle.leader_elector.proofs.Expiry.{deadline-expiry}
 
 longer : (x : Entry) (h : List Entry) → (x ∷ h) ≡ h → ⊥

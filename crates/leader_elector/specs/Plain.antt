@@ -1,11 +1,10 @@
 -- What an elector does by what it keeps, whatever the document: at every reading, and in every state.
 -- Source: client-go, package `leaderelection`; the timeout of a call is the profile's.
-use Rattle.std.specs.Prelude.{◌≡◌, ℕ, ◌+◌, ◌&&◌, not, nat_lt, Bool, true, cond, Option, Some, None, option_map}
+use Rattle.std.specs.Prelude.{◌≡◌, ℕ, ◌+◌, ◌&&◌, not, nat_lt, Bool, true, cond, List, Option, Some, None, option_map}
 use Rattle.kube_objects.specs.declared.call.Ask.{Ask}
 use Rattle.kube_objects.specs.declared.call.Reply.{Reply}
 use Rattle.kube_objects.specs.declared.call.Request.{Request}
 use Rattle.kube_objects.specs.declared.call.Request.TheVariants.{Get}
-use Rattle.kube_objects.specs.declared.rules.RespectRule.TheVariants.{Record}
 use Rattle.kube_objects.specs.CallSlots.{calls_of, held_call, is_overdue, next_number}
 use Rattle.kube_objects.specs.Elector.{Shown, Follow, Fails, Asks, Succeeds, Moment, attempt_from, follow, newly, told}
 use Rattle.kube_objects.specs.Entry.{Identity, CallKind, Plain}
@@ -16,11 +15,12 @@ use Rattle.kube_objects.specs.Stored.{election}
 use Rattle.leader_elector.specs.declared.elector.Elector.{Elector}
 use Rattle.leader_elector.specs.declared.follow.Follow as code
 use Rattle.leader_elector.specs.declared.timing.Timing.{Timing}
+use Rattle.leader_elector.specs.Attempts.{AttemptState, after_failure, attempts_of, none_yet, waits_until, with_begin, with_success}
 use Rattle.leader_elector.specs.Stands.{Wait, follow_of, is_fast_wait, observed_of, shown_of, waiting_of}
 use Rattle.leader_elector.specs.Moves.{last_of}
 
 -- how many calls were begun; number and sending of the call that waits, and what it asked; the version and record last
--- shown, and the reading at which this version was first seen; and the reading at which the next attempt starts
+-- shown, and the reading at which this version was first seen; the reading at which the next attempt starts, and how attempts went
 pub record ElectorState : Type 0 where
   pub calls : ℕ
   pub held : Option (ℕ × ℕ)
@@ -28,6 +28,7 @@ pub record ElectorState : Type 0 where
   pub shown : Option Shown
   pub observed : ℕ
   pub timer : ℕ
+  pub attempts : AttemptState
 
 abbrev pub state_of : Elector → ElectorState
 state_of e = record {
@@ -37,13 +38,18 @@ state_of e = record {
   shown = shown_of e.seen;
   observed = observed_of e.seen;
   timer = e.timer.0;
+  attempts = attempts_of e.attempts;
 }
+
+-- that of an elector that starts at a reading
+abbrev pub started_at : ℕ → ElectorState
+started_at now = record { calls = 0; held = None; wait = None; shown = None; observed = 0; timer = now; attempts = none_yet }
 
 abbrev pub identity_of : Elector → Identity
 identity_of e = identity e.me.0 e.incarnation
 
 abbrev pub moment_of : Elector → (now wall : ℕ) → Moment
-moment_of e now wall = record { seconds = e.timing.lease_seconds; now = now; wall = wall; respect = Record }
+moment_of e now wall = record { seconds = e.timing.lease_seconds; now = now; wall = wall; respect = e.timing.respect }
 
 -- who it is and its timings stay
 pub record IsSame (old new : Elector) : Type 0 where
@@ -68,6 +74,7 @@ with_call t now k (Some x) = record k {
   calls = next_number k.calls;
   held = Some (next_number k.calls, now);
   wait = Some (record { request = x.1; kind = x.0; late = now + t.timeout + 1 });
+  attempts = with_begin now k.attempts;
 }
 
 -- this call has begun
@@ -83,10 +90,15 @@ abbrev pub has_lost_update : Timing → ℕ → ElectorState → Bool
 has_lost_update t now k = is_overdue now t.timeout k.held && is_fast_wait k.wait
 
 -- a call that has expired is forgotten, which is a failure but for an update without a Get
-abbrev pub after_expiry : Timing → ℕ → ElectorState → ElectorState
-after_expiry t now k =
+abbrev pub after_expiry : Timing → (waits : List ℕ) → (led : Bool) → ℕ → ElectorState → ElectorState
+after_expiry t waits led now k =
     cond (is_overdue now t.timeout k.held)
-    (record k { held = None; wait = None; timer = cond (is_fast_wait k.wait) k.timer (now + t.retry) })
+    (record k {
+      held = None;
+      wait = None;
+      timer = cond (is_fast_wait k.wait) k.timer (waits_until t waits led now k.attempts);
+      attempts = cond (is_fast_wait k.wait) k.attempts (after_failure t.retries waits led now k.attempts);
+    })
     k
 
 -- what begins an attempt: a leader may renew without a Get
@@ -113,19 +125,25 @@ observed_after now w reply k = or_else k.observed (newly (told w.request reply) 
 abbrev pub follow_in : Elector → Moment → Wait → Reply → ElectorState → Follow
 follow_in e m w reply k = follow (identity_of e) m (observed_after m.now w reply k) w.kind w.request reply
 
--- the reading at which the next attempt starts: next, a retry period from now, after a failure, and after a leader's success
-abbrev pub next_attempt : Follow → (led : Bool) → (next : ℕ) → Option ℕ
-next_attempt Fails led next = Some next
-next_attempt (Asks request) led next = None
-next_attempt (Succeeds version) led next = when led next
+-- the reading at which the next attempt starts: after a failure that until which is waited, after a leader's success one a retry period on
+abbrev pub timer_after : Timing → (waits : List ℕ) → (led : Bool) → ℕ → Follow → AttemptState → ℕ → ℕ
+timer_after t waits led now Fails a timer = waits_until t waits led now a
+timer_after t waits led now (Asks request) a timer = timer
+timer_after t waits led now (Succeeds version) a timer = cond led (now + t.retry) timer
 
-abbrev pub after_reply : Elector → Moment → (led : Bool) → Wait → Reply → ElectorState → ElectorState
-after_reply e m led w reply k = record k {
+abbrev pub attempts_after : Timing → (waits : List ℕ) → (led : Bool) → ℕ → Follow → AttemptState → AttemptState
+attempts_after t waits led now Fails a = after_failure t.retries waits led now a
+attempts_after t waits led now (Asks request) a = a
+attempts_after t waits led now (Succeeds version) a = with_success a
+
+abbrev pub after_reply : Elector → Moment → (waits : List ℕ) → (led : Bool) → Wait → Reply → ElectorState → ElectorState
+after_reply e m waits led w reply k = record k {
   held = None;
   wait = None;
   shown = last_of (told w.request reply) k.shown;
   observed = observed_after m.now w reply k;
-  timer = or_else k.timer (next_attempt (follow_in e m w reply k) led (m.now + e.timing.retry));
+  timer = timer_after e.timing waits led m.now (follow_in e m w reply k) k.attempts k.timer;
+  attempts = attempts_after e.timing waits led m.now (follow_in e m w reply k) k.attempts;
 }
 
 -- the request that follows at once
@@ -141,8 +159,8 @@ follow_keeps_kind (Asks request) = keeps_kind request
 follow_keeps_kind (Succeeds version) = true
 
 -- a reply counted that answers what waited
-pub record Receives (old : Elector) (m : Moment) (led : Bool) (w : Wait) (reply : Reply) (new : Elector)
+pub record Receives (old : Elector) (m : Moment) (waits : List ℕ) (led : Bool) (w : Wait) (reply : Reply) (new : Elector)
     (answered : Option code.Follow) : Type 0 where
   pub same : IsSame old new
   pub follow : option_map follow_of answered ≡ Some (follow_in old m w reply (state_of old))
-  pub kept : state_of new ≡ after_reply old m led w reply (state_of old)
+  pub kept : state_of new ≡ after_reply old m waits led w reply (state_of old)

@@ -1,12 +1,16 @@
 -- A typed state of the elector stands for an identity in a history: one clause for each of its parts.
-use Rattle.std.specs.Prelude.{◌≡◌, ℕ, ◌+◌, Bool, true, false, List, Option, Some, None, option_map}
+use Rattle.std.specs.Prelude.{◌≡◌, ◌≤◌, ℕ, ◌+◌, ◌%◌, Bool, true, false, List, length, Option, Some, None, option_map}
 use Rattle.kube_base.specs.declared.numbers.ProcId.{ProcId}
 use Rattle.kube_objects.specs.declared.call.Request.{Request}
 use Rattle.kube_objects.specs.Clocks.{local}
-use Rattle.kube_objects.specs.Document.{Doc, lease_seconds, renew_deadline, retry_period, call_timeout}
+use Rattle.kube_objects.specs.declared.rules.RetryRule.{RetryRule}
+use Rattle.kube_objects.specs.declared.rules.RetryRule.TheVariants.{After, Grid, Ticks}
+use Rattle.kube_objects.specs.Document.{Doc, lease_seconds, renew_deadline, retry_period, call_timeout, waits_of}
 use Rattle.kube_objects.specs.Elector.{Shown, Follow, Fails, Asks, Succeeds, is_fast, shown, observed_at, timer, leads, deadline}
+use Rattle.kube_objects.specs.Elector.{attempt_began, failures, first_attempt, first_failure, is_failing, is_trying}
 use Rattle.kube_objects.specs.Entry.{Entry, Identity, Call, CallKind, Plain, Fast}
 use Rattle.kube_objects.specs.Identities.{identity}
+use Rattle.kube_objects.specs.Newest.{has, when}
 use Rattle.kube_objects.specs.Own.{IsOwn}
 use Rattle.kube_objects.specs.Process.{begun, call_in}
 use Rattle.kube_objects.specs.Turns.{is_fast_call, just_expired}
@@ -22,15 +26,34 @@ use Rattle.leader_elector.specs.declared.timing.Timing.{Timing}
 use Rattle.leader_elector.specs.declared.waiting.Waiting.{Waiting}
 use Rattle.leader_elector.specs.declared.won.Won.{Won}
 use Rattle.kube_objects.specs.CallSlots.{CallSlotStands}
+use Rattle.leader_elector.specs.Attempts.{AttemptState, attempts_of}
 
--- the timings are those of a process of the document, which goes by the project's own rules
+-- the timings are those of a process of the document, which goes by the project's own rules but for those of elections
 pub record IsTimingOf (doc : Doc) (p : ℕ) (t : Timing) : Type 0 where
   pub lease : t.lease_seconds ≡ lease_seconds doc p
   pub renew : t.renew ≡ renew_deadline doc p
   pub retry : t.retry ≡ retry_period doc p
   pub timeout : t.timeout ≡ call_timeout doc p
   pub fast : t.fast ≡ doc.settings.fast_renew
+  pub retries : t.retries ≡ doc.settings.rules.retries
+  pub respect : t.respect ≡ doc.settings.rules.respect
   pub own : IsOwn doc
+
+-- the waits are those of a controller
+pub record AreWaitsOf (doc : Doc) (p : ℕ) (waits : List ℕ) : Type 0 where
+  pub are : waits ≡ waits_of doc p
+  pub some : 1 ≤ length waits
+
+-- a leader has no use for them
+abbrev pub AreWaitsIf : (led : Bool) → Doc → ℕ → List ℕ → Type 0
+AreWaitsIf true doc p waits = Unit {0}
+AreWaitsIf false doc p waits = AreWaitsOf doc p waits
+
+-- the beat from which a leader counts its retry periods where its last attempt has failed
+abbrev pub counted_from : RetryRule → Doc → Identity → List Entry → ℕ
+counted_from After doc q h = first_failure doc q h
+counted_from Grid doc q h = first_failure doc q h
+counted_from Ticks doc q h = first_attempt doc q h
 
 -- the request that waits, its kind, and the least reading at which it has expired
 pub record Wait : Type 0 where
@@ -67,7 +90,13 @@ follow_of follow.Fails = Fails
 follow_of (follow.Asks request) = Asks request
 follow_of (follow.Succeeds version) = Succeeds version
 
--- what a candidate and a leader have in common
+-- how attempts went. A candidate's waits come in turn; a leader has no use for a place in them
+pub record AttemptsStand (doc : Doc) (q : Identity) (h : List Entry) (a : AttemptState) : Type 0 where
+  pub place : leads q h ≡ false → a.place ≡ failures doc q h % length (waits_of doc q.process)
+  pub began : a.began ≡ when (is_trying doc q h) (local doc q.process (attempt_began doc q h))
+  pub origin : a.origin ≡ when (is_failing doc q h) (local doc q.process (counted_from doc.settings.rules.retries doc q h))
+
+-- what a candidate and a leader have in common; a call that waits is of an attempt
 pub record ElectorStands (doc : Doc) (q : Identity) (h : List Entry) (e : Elector) : Type 0 where
   pub process : e.me.0 ≡ q.process
   pub incarnation : e.incarnation ≡ q.incarnation
@@ -77,6 +106,8 @@ pub record ElectorStands (doc : Doc) (q : Identity) (h : List Entry) (e : Electo
   pub shown : shown_of e.seen ≡ shown q h
   pub observed : observed_of e.seen ≡ observed_at doc q h
   pub timer : e.timer.0 ≡ timer doc q h
+  pub attempts : AttemptsStand doc q h (attempts_of e.attempts)
+  pub tries : has (call_in q h) ≡ true → is_trying doc q h ≡ true
 
 -- an update without a Get that expired has been followed up
 abbrev pub IsSettled : Identity → List Entry → Type 0
@@ -90,6 +121,7 @@ pub record CandidateStands (doc : Doc) (q : Identity) (h : List Entry) (c : Cand
 -- a candidate that a reply at beat k has made the holder, and that is to lead
 pub record IsChosen (doc : Doc) (q : Identity) (k : ℕ) (h : List Entry) (w : Won) : Type 0 where
   pub elector : ElectorStands doc q h w.elector
+  pub idle : call_in q h ≡ None
   pub now : w.now.0 ≡ local doc q.process k
 
 pub record LeadingStands (doc : Doc) (q : Identity) (h : List Entry) (l : Leading) : Type 0 where
@@ -105,6 +137,9 @@ pub record IsNew (doc : Doc) (q : Identity) (h : List Entry) : Type 0 where
   pub shown : shown q h ≡ None
   pub observed : observed_at doc q h ≡ 0
   pub leads : leads q h ≡ false
+  pub failures : failures doc q h ≡ 0
+  pub trying : is_trying doc q h ≡ false
+  pub failing : is_failing doc q h ≡ false
 
 -- ---- identities
 

@@ -1,5 +1,5 @@
 // A candidate asks for the election Lease until it leads.
-ghost use Rattle.std.specs.Prelude.{◌≡◌, ◌≤◌, ◌<◌, ◌+◌, ◌^◌, ℕ, true, false, List, ◌∷◌, Some, None};
+ghost use Rattle.std.specs.Prelude.{◌≡◌, ◌≤◌, ◌<◌, ◌+◌, ◌^◌, ℕ, true, false, List, ◌∷◌, Some, None, All};
 ghost use Rattle.kube_base.specs.Bounds.{most_local};
 ghost use Rattle.kube_objects.specs.Clocks.{local, wall as wall_at};
 ghost use Rattle.kube_objects.specs.Document.{Doc};
@@ -10,9 +10,9 @@ ghost use Rattle.kube_objects.specs.Turns.{expired, with_reply};
 ghost use Rattle.leader_elector.specs.declared.candidate.Heard.TheVariants as heard;
 ghost use Rattle.leader_elector.specs.Moves.{CandidateHears, CandidateReplies, CandidateStays, CandidateTurns, IsLeast, after_turn};
 ghost use Rattle.leader_elector.specs.Moves.{becomes_leader, candidate_turn, reacted, wake_from};
-ghost use Rattle.leader_elector.specs.Stands.{CandidateStands, IsNew, IsTimingOf};
+ghost use Rattle.leader_elector.specs.Stands.{AreWaitsOf, CandidateStands, IsNew, IsTimingOf};
 ghost use Rattle.leader_elector.specs.Calls.{CandidateFollows, CandidateTakesReply, CandidateTakesTurn, TakesTurn, counts_in};
-ghost use Rattle.leader_elector.specs.Plain.{identity_of, state_of, moment_of, wake_in};
+ghost use Rattle.leader_elector.specs.Plain.{identity_of, started_at, state_of, moment_of, wake_in};
 ghost use Rattle.leader_elector.specs.Stands.{Wait, waiting_of};
 ghost use Rattle.leader_elector.specs.declared.candidate.CandidateNext.TheVariants as next;
 
@@ -49,7 +49,7 @@ impl Candidate {
     /// A candidate that has sent nothing. Its first attempt starts at its next turn.
     pub fn start(me: ProcId, incarnation: u32, timing: Timing, now: Local) -> Candidate
         ensures me { (result.elector.me ≡ me) × (result.elector.incarnation ≡ incarnation) × (result.elector.timing ≡ timing) }
-        ensures kept { state_of result.elector ≡ record { calls = 0; held = None; wait = None; shown = None; observed = 0; timer = now.0 } }
+        ensures kept { state_of result.elector ≡ started_at now.0 }
         ensures stands { (doc : Doc) (q : Identity) (h : List Entry) (k step : ℕ) → me.0 ≡ q.process
             → incarnation ≡ q.incarnation → IsTimingOf doc q.process timing
             → now.0 ≡ local doc q.process k → IsNew doc q h
@@ -60,53 +60,64 @@ impl Candidate {
         }
     }
 
-    /// A turn: a call that has expired is forgotten, then an attempt starts where it is time. It never leads.
-    pub fn on_timer(mut self, now: Local, wall: Wall) -> CandidateNext
+    /// A turn: a call that has expired is forgotten, then an attempt starts where it is time. It never leads. After each failed attempt
+    /// it waits by the next of its waits, in thousandths of its retry period.
+    pub fn on_timer(mut self, waits: &[u32], now: Local, wall: Wall) -> CandidateNext
         requires now { now.0 ≤ most_local }
+        requires waits { All (λ w. w ≤ 2200) waits.now }
         ensures never_leads { becomes_leader result ≡ false }
-        ensures takes { CandidateTakesTurn self.elector now.0 wall.0 result }
+        ensures takes { CandidateTakesTurn self.elector waits.now now.0 wall.0 result }
         ensures turns { (doc : Doc) (q : Identity) (h : List Entry) (k : ℕ)
-            → CandidateStands doc q h self → now.0 ≡ local doc q.process k
+            → CandidateStands doc q h self → AreWaitsOf doc q.process waits.now → now.0 ≡ local doc q.process k
             → wall.0 ≡ wall_at doc q.process k → begun q h + 1 < 2 ^ 64
             → CandidateTurns doc k q (expired doc k q h) result }
     {
-        match self.turn(now, wall) {
+        match self.turn(waits, now, wall) {
             Some(ask) => CandidateNext::Ask(self, ask),
             None => CandidateNext::Stay(self),
         }
     }
 
     /// As `on_timer`, in place: what it asks, if anything.
-    pub fn turn(&mut self, now: Local, wall: Wall) -> Option<Ask>
+    pub fn turn(&mut self, waits: &[u32], now: Local, wall: Wall) -> Option<Ask>
         requires now { now.0 ≤ most_local }
-        ensures takes { TakesTurn false self.old.elector now.0 wall.0 self.new.elector result }
+        requires waits { All (λ w. w ≤ 2200) waits.now }
+        ensures takes { TakesTurn waits.now false self.old.elector now.0 wall.0 self.new.elector result }
         ensures turns { (doc : Doc) (q : Identity) (h : List Entry) (k : ℕ)
-            → CandidateStands doc q h self.old → now.0 ≡ local doc q.process k
+            → CandidateStands doc q h self.old → AreWaitsOf doc q.process waits.now → now.0 ≡ local doc q.process k
             → wall.0 ≡ wall_at doc q.process k → begun q h + 1 < 2 ^ 64
             → CandidateTurns doc k q (expired doc k q h) (after_turn self.new result) }
     {
-        let expired = self.elector.expire(now);
+        let expired = self.elector.expire(false, waits, now);
         self.elector.attempt(expired, false, now, wall)
     }
 
-    /// A reply. Only one to the call that waits, with its number and within its timeout, counts.
-    pub fn on_reply(mut self, number: u64, reply: Reply, now: Local, wall: Wall) -> CandidateNext
+    /// A reply. Only one to the call that waits, with its number and within its timeout, counts. The waits are those of `on_timer`.
+    pub fn on_reply(
+        mut self,
+        waits: &[u32],
+        number: u64,
+        reply: Reply,
+        now: Local,
+        wall: Wall,
+    ) -> CandidateNext
         requires now { now.0 ≤ most_local }
+        requires waits { All (λ w. w ≤ 2200) waits.now }
         ensures stays { counts_in self.elector number now.0 ≡ false → result ≡ next.Stay self }
         ensures follows { (w : Wait) → counts_in self.elector number now.0 ≡ true → waiting_of self.elector.waiting ≡ Some w
-            → CandidateFollows self.elector (moment_of self.elector now.0 wall.0) w reply result }
+            → CandidateFollows self.elector waits.now (moment_of self.elector now.0 wall.0) w reply result }
         ensures uncounted { (doc : Doc) (q : Identity) (h : List Entry) (k : ℕ)
             → CandidateStands doc q h self → now.0 ≡ local doc q.process k
             → alive q.process h ≡ Some q.incarnation
             → counted doc q k number h ≡ None → (call : Call)
             → CandidateStays doc q (entry k 3 q (Delivers call reply false) ∷ h) result }
         ensures counts { (doc : Doc) (q : Identity) (h : List Entry) (k : ℕ) (call : Call)
-            → CandidateStands doc q h self → now.0 ≡ local doc q.process k
+            → CandidateStands doc q h self → AreWaitsOf doc q.process waits.now → now.0 ≡ local doc q.process k
             → wall.0 ≡ wall_at doc q.process k → begun q h + 1 < 2 ^ 64
             → counted doc q k number h ≡ Some call
             → CandidateReplies doc k q (with_reply k q call reply h) (reacted doc k q call reply h) result }
     {
-        match self.hear(number, &reply, now, wall) {
+        match self.hear(waits, number, &reply, now, wall) {
             Heard::Stays => CandidateNext::Stay(self),
             Heard::Asks(ask) => CandidateNext::Ask(self, ask),
             Heard::Wins(won) => CandidateNext::Lead(won.lead()),
@@ -114,23 +125,31 @@ impl Candidate {
     }
 
     /// As `on_reply`, in place. Where it wins, what it kept goes into the answer, and this is one that has just started.
-    pub fn hear(&mut self, number: u64, reply: &Reply, now: Local, wall: Wall) -> Heard
+    pub fn hear(
+        &mut self,
+        waits: &[u32],
+        number: u64,
+        reply: &Reply,
+        now: Local,
+        wall: Wall,
+    ) -> Heard
         requires now { now.0 ≤ most_local }
+        requires waits { All (λ w. w ≤ 2200) waits.now }
         ensures stays { counts_in self.old.elector number now.0 ≡ false → (result ≡ heard.Stays) × (self.new ≡ self.old) }
         ensures takes { (w : Wait) → counts_in self.old.elector number now.0 ≡ true → waiting_of self.old.elector.waiting ≡ Some w
-            → CandidateTakesReply self.old.elector (moment_of self.old.elector now.0 wall.0) w reply.now self.new.elector result }
+            → CandidateTakesReply self.old.elector waits.now (moment_of self.old.elector now.0 wall.0) w reply.now self.new.elector result }
         ensures uncounted { (doc : Doc) (q : Identity) (h : List Entry) (k : ℕ)
             → CandidateStands doc q h self.old → now.0 ≡ local doc q.process k
             → alive q.process h ≡ Some q.incarnation
             → counted doc q k number h ≡ None → (call : Call)
             → (result ≡ heard.Stays) × CandidateStands doc q (entry k 3 q (Delivers call reply.now false) ∷ h) self.new }
         ensures counts { (doc : Doc) (q : Identity) (h : List Entry) (k : ℕ) (call : Call)
-            → CandidateStands doc q h self.old → now.0 ≡ local doc q.process k
+            → CandidateStands doc q h self.old → AreWaitsOf doc q.process waits.now → now.0 ≡ local doc q.process k
             → wall.0 ≡ wall_at doc q.process k → begun q h + 1 < 2 ^ 64
             → counted doc q k number h ≡ Some call
             → CandidateHears doc k q (with_reply k q call reply.now h) (reacted doc k q call reply.now h) self.new result }
     {
-        let Some(follow) = self.elector.receive(false, number, reply, now, wall) else {
+        let Some(follow) = self.elector.receive(false, waits, number, reply, now, wall) else {
             return Heard::Stays;
         };
         match follow {

@@ -1,32 +1,34 @@
 // What a candidate and a leader have in common: the call that waits, the record last shown, the timer.
-ghost use Rattle.std.specs.Prelude.{◌≡◌, ◌&&◌, ◌≤◌, ◌<◌, ◌+◌, ◌^◌, ℕ, false, true, List, ◌∷◌, Option, Some, None, IfSome};
+ghost use Rattle.std.specs.Prelude.{◌≡◌, ◌&&◌, ◌≤◌, ◌<◌, ◌+◌, ◌^◌, ℕ, nat_lt, false, true, List, ◌∷◌, Option, Some, None, All, IfSome};
 ghost use Rattle.kube_base.specs.Bounds.{most_local};
 ghost use Rattle.kube_objects.specs.Clocks.{local, wall as wall_at};
-ghost use Rattle.kube_objects.specs.Document.{Doc};
+ghost use Rattle.kube_objects.specs.Document.{Doc, of_seconds};
 ghost use Rattle.kube_objects.specs.CallSlots.{held_call, is_awaited};
 ghost use Rattle.kube_objects.specs.Elector.{attempt, attempt_from, created, follow, follow_get, follow_on, given_up, is_blocked, is_valid, leads};
-ghost use Rattle.kube_objects.specs.Elector.{moment, newly, observed_at, one_more, renewed, shown, taken, timer, updated};
+ghost use Rattle.kube_objects.specs.Elector.{moment, newly, observed_at, one_more, renewed, respected, shown, taken, timer, updated};
 ghost use Rattle.kube_objects.specs.Entry.{Call, Entry, Identity, Starts, entry};
 ghost use Rattle.kube_objects.specs.Identities.{holder_of, is_other, is_own};
 ghost use Rattle.kube_objects.specs.Kinds.{keeps_kind};
-ghost use Rattle.kube_objects.specs.Newest.{or_else};
+ghost use Rattle.kube_objects.specs.Newest.{or_else, or_zero};
 ghost use Rattle.kube_objects.specs.Process.{alive, begun, call_in, counted};
 ghost use Rattle.kube_objects.specs.Turns.{is_fast_call, just_expired, try, expired, with_reply};
 ghost use Rattle.kube_objects.specs.Wire.{send};
+ghost use Rattle.leader_elector.specs.Attempts.{attempts_of};
 ghost use Rattle.leader_elector.specs.Moves.{Asked, Received, Tried, last_of, wake_from};
-ghost use Rattle.leader_elector.specs.Stands.{ElectorStands, IsNew, IsSettled, IsTimingOf, follow_of, is_fast_wait, kind_of, observed_of};
+ghost use Rattle.leader_elector.specs.Stands.{AreWaitsIf, ElectorStands, IsNew, IsSettled, IsTimingOf, follow_of, is_fast_wait, kind_of, observed_of};
 ghost use Rattle.leader_elector.specs.Stands.{shown_of, waiting_of};
 ghost use Rattle.leader_elector.specs.Plain.{IsSame, after_expiry, after_reply, asked_of, attempt_in, follow_in, follow_keeps_kind};
-ghost use Rattle.leader_elector.specs.Plain.{has_lost_update, identity_of, state_of, moment_of, numbered, turn_in, wake_in, with_call};
-ghost use Rattle.leader_elector.specs.Plain.{BeginsCall, Receives, begun_in, next_attempt};
+ghost use Rattle.leader_elector.specs.Plain.{has_lost_update, identity_of, started_at, state_of, moment_of, numbered, turn_in, wake_in, with_call};
+ghost use Rattle.leader_elector.specs.Plain.{BeginsCall, Receives, attempts_after, begun_in, timer_after};
 ghost use Rattle.leader_elector.specs.Stands.{Wait};
 
 use crate::Timing;
+use crate::attempts::Attempts;
 use crate::follow::{Follow, follow_write, record_of};
 use crate::seen::Seen;
 use crate::waiting::Waiting;
 use kube_base::{Local, ProcId, Version, Wall};
-use kube_objects::{Ask, CallSlot, Holder, Key, Lease, Reply, Request};
+use kube_objects::{Ask, CallSlot, Holder, Key, Lease, Reply, Request, RespectRule};
 
 const MOST_TRANSITIONS: u32 = 2147483647;
 
@@ -39,12 +41,13 @@ pub(crate) struct Elector {
     pub(crate) waiting: Option<Waiting>,
     pub(crate) seen: Option<Seen>,
     pub(crate) timer: Local,
+    pub(crate) attempts: Attempts,
 }
 
 impl Elector {
     pub(crate) fn start(me: ProcId, incarnation: u32, timing: Timing, now: Local) -> Elector
         ensures me { (result.me ≡ me) × (result.incarnation ≡ incarnation) × (result.timing ≡ timing) }
-        ensures kept { state_of result ≡ record { calls = 0; held = None; wait = None; shown = None; observed = 0; timer = now.0 } }
+        ensures kept { state_of result ≡ started_at now.0 }
         ensures history { (doc : Doc) (q : Identity) (h : List Entry) (k step : ℕ) → me.0 ≡ q.process
             → incarnation ≡ q.incarnation → IsTimingOf doc q.process timing
             → now.0 ≡ local doc q.process k → IsNew doc q h
@@ -58,19 +61,23 @@ impl Elector {
             waiting: None,
             seen: None,
             timer: now,
+            attempts: Attempts::new(),
         }
     }
 
     // ---- turns
 
-    /// Forgets a call that has expired. Whether it was an update without a Get.
-    pub(crate) fn expire(&mut self, now: Local) -> bool
+    /// Forgets a call that has expired. Whether it was an update without a Get. led says whether the process leads; the waits are those
+    /// of a candidate.
+    pub(crate) fn expire(&mut self, led: bool, waits: &[u32], now: Local) -> bool
         requires now { now.0 ≤ most_local }
+        requires waits { All (λ w. w ≤ 2200) waits.now }
         ensures same { IsSame self.old self.new }
         ensures lost { result ≡ has_lost_update self.old.timing now.0 (state_of self.old) }
-        ensures kept { state_of self.new ≡ after_expiry self.old.timing now.0 (state_of self.old) }
+        ensures kept { state_of self.new ≡ after_expiry self.old.timing waits.now led now.0 (state_of self.old) }
         ensures stands { (doc : Doc) (q : Identity) (h : List Entry) (k : ℕ)
-            → ElectorStands doc q h self.old → now.0 ≡ local doc q.process k
+            → ElectorStands doc q h self.old → leads q h ≡ led → AreWaitsIf led doc q.process waits.now
+            → now.0 ≡ local doc q.process k
             → ElectorStands doc q (expired doc k q h) self.new }
         ensures fast { (doc : Doc) (q : Identity) (h : List Entry) (k : ℕ)
             → ElectorStands doc q h self.old → IsSettled q h → now.0 ≡ local doc q.process k
@@ -86,7 +93,7 @@ impl Elector {
         self.slot.finish();
         self.waiting = None;
         if !fast {
-            self.timer = Local(now.0 + self.timing.retry);
+            self.timer = self.attempts.fail(self.timing, led, waits, now);
         }
         fast
     }
@@ -178,6 +185,7 @@ impl Elector {
             → Asked doc k step q h next (λ x. ElectorStands doc q x self.new) result }
     {
         let number = self.slot.begin(now);
+        self.attempts.begin(now);
         self.waiting = Some(Waiting {
             request,
             fast,
@@ -188,29 +196,31 @@ impl Elector {
 
     // ---- replies
 
-    /// What a reply is followed by; None where it doesn't count. led says whether the process leads.
+    /// What a reply is followed by; None where it doesn't count. led says whether the process leads; the waits are those of a candidate.
     pub(crate) fn receive(
         &mut self,
         led: bool,
+        waits: &[u32],
         number: u64,
         reply: &Reply,
         now: Local,
         wall: Wall,
     ) -> Option<Follow>
         requires now { now.0 ≤ most_local }
+        requires waits { All (λ w. w ≤ 2200) waits.now }
         ensures kind { IfSome result (λ follow. follow_keeps_kind (follow_of follow) ≡ true) }
         ensures unheld { is_awaited number now.0 self.old.timing.timeout (held_call self.old.slot) ≡ false
             → (result ≡ None) × (self.new ≡ self.old) }
         ensures held { (w : Wait) → is_awaited number now.0 self.old.timing.timeout (held_call self.old.slot) ≡ true
             → waiting_of self.old.waiting ≡ Some w
-            → Receives self.old (moment_of self.old now.0 wall.0) led w reply.now self.new result }
+            → Receives self.old (moment_of self.old now.0 wall.0) waits.now led w reply.now self.new result }
         ensures uncounted { (doc : Doc) (q : Identity) (h : List Entry) (k : ℕ)
             → ElectorStands doc q h self.old → now.0 ≡ local doc q.process k
             → alive q.process h ≡ Some q.incarnation
             → counted doc q k number h ≡ None → (result ≡ None) × ElectorStands doc q h self.new }
         ensures counts { (doc : Doc) (q : Identity) (h : List Entry) (k : ℕ) (call : Call)
-            → ElectorStands doc q h self.old → leads q h ≡ led → now.0 ≡ local doc q.process k
-            → wall.0 ≡ wall_at doc q.process k
+            → ElectorStands doc q h self.old → leads q h ≡ led → AreWaitsIf led doc q.process waits.now
+            → now.0 ≡ local doc q.process k → wall.0 ≡ wall_at doc q.process k
             → counted doc q k number h ≡ Some call
             → Received doc k q call reply.now h self.new result }
     {
@@ -224,7 +234,7 @@ impl Elector {
         self.waiting = None;
         self.note(record_of(&waiting.request, reply), now);
         let follow = self.follow(&waiting, reply, now, wall);
-        self.set_timer(&follow, led, now);
+        self.set_timer(&follow, led, waits, now);
         Some(follow)
     }
 
@@ -257,20 +267,27 @@ impl Elector {
         }
     }
 
-    /// The next attempt starts a retry period after a failure, and after a leader's success.
-    fn set_timer(&mut self, follow: &Follow, led: bool, now: Local)
+    /// The next attempt starts after the wait of a failure, and a retry period after a leader's success.
+    fn set_timer(&mut self, follow: &Follow, led: bool, waits: &[u32], now: Local)
         requires now { now.0 ≤ most_local }
-        ensures changed { self.new ≡ record self.old { timer = self.new.timer } }
-        ensures timer { self.new.timer.0 ≡ or_else self.old.timer.0
-            (next_attempt (follow_of follow.now) led (now.0 + self.old.timing.retry)) }
+        requires waits { All (λ w. w ≤ 2200) waits.now }
+        ensures changed { self.new ≡ record self.old { timer = self.new.timer; attempts = self.new.attempts } }
+        ensures timer { self.new.timer.0 ≡ timer_after self.old.timing waits.now led now.0 (follow_of follow.now)
+            (attempts_of self.old.attempts) self.old.timer.0 }
+        ensures attempts { attempts_of self.new.attempts ≡ attempts_after self.old.timing waits.now led now.0 (follow_of follow.now)
+            (attempts_of self.old.attempts) }
     {
-        let moves = match *follow {
-            Follow::Fails => true,
-            Follow::Asks(_) => false,
-            Follow::Succeeds(_) => led,
-        };
-        if moves {
-            self.timer = Local(now.0 + self.timing.retry);
+        match *follow {
+            Follow::Fails => {
+                self.timer = self.attempts.fail(self.timing, led, waits, now);
+            }
+            Follow::Asks(_) => {}
+            Follow::Succeeds(_) => {
+                self.attempts.succeed();
+                if led {
+                    self.timer = Local(now.0 + self.timing.retry);
+                }
+            }
         }
     }
 
@@ -357,12 +374,23 @@ impl Elector {
         }
     }
 
-    /// Whether another's record is still valid.
+    /// Whether another's record is still valid, by the duration that is respected.
     fn is_blocked(&self, lease: &Lease, now: Local) -> bool
         ensures { (q : Identity) → self.now.me.0 ≡ q.process → self.now.incarnation ≡ q.incarnation
-            → result ≡ is_blocked q now.0 (observed_of self.now.seen) lease.now }
+            → result ≡ is_blocked q now.0 (observed_of self.now.seen)
+            (respected self.now.timing.respect self.now.timing.lease_seconds lease.now) }
     {
-        self.is_rival(lease) && is_valid(now, self.observed_time(), lease)
+        self.is_rival(lease) && is_valid_for(self.respected(lease), now, self.observed_time())
+    }
+
+    /// The seconds that are respected: those of the record, or the elector's own.
+    fn respected(&self, lease: &Lease) -> u32
+        ensures { result ≡ or_zero (respected self.now.timing.respect self.now.timing.lease_seconds lease.now).duration }
+    {
+        match self.timing.respect {
+            RespectRule::Record => lease.duration.unwrap_or(0),
+            RespectRule::Own => self.timing.lease_seconds,
+        }
     }
 
     /// The reading at which the version last shown was first seen, 0 before.
@@ -465,11 +493,17 @@ pub(crate) fn vacant_lease(lease: &Lease, wall: Wall) -> Lease
 }
 
 /// Whether a record's duration isn't over since it was first seen.
-#[tactic(auto, unfolding(kube_objects::specs::Document::of_seconds))]
 fn is_valid(now: Local, seen: Local, lease: &Lease) -> bool
     ensures { result ≡ is_valid now.0 seen.0 lease.now }
 {
-    let seconds = lease.duration.unwrap_or(0);
+    is_valid_for(lease.duration.unwrap_or(0), now, seen)
+}
+
+/// Whether so many seconds aren't over since a reading.
+#[tactic(auto, unfolding(kube_objects::specs::Document::of_seconds))]
+fn is_valid_for(seconds: u32, now: Local, seen: Local) -> bool
+    ensures { result ≡ nat_lt now.0 (seen.0 + of_seconds seconds) }
+{
     (now.0 as u128) < seen.0 as u128 + seconds as u128 * 1_000_000_000_000
 }
 

@@ -7,15 +7,17 @@
 //! 2. `receive` drops replies that don't count, and `note` keeps what is shown (`observedRecord`, `observedTime`).
 //! 3. `follow` says what comes next: the Create of a `new_lease`, an `update_of` what was found (`renewal` or `takeover`), the
 //!    end of the attempt, or its success (`follow.rt`).
-//! 4. `set_timer` is the wait of a retry period.
+//! 4. `set_timer` is the wait of a retry period after a success, and that of `Attempts` (`attempts.rt`) after a failure.
 #![tactic(auto)]
 
 mod acting;
+mod attempts;
 mod candidate;
 mod elector;
 mod ended;
 mod follow;
 mod leading;
+mod reading;
 mod seen;
 mod timing;
 mod waiting;

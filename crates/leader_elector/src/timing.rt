@@ -1,8 +1,10 @@
 // The timings of an elector, with their ranges.
 ghost use Rattle.std.specs.Prelude.{◌≤◌};
 
+use kube_objects::{RespectRule, RetryRule};
+
 /// A lease duration in seconds; renew deadline, retry period and timeout of a call in units of 10^-12 s;
-/// and whether a leader renews without a Get where it can.
+/// whether a leader renews without a Get where it can; when it tries again after a failure, and whose lease duration is respected.
 #[derive(Clone, Copy)]
 pub struct Timing {
     pub lease_seconds: u32,
@@ -10,7 +12,10 @@ pub struct Timing {
     pub retry: u64,
     pub timeout: u64,
     pub fast: bool,
+    pub retries: RetryRule,
+    pub respect: RespectRule,
     ghost renew_fits: { renew ≤ 86400000000000000 },
+    ghost retry_some: { 1 ≤ retry },
     ghost retry_fits: { retry ≤ 86400000000000000 },
     ghost timeout_fits: { timeout ≤ 600000000000000 },
 }

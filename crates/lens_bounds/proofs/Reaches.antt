@@ -1,5 +1,5 @@
 -- The delays and rates of a document that is read are some.
-use Rattle.std.proofs.Common.{ℕ, ◌*◌, ◌≤◌, ◌∷◌, [], Bool, true, false, List, length, All, arith}
+use Rattle.std.proofs.Common.{ℕ, ◌*◌, ◌≤◌, ◌∷◌, [], Bool, true, false, List, length, All, min, max, arith}
 use Rattle.std.proofs.lemmas.List.Elements.{All-head, All-tail}
 use Rattle.std.proofs.lemmas.Nat.{mul-le}
 use Rattle.kube_objects.specs.declared.script.Event.{Event}
@@ -7,9 +7,10 @@ use Rattle.kube_objects.specs.declared.script.Proc.{Proc}
 use Rattle.kube_objects.specs.declared.script.What.{What}
 use Rattle.kube_objects.specs.declared.script.What.TheVariants.{Rate, Delay, Loss, Crash, Start, Stop, Watch, Ready, Pause, Stall, Put, Remove}
 use Rattle.kube_objects.specs.Document.{Doc}
-use Rattle.script_reader.specs.Lawful.{IsLawful, IsLawfulDoc, IsLawfulWhat, AreLawfulFrom}
+use Rattle.script_reader.specs.Lawful.{IsLawful, AreWaits, IsLawfulDoc, IsLawfulWhat, AreLawfulFrom}
+use Rattle.takeover_laws.specs.Waits.{least_from, greatest_from}
 use Rattle.lens_bounds.specs.declared.reach.Reach.{Reach}
-use Rattle.lens_bounds.specs.Documents.{nothing, with_rate, with_delay, rate_if, delay_if, with_processes, with_event, with_events, is_meant, processes_of, reach_of, calm_with, calm_of, with_far, outage_of}
+use Rattle.lens_bounds.specs.Documents.{nothing, with_rate, with_delay, rate_if, delay_if, with_processes, with_event, with_events, is_meant, processes_of, least_in, greatest_in, reach_of, calm_with, calm_of, with_far, outage_of}
 use Rattle.lens_bounds.specs.Elections.{IsCalm}
 use Rattle.lens_bounds.specs.Outages.{IsOutage}
 
@@ -108,6 +109,27 @@ pub reach-runs : (doc : Doc) → IsLawfulDoc doc → IsRun (reach_of doc true)
 unfolding reach_of
 reach-runs doc lawful = events-run (length doc.controllers) true doc.events _ (processes-run doc.controllers nothing lawful.controllers lawful.some)
 
+-- ---- its waits are at most 2.2 retry periods
+
+least-from : (least : ℕ) (ws : List ℕ) → least ≤ 2200 → least_from least ws ≤ 2200
+least-from least [] few = few
+least-from least (w ∷ ws) few = least-from (min w least) ws (omega (arith, few))
+
+least-few : (least : ℕ) (lists : List (List ℕ)) → least ≤ 2200 → least_in least lists ≤ 2200
+least-few least [] few = few
+least-few least (ws ∷ more) few = least-few (least_from least ws) more (least-from least ws few)
+
+greatest-from : (most : ℕ) (ws : List ℕ) → All (λ w. (1000 ≤ w) × (w ≤ 2200)) ws → most ≤ 2200 → greatest_from most ws ≤ 2200
+greatest-from most [] each few = few
+greatest-from most (w ∷ ws) each few =
+    let own : (1000 ≤ w) × (w ≤ 2200) = All-head (λ w. (1000 ≤ w) × (w ≤ 2200)) w ws each in
+    greatest-from (max w most) ws (All-tail (λ w. (1000 ≤ w) × (w ≤ 2200)) w ws each) (omega (arith, few, own.1))
+
+greatest-few : (most : ℕ) (lists : List (List ℕ)) → All AreWaits lists → most ≤ 2200 → greatest_in most lists ≤ 2200
+greatest-few most [] each few = few
+greatest-few most (ws ∷ more) each few =
+    greatest-few (greatest_from most ws) more (All-tail AreWaits ws more each) (greatest-from most ws (All-head AreWaits ws more each).each few)
+
 -- ---- so a clock goes on in each beat
 
 on-micros : (beat rate : ℕ) → 1 ≤ beat → 500000 ≤ rate → 1000 ≤ beat * 1000 * rate
@@ -120,6 +142,7 @@ calm-with doc lawful r some run = record {
   slow = on-micros doc.settings.beat_millis r.least lawful.settings.beat_least some.least;
   fast = on-micros doc.settings.beat_millis r.greatest lawful.settings.beat_least run;
   beat = lawful.settings.beat_most;
+  waits = (least-few 2200 doc.waits (omega arith), greatest-few 1000 doc.waits lawful.waits (omega arith));
 }
 
 pub calm-is : (doc : Doc) → IsLawfulDoc doc → IsCalm (calm_of doc)

@@ -1,11 +1,14 @@
 -- What a document's processes and events let messages and clocks do. Source: profile.
-use Rattle.std.specs.Prelude.{ℕ, ◌*◌, min, max, nat_lt, not, Bool, true, false, List, [], ◌∷◌, length, None}
+use Rattle.std.specs.Prelude.{ℕ, ◌*◌, min, max, nat_lt, not, Bool, true, false, List, [], ◌∷◌, length}
 use Rattle.kube_objects.specs.declared.script.Event.{Event}
 use Rattle.kube_objects.specs.declared.script.Proc.{Proc}
 use Rattle.kube_objects.specs.declared.script.What.{What}
 use Rattle.kube_objects.specs.declared.script.What.TheVariants.{Rate, Delay, Loss, Crash, Start, Stop, Watch, Ready, Pause, Stall, Put, Remove}
 use Rattle.kube_objects.specs.Document.{Doc, beat_micros}
+use Rattle.takeover_laws.specs.Waits.{least_from, greatest_from}
 use Rattle.lens_bounds.specs.declared.calm.Calm.{Calm}
+use Rattle.lens_bounds.specs.declared.calm.Waits.{Waits}
+use Rattle.lens_bounds.specs.declared.calm.Waits.TheVariants.{Between}
 use Rattle.lens_bounds.specs.declared.outages.Outage.{Outage}
 use Rattle.lens_bounds.specs.declared.reach.Reach.{Reach}
 
@@ -62,6 +65,19 @@ processes_of doc false = doc.kubelets
 unfoldable pub reach_of : Doc → Bool → Reach
 reach_of doc controllers = with_events (length doc.controllers) controllers doc.events (with_processes (processes_of doc controllers) nothing)
 
+-- the least and the greatest wait that the document says of a controller, in thousandths of its retry period
+abbrev pub least_in : ℕ → List (List ℕ) → ℕ
+least_in least [] = least
+least_in least (ws ∷ more) = least_in (least_from least ws) more
+
+abbrev pub greatest_in : ℕ → List (List ℕ) → ℕ
+greatest_in most [] = most
+greatest_in most (ws ∷ more) = greatest_in (greatest_from most ws) more
+
+-- they lie between 1 and 2.2 retry periods
+abbrev pub waits_in : List (List ℕ) → Waits
+waits_in lists = Between (least_in 2200 lists) (greatest_in 1000 lists)
+
 -- calm spans with these delays and clocks
 abbrev pub calm_with : Doc → Reach → Calm
 calm_with doc r = record {
@@ -70,7 +86,8 @@ calm_with doc r = record {
   far = r.far;
   slow = beat_micros doc * r.least;
   fast = beat_micros doc * r.greatest;
-  wait_millis = None;
+  waits = waits_in doc.waits;
+  respect = doc.settings.rules.respect;
   fast_renew = doc.settings.fast_renew;
 }
 

@@ -1,7 +1,9 @@
 -- How long nobody leads, at least and at most, in beats: the bounds of the laws on calm spans, in their own words. Source: profile.
 use Rattle.std.specs.Int.{div_ceil}
 use Rattle.std.specs.List.{list_all}
-use Rattle.std.specs.Prelude.{ℕ, suc, ◌+◌, ◌-◌, ◌*◌, ◌/◌, ◌==◌, ◌&&◌, ◌≤◌, nat_le, nat_lt, min, max, Bool, true, false, List, [], ◌∷◌, Option, Some, None, unwrap_or}
+use Rattle.std.specs.Prelude.{ℕ, suc, ◌+◌, ◌-◌, ◌*◌, ◌/◌, ◌==◌, ◌&&◌, ◌≤◌, nat_le, nat_lt, min, max, Bool, true, false, List, [], ◌∷◌, Option, Some, None}
+use Rattle.kube_objects.specs.declared.rules.RespectRule.{RespectRule}
+use Rattle.kube_objects.specs.declared.rules.RespectRule.TheVariants.{Record, Own}
 use Rattle.kube_objects.specs.declared.script.Proc.{Proc}
 use Rattle.kube_objects.specs.Document.{of_seconds, of_millis}
 use Rattle.span_laws.specs.Quotients.{most_beats}
@@ -11,9 +13,16 @@ use Rattle.silence_laws.specs.Least.{renewal_ways, takes_beats}
 use Rattle.succession_laws.specs.Successions.{ways_after, succession_beats}
 use Rattle.release_laws.specs.Releases.{release_beats}
 use Rattle.lens_bounds.specs.declared.calm.Calm.{Calm}
+use Rattle.lens_bounds.specs.declared.calm.Waits.{Waits}
+use Rattle.lens_bounds.specs.declared.calm.Waits.TheVariants.{UpTo, Between}
 use Rattle.lens_bounds.specs.declared.elections.Election.{Election}
 use Rattle.lens_bounds.specs.declared.elections.Handover.{Handover}
 use Rattle.lens_bounds.specs.declared.elections.Span.{Span}
+
+-- a wait in thousandths is at most 2.2 retry periods
+abbrev pub AreShort : Waits → Type 0
+AreShort (UpTo millis) = Unit {0}
+AreShort (Between least most) = (least ≤ 2200) × (most ≤ 2200)
 
 -- a message takes a beat or more, and a clock goes on in each
 pub record IsCalm (c : Calm) : Type 0 where
@@ -22,6 +31,7 @@ pub record IsCalm (c : Calm) : Type 0 where
   pub slow : 1000 ≤ c.slow
   pub fast : 1000 ≤ c.fast
   pub beat : c.beat_millis ≤ 1000
+  pub waits : AreShort c.waits
 
 -- so many beats are enough for a time on the slowest clock
 abbrev pub enough : Calm → ℕ → ℕ
@@ -31,23 +41,32 @@ enough c time = div_ceil time c.slow
 abbrev pub needed : Calm → ℕ → ℕ
 needed c time = div_ceil time c.fast
 
--- ---- timings. A candidate waits between two attempts for its retry period, or for up to the longest wait that is given
+-- ---- timings. A candidate waits between two attempts for so many thousandths of its retry period, or from that up to the longest wait that is given
 
-abbrev pub wait_of : Calm → Proc → ℕ
-wait_of c p = unwrap_or c.wait_millis p.retry_millis
+abbrev pub share : (retry_millis thousandths : ℕ) → ℕ
+share retry_millis thousandths = of_millis retry_millis * thousandths / 1000
+
+abbrev pub longest_by : Waits → ℕ → ℕ
+longest_by (UpTo millis) retry_millis = of_millis millis
+longest_by (Between least most) retry_millis = share retry_millis most
+
+abbrev pub shortest_by : Waits → ℕ → ℕ
+shortest_by (UpTo millis) retry_millis = of_millis retry_millis
+shortest_by (Between least most) retry_millis = share retry_millis least
 
 abbrev pub wait : Calm → Proc → ℕ
-wait c p = enough c (of_millis (wait_of c p))
+wait c p = enough c (longest_by c.waits p.retry_millis)
 
+abbrev pub least_wait : Calm → Proc → ℕ
+least_wait c p = needed c (shortest_by c.waits p.retry_millis)
+
+-- a leader's own wait
 abbrev pub retry : Calm → Proc → ℕ
 retry c p = enough c (of_millis p.retry_millis)
 
-abbrev pub least_retry : Calm → Proc → ℕ
-least_retry c p = needed c (of_millis p.retry_millis)
-
 -- from one look at the Lease to the next, at least and at most
 abbrev pub near_step : Calm → Proc → ℕ
-near_step c p = least_retry c p + 2 * c.near
+near_step c p = least_wait c p + 2 * c.near
 
 abbrev pub far_step : Calm → Proc → ℕ
 far_step c p = wait c p + 2 * c.far
@@ -57,7 +76,7 @@ abbrev pub most_looks : Calm → Proc → ℕ → ℕ
 most_looks c p seconds = most_beats (near_step c p) (far_step c p) (enough c (of_seconds seconds))
 
 abbrev pub least_looks : Calm → Proc → ℕ → ℕ
-least_looks c p seconds = takes_beats c.near c.far (least_retry c p) (wait c p) (needed c (of_seconds seconds))
+least_looks c p seconds = takes_beats c.near c.far (least_wait c p) (wait c p) (needed c (of_seconds seconds))
 
 -- ---- premises
 
@@ -80,9 +99,21 @@ stays_by c p = replies_count c p && renews c p && outlasts c p
 abbrev pub lead : Calm → List Proc → Bool
 lead c ps = list_all (replies_count c) ps
 
--- and whoever leads stays
+-- a leader as somebody respects it whose own lease has so many seconds
+abbrev pub as_respected : RespectRule → ℕ → Proc → Proc
+as_respected Record seconds leader = leader
+as_respected Own seconds leader = record leader { lease_seconds = seconds }
+
+abbrev pub shortest_from : ℕ → List Proc → ℕ
+shortest_from least [] = least
+shortest_from least (p ∷ ps) = shortest_from (min p.lease_seconds least) ps
+
+abbrev pub shortest_lease : List Proc → ℕ
+shortest_lease ps = shortest_from 4294967295 ps
+
+-- and whoever leads stays, also where others respect its records for the shortest lease alone
 abbrev pub stay : Calm → List Proc → Bool
-stay c ps = list_all (stays_by c) ps
+stay c ps = list_all (λ p. stays_by c (as_respected c.respect (shortest_lease ps) p)) ps
 
 -- ---- the bounds, of a leader and of another candidate
 
@@ -95,7 +126,7 @@ crash_least c leader p = least_looks c p leader.lease_seconds + 3 * c.near - (re
 
 abbrev pub crash_most : Calm → Proc → Proc → ℕ
 crash_most c leader p =
-    succession_beats c.near c.far (wait c p) (least_retry c p) (enough c (of_seconds leader.lease_seconds)) (ways_after c.fast_renew c.far)
+    succession_beats c.near c.far (wait c p) (least_wait c p) (enough c (of_seconds leader.lease_seconds)) (ways_after c.fast_renew c.far)
 
 -- after it stops, and its release is accepted
 abbrev pub stop_least : Calm → ℕ
@@ -115,7 +146,7 @@ own_term p = p.retry_millis + p.renew_millis
 -- from the beginning of a calm the other leads by then, where a lease of so many seconds blocks it, and it is free of what it had begun by beat old
 abbrev pub leads_by : Calm → ℕ → ℕ → Proc → ℕ
 leads_by c old seconds p =
-    takeover_beats c.near c.far 0 (max (of_millis p.timeout_millis / c.slow) old) (wait c p) (least_retry c p) (enough c (of_seconds seconds))
+    takeover_beats c.near c.far 0 (max (of_millis p.timeout_millis / c.slow) old) (wait c p) (least_wait c p) (enough c (of_seconds seconds))
 
 abbrev pub leads : Calm → Proc → Proc → ℕ
 leads c leader p = leads_by c 0 leader.lease_seconds p
@@ -123,7 +154,7 @@ leads c leader p = leads_by c 0 leader.lease_seconds p
 -- by then one of them leads that stays: the longest term of before is over, and so is the longest lease
 abbrev pub stays_from : Calm → ℕ → ℕ → Proc → ℕ
 stays_from c term seconds p =
-    settle_beats c.near c.far (acts_on c term) (acts_on c term) (of_millis p.timeout_millis / c.slow) (wait c p) (least_retry c p) (enough c (of_seconds seconds))
+    settle_beats c.near c.far (acts_on c term) (acts_on c term) (of_millis p.timeout_millis / c.slow) (wait c p) (least_wait c p) (enough c (of_seconds seconds))
 
 -- ---- of all that may follow a leader
 
@@ -175,7 +206,7 @@ with_other false found b = or_either found b
 abbrev pub others_from : Calm → ℕ → ℕ → ℕ → Proc → ℕ → List Proc → Option Handover → Option Handover
 others_from c term seconds place leader at [] found = found
 others_from c term seconds place leader at (p ∷ ps) found =
-    others_from c term seconds place leader (at + 1) ps (with_other (at == place) found (handed_over c term seconds leader p))
+    others_from c term seconds place leader (at + 1) ps (with_other (at == place) found (handed_over c term seconds (as_respected c.respect p.lease_seconds leader) p))
 
 -- whoever may lead after the leader; where nobody else is there, it may itself lead again
 abbrev pub others : Calm → ℕ → Proc → List Proc → Option Handover

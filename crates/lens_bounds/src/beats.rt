@@ -44,7 +44,7 @@ pub(crate) fn whole_beats(time: u128, speed: u64) -> u128
 /// The most beats from the first of some looks to the one that finds a time over.
 pub(crate) fn most_beats(near: u128, far: u128, enough: u128) -> u128
     requires near { 1 ≤ near }
-    requires far { far ≤ 5000000000000000 }
+    requires far { far ≤ 10000000000000000 }
     requires enough { enough ≤ 5000000000000000000 }
     ensures is { result ≡ looks.most_beats near far enough }
     ensures few { result ≤ enough + far }
@@ -58,11 +58,11 @@ pub(crate) fn most_beats(near: u128, far: u128, enough: u128) -> u128
 
 /// And the least.
 pub(crate) fn least_beats(near: u128, far: u128, needed: u128) -> u128
-    requires near { near ≤ 5000000000000000 }
+    requires near { near ≤ 10000000000000000 }
     requires far { 1 ≤ far }
     requires needed { needed ≤ 5000000000000000000 }
     ensures is { result ≡ looks.least_beats near far needed }
-    ensures few { result ≤ 30000000000000000000000000000000000 }
+    ensures few { result ≤ 60000000000000000000000000000000000 }
 {
     (needed.div_ceil(far) * near).max(needed)
 }

@@ -1,4 +1,14 @@
 // What is the same for all in a calm span.
+use kube_objects::RespectRule;
+
+/// How long a candidate waits between two attempts.
+#[derive(Clone, Copy)]
+pub enum Waits {
+    /// From its retry period up to so many milliseconds.
+    UpTo(u32),
+    /// From so many thousandths of its retry period up to so many.
+    Between(u32, u32),
+}
 
 /// What messages and clocks may do in a calm span.
 #[derive(Clone, Copy)]
@@ -13,8 +23,10 @@ pub struct Calm {
     pub slow: u64,
     /// And the fastest.
     pub fast: u64,
-    /// The longest wait of a candidate between two attempts; where none is given, it is the retry period.
-    pub wait_millis: Option<u32>,
+    /// How long a candidate waits between two attempts.
+    pub waits: Waits,
+    /// Whose lease duration a candidate respects.
+    pub respect: RespectRule,
     /// Whether a leader renews without a Get where it can.
     pub fast_renew: bool,
 }

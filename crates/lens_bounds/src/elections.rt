@@ -6,8 +6,8 @@ ghost use Rattle.lens_bounds.specs.Elections as spec;
 ghost use Rattle.lens_bounds.specs.Elections.{IsCalm};
 
 use crate::beats::{beats_of, least_beats, most_beats, of_millis, of_seconds, whole_beats};
-use crate::calm::Calm;
-use kube_objects::Proc;
+use crate::calm::{Calm, Waits};
+use kube_objects::{Proc, RespectRule};
 
 /// From when to when, in milliseconds.
 #[derive(Clone, Copy)]
@@ -46,13 +46,44 @@ pub struct Election {
     pub stays_from: Option<u128>,
 }
 
+/// So many thousandths of a retry period.
+#[tactic(auto, unfolding(kube_objects::specs::Document::of_millis))]
+fn share(retry_millis: u32, thousandths: u32) -> u128
+    requires { thousandths ≤ 2200 }
+    ensures is { result ≡ spec.share retry_millis thousandths }
+    ensures few { result ≤ 9500000000000000000 }
+{
+    of_millis(u64::from(retry_millis)) * u128::from(thousandths) / 1000
+}
+
+fn longest(waits: Waits, retry_millis: u32) -> u128
+    requires { spec.AreShort waits }
+    ensures is { result ≡ spec.longest_by waits retry_millis }
+    ensures few { result ≤ 9500000000000000000 }
+{
+    match waits {
+        Waits::UpTo(millis) => of_millis(u64::from(millis)),
+        Waits::Between(_, most) => share(retry_millis, most),
+    }
+}
+
+fn shortest(waits: Waits, retry_millis: u32) -> u128
+    requires { spec.AreShort waits }
+    ensures is { result ≡ spec.shortest_by waits retry_millis }
+    ensures few { result ≤ 9500000000000000000 }
+{
+    match waits {
+        Waits::UpTo(_) => of_millis(u64::from(retry_millis)),
+        Waits::Between(least, _) => share(retry_millis, least),
+    }
+}
+
 fn wait(c: Calm, p: Proc) -> u128
     requires { IsCalm c }
     ensures is { result ≡ spec.wait c p }
-    ensures few { result ≤ 4300000000000000 }
+    ensures few { result ≤ 9600000000000000 }
 {
-    let millis = c.wait_millis.unwrap_or(p.retry_millis);
-    beats_of(of_millis(u64::from(millis)), c.slow)
+    beats_of(longest(c.waits, p.retry_millis), c.slow)
 }
 
 fn retry(c: Calm, p: Proc) -> u128
@@ -63,28 +94,28 @@ fn retry(c: Calm, p: Proc) -> u128
     beats_of(of_millis(u64::from(p.retry_millis)), c.slow)
 }
 
-fn least_retry(c: Calm, p: Proc) -> u128
+fn least_wait(c: Calm, p: Proc) -> u128
     requires { IsCalm c }
-    ensures is { result ≡ spec.least_retry c p }
-    ensures few { result ≤ 4300000000000000 }
+    ensures is { result ≡ spec.least_wait c p }
+    ensures few { result ≤ 9600000000000000 }
 {
-    beats_of(of_millis(u64::from(p.retry_millis)), c.fast)
+    beats_of(shortest(c.waits, p.retry_millis), c.fast)
 }
 
 fn near_step(c: Calm, p: Proc) -> u128
     requires { IsCalm c }
     ensures is { result ≡ spec.near_step c p }
     ensures some { 1 ≤ result }
-    ensures few { result ≤ 4900000000000000 }
+    ensures few { result ≤ 9900000000000000 }
 {
-    least_retry(c, p) + 2 * u128::from(c.near)
+    least_wait(c, p) + 2 * u128::from(c.near)
 }
 
 fn far_step(c: Calm, p: Proc) -> u128
     requires { IsCalm c }
     ensures is { result ≡ spec.far_step c p }
     ensures some { 1 ≤ result }
-    ensures few { result ≤ 4900000000000000 }
+    ensures few { result ≤ 9900000000000000 }
 {
     wait(c, p) + 2 * u128::from(c.far)
 }
@@ -103,7 +134,7 @@ fn most_looks(c: Calm, p: Proc, seconds: u32) -> u128
 fn least_looks(c: Calm, p: Proc, seconds: u32) -> u128
     requires { IsCalm c }
     ensures is { result ≡ spec.least_looks c p seconds }
-    ensures few { result ≤ 30000000000000000000000000000000000 }
+    ensures few { result ≤ 60000000000000000000000000000000000 }
 {
     let needed = beats_of(of_seconds(u64::from(seconds)), c.fast);
     least_beats(near_step(c, p), far_step(c, p), needed)
@@ -142,15 +173,39 @@ pub fn stays(c: Calm, controllers: &[Proc]) -> bool
     requires { IsCalm c }
     ensures { result ≡ spec.stay c controllers.now }
 {
+    let least = shortest_lease(controllers);
     for p in controllers {
-        if !stays_by(c, *p) {
+        if !stays_by(c, as_respected(c.respect, least, *p)) {
             return false;
         }
     }
     true
 }
 
-/// The same of one controller.
+fn shortest_lease(controllers: &[Proc]) -> u32
+    ensures { result ≡ spec.shortest_lease controllers.now }
+{
+    let mut shortest = u32::MAX;
+    for p in controllers {
+        shortest = p.lease_seconds.min(shortest);
+    }
+    shortest
+}
+
+/// A leader as somebody respects it whose own lease has so many seconds.
+fn as_respected(respect: RespectRule, seconds: u32, leader: Proc) -> Proc
+    ensures { result ≡ spec.as_respected respect seconds leader }
+{
+    match respect {
+        RespectRule::Record => leader,
+        RespectRule::Own => Proc {
+            lease_seconds: seconds,
+            ..leader
+        },
+    }
+}
+
+/// Whether a leader of these settings stays in a calm span, where others respect its records for its lease duration. Takes no memory.
 pub fn stays_by(c: Calm, p: Proc) -> bool
     requires { IsCalm c }
     ensures { result ≡ spec.stays_by c p }
@@ -321,7 +376,13 @@ fn others(c: Calm, place: usize, leader: Proc, controllers: &[Proc]) -> Option<H
         found = with_other(
             at == place,
             found,
-            handed_over(c, term, seconds, leader, *p),
+            handed_over(
+                c,
+                term,
+                seconds,
+                as_respected(c.respect, p.lease_seconds, leader),
+                *p,
+            ),
         );
         at += 1;
     }

@@ -8,7 +8,7 @@ mod elections;
 mod outages;
 mod reach;
 
-pub use calm::Calm;
+pub use calm::{Calm, Waits};
 pub use elections::{Election, Handover, Span, crash_most, election_of, leads, stays, stays_by};
 pub use outages::{Marked, Outage, Since, Tainted, until_gone, until_tainted, until_unknown};
 pub use reach::{Reach, calm_of, outage_of};

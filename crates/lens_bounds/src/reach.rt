@@ -2,13 +2,14 @@
 ghost use Rattle.std.specs.Prelude.{◌≡◌, ◌≤◌};
 ghost use Rattle.script_reader.specs.Documents.{doc_of};
 ghost use Rattle.script_reader.specs.Lawful.{IsLawfulDoc};
+ghost use Rattle.takeover_laws.specs.Waits as waiting;
 ghost use Rattle.lens_bounds.specs.Documents as spec;
 ghost use Rattle.lens_bounds.specs.Elections.{IsCalm};
 ghost use Rattle.lens_bounds.specs.Outages.{IsOutage};
 
-use crate::calm::Calm;
+use crate::calm::{Calm, Waits};
 use crate::outages::Outage;
-use kube_objects::{Proc, What};
+use kube_objects::{NumberList, Proc, What};
 use script_reader::Document;
 
 /// What messages and clocks of some processes may do.
@@ -134,6 +135,54 @@ fn reach_of(document: &Document, controllers: bool) -> Reach
     reach
 }
 
+fn least_from(first: u32, waits: &[u32]) -> u32
+    ensures { result ≡ waiting.least_from first waits.now }
+{
+    let mut least = first;
+    for wait in waits {
+        least = (*wait).min(least);
+    }
+    least
+}
+
+fn greatest_from(first: u32, waits: &[u32]) -> u32
+    ensures { result ≡ waiting.greatest_from first waits.now }
+{
+    let mut most = first;
+    for wait in waits {
+        most = (*wait).max(most);
+    }
+    most
+}
+
+/// The least and the greatest wait that a document says of a controller, in thousandths of its retry period.
+fn waits_of(document: &Document) -> Waits
+    ensures { result ≡ spec.waits_in (doc_of document.now).waits }
+{
+    let lists = document.waits.as_slice();
+    Waits::Between(least_in(lists), greatest_in(lists))
+}
+
+fn least_in(lists: &[NumberList]) -> u32
+    ensures { result ≡ spec.least_in 2200 lists.now }
+{
+    let mut least = 2200;
+    for list in lists {
+        least = least_from(least, list.as_slice());
+    }
+    least
+}
+
+fn greatest_in(lists: &[NumberList]) -> u32
+    ensures { result ≡ spec.greatest_in 1000 lists.now }
+{
+    let mut most = 1000;
+    for list in lists {
+        most = greatest_from(most, list.as_slice());
+    }
+    most
+}
+
 fn calm_with(document: &Document, reach: Reach) -> Calm
     requires { document.now.settings.beat_millis ≤ 1000 }
     ensures { result ≡ spec.calm_with (doc_of document.now) reach }
@@ -145,7 +194,8 @@ fn calm_with(document: &Document, reach: Reach) -> Calm
         far: reach.far,
         slow: micros * u64::from(reach.least),
         fast: micros * u64::from(reach.greatest),
-        wait_millis: None,
+        waits: waits_of(document),
+        respect: document.settings.rules.respect,
         fast_renew: document.settings.fast_renew,
     }
 }

@@ -1,8 +1,10 @@
 -- The settings that words behind `bounds` give: those of `margin`, and what else a calm span depends on.
 use Rattle.std.specs.Int.{div_ceil}
 use Rattle.std.specs.Prelude.{ℕ, ◌+◌, ◌-◌, ◌*◌, ◌/◌, ◌≤◌, max, true, false, List, [], ◌∷◌, Option, Some, None, unwrap_or}
+use Rattle.kube_objects.specs.declared.rules.RespectRule.TheVariants.{Record}
 use Rattle.kube_objects.specs.declared.script.Proc.{Proc}
 use Rattle.lens_bounds.specs.declared.calm.Calm.{Calm}
+use Rattle.lens_bounds.specs.declared.calm.Waits.TheVariants.{UpTo}
 use Rattle.lens_bounds.specs.declared.outages.Outage.{Outage}
 use Rattle.lens_room.specs.declared.by_flags.flag.Flag.{Flag}
 use Rattle.lens_room.specs.declared.by_flags.flags.Flags.{Flags}
@@ -62,6 +64,10 @@ near_of s = near_by s.flags.beat_millis s.least_delay_millis
 abbrev pub micros_of : Settings → ℕ
 micros_of s = s.flags.beat_millis * 1000
 
+-- a candidate waits for its retry period, or for up to the longest wait that is given
+abbrev pub longest_wait : Settings → ℕ
+longest_wait s = unwrap_or s.wait_millis s.flags.retry_millis
+
 -- a leader renews by a Get and an Update
 abbrev pub calm_of : Settings → Calm
 calm_of s = record {
@@ -70,7 +76,8 @@ calm_of s = record {
   far = far_of s;
   slow = micros_of s * slow s.flags;
   fast = micros_of s * fast s.flags;
-  wait_millis = s.wait_millis;
+  waits = UpTo (longest_wait s);
+  respect = Record;
   fast_renew = false;
 }
 

@@ -7,7 +7,8 @@ ghost use Rattle.lens_calm.specs.Settings.{AreGiven};
 ghost use Rattle.lens_calm.specs.Words as words;
 
 use crate::setting::Setting;
-use lens_bounds::{Calm, Outage};
+use kube_objects::RespectRule;
+use lens_bounds::{Calm, Outage, Waits};
 use lens_room::by_flags::Flags;
 
 /// The settings of every controller, of the network and of nodes, and how they are told. What no word gives is as kube-controller-manager
@@ -123,6 +124,13 @@ impl Settings {
         u64::from(self.far()) * u64::from(self.flags.beat_millis)
     }
 
+    /// The longest wait of a candidate between two attempts.
+    pub(crate) fn longest_wait(self) -> u32
+        ensures { result ≡ spec.longest_wait self }
+    {
+        self.wait_millis.unwrap_or(self.flags.retry_millis)
+    }
+
     /// The calm spans of these settings.
     pub fn calm(self) -> Calm
         requires { AreGiven self }
@@ -136,7 +144,8 @@ impl Settings {
             far: self.far(),
             slow: micros * u64::from(1_000_000 - self.flags.skew_ppm),
             fast: micros * u64::from(1_000_000 + self.flags.skew_ppm),
-            wait_millis: self.wait_millis,
+            waits: Waits::UpTo(self.longest_wait()),
+            respect: RespectRule::Record,
             fast_renew: false,
         }
     }

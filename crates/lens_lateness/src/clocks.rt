@@ -11,7 +11,7 @@ use script_reader::Document;
 use skew_clock::Clock;
 use std::alloc::Global;
 use trace_lines::cut;
-use world_process::Controller;
+use world_process::{Controller, waits_at};
 
 /// The clock of each controller, in the document's order, with the rates that the events set.
 pub(crate) fn clocks_of(alloc: Global, document: &Document) -> Result<Vec<Clock>, NoMemory>
@@ -21,8 +21,10 @@ pub(crate) fn clocks_of(alloc: Global, document: &Document) -> Result<Vec<Clock>
     let mut clocks = Vec::new(alloc);
     let events = document.events.as_slice();
     for process in document.controllers.as_slice() {
-        let me = ProcId(clocks.len() as u32);
-        let controller = Controller::new(alloc, me, &document.settings, process, events)?;
+        let place = clocks.len();
+        let me = ProcId(place as u32);
+        let waits = waits_at(&document.waits, place);
+        let controller = Controller::new(alloc, me, &document.settings, process, waits, events)?;
         clocks.push(controller.clock)?;
     }
     Ok(clocks)

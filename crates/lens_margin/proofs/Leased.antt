@@ -1,14 +1,20 @@
--- A document with another lease of a controller has the same rates, and all else that the lease premise reads.
-use Rattle.std.proofs.Common.{◌≡◌, ℕ, zero, suc, ◌+◌, ◌*◌, ◌<◌, ◌++◌, nat_lt, List, [], ◌∷◌, length, slice_get, refl, ap, ap₂, ◌∙◌, arith}
+-- A document with another lease of a controller, or of all, has the same rates, and all else that the lease premise reads.
+use Rattle.std.proofs.Common.{◌≡◌, ℕ, zero, suc, ◌+◌, ◌-◌, ◌*◌, ◌<◌, ◌++◌, nat_lt, Bool, true, false, cond, List, [], ◌∷◌, length, map, slice_get, refl, ap, ap₂, ◌∙◌, arith}
+use Rattle.std.proofs.lemmas.List.{length-map}
+use Rattle.kube_objects.specs.declared.rules.RespectRule.{RespectRule}
+use Rattle.kube_objects.specs.declared.rules.RespectRule.TheVariants as respects
 use Rattle.kube_objects.specs.declared.script.Proc.{Proc}
 use Rattle.kube_objects.specs.Clocks.{rate, last_rate}
-use Rattle.kube_objects.specs.Document.{Doc, end_beat, field, process_at, beat_micros, of_seconds, of_millis}
+use Rattle.kube_objects.specs.Document.{Doc, end_beat, field, process_at, beat_micros, lease_seconds, of_seconds, of_millis}
 use Rattle.kube_objects.specs.Newest.{or_else}
-use Rattle.kube_objects.specs.Rules.{own_rules}
 use Rattle.history.specs.Premise.{less, more, longest, least_rate, greatest_rate, greatest_below}
-use Rattle.lens_margin.specs.Laws.{outlasted, leased_by, with_lease, leased, is_long_with}
+use Rattle.script_reader.specs.Leases.{least_up_to, waited_seconds}
+use Rattle.script_reader.proofs.LeaseLemmas.{waited-is}
+use Rattle.lens_margin.specs.Laws.{outlasted, leased_by, with_lease, with_leases, leased, is_long_with}
 use Rattle.lens_margin.specs.Margins.{fastest, slowest}
-use Rattle.lens_margin.proofs.Tested.{test-of}
+use Rattle.lens_margin.proofs.Tested.{AreInTime, test-of}
+
+-- ---- the lease of one controller
 
 -- a field that isn't the lease
 field-same : (f : Proc → ℕ) (seconds : ℕ) → ((c : Proc) → f (leased_by seconds c) ≡ f c) → (controllers kubelets : List Proc) (p q : ℕ)
@@ -29,12 +35,50 @@ count-same seconds [] p = refl
 count-same seconds (c ∷ cs) zero = refl
 count-same seconds (c ∷ cs) (suc p) = ap suc (count-same seconds cs p)
 
+-- ---- the lease of all
+
+all-same : (f : Proc → ℕ) (seconds : ℕ) → ((c : Proc) → f (leased_by seconds c) ≡ f c) → (controllers kubelets : List Proc) (q : ℕ)
+    → field f 0 (slice_get (map (leased_by seconds) controllers ++ kubelets) q) ≡ field f 0 (slice_get (controllers ++ kubelets) q)
+all-same f seconds same [] kubelets q = refl
+all-same f seconds same (c ∷ cs) kubelets zero = same c
+all-same f seconds same (c ∷ cs) kubelets (suc q) = all-same f seconds same cs kubelets q
+
+all-at : (seconds : ℕ) (controllers kubelets : List Proc) (q : ℕ) → q < length controllers → field (λ x. x.lease_seconds) 0 (slice_get (map (leased_by seconds) controllers ++ kubelets) q) ≡ seconds
+all-at seconds [] kubelets q inside = absurd (omega arith)
+all-at seconds (c ∷ cs) kubelets zero inside = refl
+all-at seconds (c ∷ cs) kubelets (suc q) inside = all-at seconds cs kubelets q (omega arith)
+
+-- the lesser of a number and itself
+less-same : (n : ℕ) → less n n ≡ n
+less-same n = by_test (nat_lt n n)
+  where
+    by_test : (b : Bool) → cond b n n ≡ n
+    by_test true = refl
+    by_test false = refl
+
+-- the least of all, where each of the controllers up to a place has this one
+least-at : (doc : Doc) (seconds : ℕ) (p : ℕ) → ((q : ℕ) → q < p + 1 → lease_seconds doc q ≡ seconds) → least_up_to doc p ≡ seconds
+least-at doc seconds zero each = each 0 (omega arith)
+least-at doc seconds (suc p) each =
+    ap₂ less (least-at doc seconds p (λ q below. each q (omega (arith, below)))) (each (suc p) (omega arith)) ∙ less-same seconds
+
+-- ---- by the rule
+
+fields-same : (respect : RespectRule) (f : Proc → ℕ) (seconds : ℕ) → ((c : Proc) → f (leased_by seconds c) ≡ f c) → (controllers kubelets : List Proc) (p q : ℕ)
+    → field f 0 (slice_get (with_leases respect p seconds controllers ++ kubelets) q) ≡ field f 0 (slice_get (controllers ++ kubelets) q)
+fields-same respects.Record f seconds same controllers kubelets p q = field-same f seconds same controllers kubelets p q
+fields-same respects.Own f seconds same controllers kubelets p q = all-same f seconds same controllers kubelets q
+
+counts-same : (respect : RespectRule) (seconds : ℕ) (controllers : List Proc) (p : ℕ) → length (with_leases respect p seconds controllers) ≡ length controllers
+counts-same respects.Record seconds controllers p = count-same seconds controllers p
+counts-same respects.Own seconds controllers p = length-map controllers (leased_by seconds)
+
 module _ (doc : Doc) (p seconds : ℕ) where
   abbrev other : Doc
   other = leased doc p seconds
 
   at-same : (f : Proc → ℕ) → ((c : Proc) → f (leased_by seconds c) ≡ f c) → (q : ℕ) → field f 0 (process_at other q) ≡ field f 0 (process_at doc q)
-  at-same f same q = field-same f seconds same doc.controllers doc.kubelets p q
+  at-same f same q = fields-same doc.settings.rules.respect f seconds same doc.controllers doc.kubelets p q
 
   rate-same : (q k : ℕ) → rate other q k ≡ rate doc q k
   rate-same q k = ap (λ first. or_else first (last_rate q k doc.events)) (at-same (λ x. x.rate_ppm) (λ c. refl) q)
@@ -52,13 +96,25 @@ module _ (doc : Doc) (p seconds : ℕ) where
   below-same (suc c) = ap₂ more (below-same c) (greatest-same c (end_beat doc))
 
   fastest-same : fastest other ≡ fastest doc
-  fastest-same = ap (λ c. greatest_below other c) (count-same seconds doc.controllers p) ∙ below-same (length doc.controllers)
+  fastest-same = ap (λ c. greatest_below other c) (counts-same doc.settings.rules.respect seconds doc.controllers p) ∙ below-same (length doc.controllers)
 
-  pub leased-is : doc.settings.rules ≡ own_rules → p < length doc.controllers → is_long_with doc p seconds ≡ nat_lt (outlasted doc p (longest doc p)) (of_seconds seconds * slowest doc p)
-  leased-is rules inside =
-      test-of other rules p
+  -- the document with these controllers
+  abbrev has : RespectRule → Doc
+  has respect = record doc { controllers = with_leases respect p seconds doc.controllers }
+
+  waited-at : (respect : RespectRule) → p < length doc.controllers → waited_seconds respect (has respect) p ≡ seconds
+  waited-at respects.Record inside = lease-at seconds doc.controllers doc.kubelets p inside
+  waited-at respects.Own inside =
+      let count = length-map doc.controllers (leased_by seconds) in
+      least-at (has respects.Own) seconds (length (map (leased_by seconds) doc.controllers) - 1)
+      (λ q below. all-at seconds doc.controllers doc.kubelets q (omega (arith, below, count, inside)))
+
+  pub leased-is : AreInTime doc → p < length doc.controllers → is_long_with doc p seconds ≡ nat_lt (outlasted doc p (longest doc p)) (of_seconds seconds * slowest doc p)
+  leased-is none inside =
+      let respect = doc.settings.rules.respect in
+      test-of other none p
       ∙ λ i.
       nat_lt
       (longest doc p * (beat_micros doc * fastest-same i) * least-same p (end_beat doc) i
       + (of_millis (at-same (λ x. x.timeout_millis) (λ c. refl) p i) + of_millis (at-same (λ x. x.retry_millis) (λ c. refl) p i) + of_millis (at-same (λ x. x.renew_millis) (λ c. refl) p i)) * fastest-same i)
-      (of_seconds (lease-at seconds doc.controllers doc.kubelets p inside i) * least-same p (end_beat doc) i)
+      ((waited-is respect other p ∙ ap of_seconds (waited-at respect inside)) i * least-same p (end_beat doc) i)

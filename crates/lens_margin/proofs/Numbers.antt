@@ -7,13 +7,14 @@ use Rattle.std.proofs.lemmas.Bool.Decides.{nat_tests}
 use Rattle.std.proofs.lemmas.Grind.{div_ceil_times}
 use Rattle.std.proofs.lemmas.Nat.{div-add-mod', mod_below, le-div}
 use Rattle.kube_objects.specs.declared.script.Proc.{Proc}
-use Rattle.kube_objects.specs.Document.{Doc, field, process_at, lease_seconds, of_seconds, of_millis}
-use Rattle.kube_objects.specs.Rules.{own_rules}
-use Rattle.history.specs.Premise.{more, longest, is_long}
+use Rattle.kube_objects.specs.Document.{Doc, field, process_at, of_seconds, of_millis}
+use Rattle.history.specs.Premise.{more, longest, waited_by, is_long}
 use Rattle.script_reader.specs.Lawful.{IsLawfulDoc}
-use Rattle.lens_margin.specs.Laws.{IsLeast, IsLeastLease, IsLongestStall, IsMargin, outlasted, is_long_with}
+use Rattle.script_reader.specs.Leases.{waited_seconds}
+use Rattle.script_reader.proofs.LeaseLemmas.{waited-is}
+use Rattle.lens_margin.specs.Laws.{IsLeast, IsLeastLease, IsLongestStall, IsMargin, outlasted, is_long_with, bears}
 use Rattle.lens_margin.specs.Margins.{acting, fastest, slowest, numbers, margin_of}
-use Rattle.lens_margin.proofs.Tested.{test-of}
+use Rattle.lens_margin.proofs.Tested.{AreInTime, in-time, test-of}
 use Rattle.lens_margin.proofs.Positive.{slowest-some, fastest-some}
 use Rattle.lens_margin.proofs.Leased.{leased-is}
 use Rattle.lens_margin.proofs.Paused.{counts, bears-is}
@@ -83,6 +84,10 @@ module _ (lease acts beat pauses : ℕ) (some : 0 < beat) (now : Fits lease acts
 
 -- ---- the numbers of a document's controller
 
+-- the seconds that others wait
+abbrev pub waited : Doc → ℕ → ℕ
+waited doc p = waited_seconds doc.settings.rules.respect doc p
+
 module _ (doc : Doc) (p : ℕ) where
   abbrev unit : ℕ
   unit = slowest doc p * 1000000000
@@ -94,7 +99,7 @@ module _ (doc : Doc) (p : ℕ) where
   need = longest doc p * one + acting doc p
 
   abbrev lease : ℕ
-  lease = lease_seconds doc p * 1000 * unit
+  lease = waited doc p * 1000 * unit
 
   outlasted-is : (pauses : ℕ) → outlasted doc p pauses ≡ pauses * one + acting doc p
   outlasted-is pauses = omega arith
@@ -117,7 +122,10 @@ module _ (doc : Doc) (p : ℕ) where
   passed : (pauses seconds : ℕ) → nat_lt (outlasted doc p pauses) (of_seconds seconds * slowest doc p) ≡ true → pauses * one + acting doc p < seconds * 1000 * unit
   passed pauses seconds is = ltb-true _ _ (sym (test-is pauses seconds) ∙ is)
 
-  module _ (rules : doc.settings.rules ≡ own_rules) (inside : p < length doc.controllers) (slow : 0 < slowest doc p) where
+  in-seconds : (left : ℕ) → nat_lt left (waited_by doc.settings.rules.respect doc p * slowest doc p) ≡ nat_lt left (of_seconds (waited doc p) * slowest doc p)
+  in-seconds left = ap (λ w. nat_lt left (w * slowest doc p)) (waited-is doc.settings.rules.respect doc p)
+
+  module _ (none : AreInTime doc) (inside : p < length doc.controllers) (slow : 0 < slowest doc p) where
     must-least : IsLeast (λ n. outlasted doc p (longest doc p) ≤ of_millis n * slowest doc p) (div_ceil need unit)
     must-least = record {
       holds = omega (arith, outlasted-is (longest doc p), milli-is (div_ceil need unit), (div_ceil_times need unit (omega arith)).0);
@@ -129,13 +137,19 @@ module _ (doc : Doc) (p : ℕ) where
 
     seconds-least : IsLeast (λ s. is_long_with doc p s ≡ true) (need / second + 1)
     seconds-least = record {
-      holds = leased-is doc p (need / second + 1) rules inside ∙ passes (longest doc p) (need / second + 1) (omega (arith, unit-above need second (omega arith)));
-      least = λ s long. unit-least need second (omega arith) s (omega (arith, passed (longest doc p) s (sym (leased-is doc p s rules inside) ∙ long)));
+      holds = leased-is doc p (need / second + 1) none inside ∙ passes (longest doc p) (need / second + 1) (omega (arith, unit-above need second (omega arith)));
+      least = λ s long. unit-least need second (omega arith) s (omega (arith, passed (longest doc p) s (sym (leased-is doc p s none inside) ∙ long)));
     }
 
     least-by : (b : Bool) → nat_lt (need / second) 86400 ≡ b → IsLeastLease doc p (cond b (Some (need / second + 1)) None)
     least-by true is = (omega (arith, ltb-true (need / second) 86400 is), seconds-least)
     least-by false is = λ s long. let enough = seconds-least.least s long in grind (arith, nat_tests)
+
+    test-at : is_long doc (fastest doc) p ≡ nat_lt (outlasted doc p (longest doc p)) (of_seconds (waited doc p) * slowest doc p)
+    test-at = test-of doc none p ∙ in-seconds (outlasted doc p (longest doc p))
+
+    bears-at : (n : ℕ) → bears doc p n ≡ nat_lt (outlasted doc p (more (longest doc p) (counts n))) (of_seconds (waited doc p) * slowest doc p)
+    bears-at n = bears-is doc none p n ∙ in-seconds (outlasted doc p (more (longest doc p) (counts n)))
 
     module _ (some : 0 < one) where
       stall-by : (b : Bool) → nat_lt need lease ≡ b → IsLongestStall doc p (cond b (Some (((lease - acting doc p - 1) / one - 1) * doc.settings.beat_millis)) None)
@@ -145,36 +159,36 @@ module _ (doc : Doc) (p : ℕ) where
             beats,
             refl,
             record {
-              holds = bears-is doc rules p beats ∙ passes (more (longest doc p) (counts beats)) (lease_seconds doc p) (stall-fits lease (acting doc p) one (longest doc p) some now beats refl);
-              greatest = λ n bears. stall-most lease (acting doc p) one (longest doc p) some now n (passed (more (longest doc p) (counts n)) (lease_seconds doc p) (sym (bears-is doc rules p n) ∙ bears));
+              holds = bears-at beats ∙ passes (more (longest doc p) (counts beats)) (waited doc p) (stall-fits lease (acting doc p) one (longest doc p) some now beats refl);
+              greatest = λ n bears. stall-most lease (acting doc p) one (longest doc p) some now n (passed (more (longest doc p) (counts n)) (waited doc p) (sym (bears-at n) ∙ bears));
             },
           )
-      stall-by false is = λ long. let never : false ≡ true = sym is ∙ sym (test-is (longest doc p) (lease_seconds doc p)) ∙ sym (test-of doc rules p) ∙ long in cc
+      stall-by false is = λ long. let never : false ≡ true = sym is ∙ sym (test-is (longest doc p) (waited doc p)) ∙ sym test-at ∙ long in cc
 
 product-some : (a b : ℕ) → 0 < a → 0 < b → 0 < a * b
 product-some zero b one two = absurd (omega arith)
 product-some (suc a) b one two = omega (arith, two)
 
-pub margin-law-of : (doc : Doc) → doc.settings.rules ≡ own_rules → (p : ℕ) → p < length doc.controllers → 0 < slowest doc p → 0 < fastest doc → 0 < doc.settings.beat_millis → IsMargin doc p (margin_of doc p)
-margin-law-of doc rules p inside slow fast beat =
+pub margin-law-of : (doc : Doc) → AreInTime doc → (p : ℕ) → p < length doc.controllers → 0 < slowest doc p → 0 < fastest doc → 0 < doc.settings.beat_millis → IsMargin doc p (margin_of doc p)
+margin-law-of doc none p inside slow fast beat =
     let some : 0 < one doc p = product-some (doc.settings.beat_millis * 1000 * fastest doc) (slowest doc p) (product-some (doc.settings.beat_millis * 1000) (fastest doc) (omega (arith, beat)) fast) slow in
     record {
       lease = refl;
-      must_exceed = must-least doc p rules inside slow;
-      least_seconds = least-by doc p rules inside slow _ refl;
-      longest_stall = stall-by doc p rules inside slow some _ refl;
+      must_exceed = must-least doc p none inside slow;
+      least_seconds = least-by doc p none inside slow _ refl;
+      longest_stall = stall-by doc p none inside slow some _ refl;
     }
 
 pub margin-law : (doc : Doc) → IsLawfulDoc doc → (p : ℕ) → p < length doc.controllers → IsMargin doc p (margin_of doc p)
-margin-law doc lawful p inside = margin-law-of doc lawful.settings.rules p inside (slowest-some doc lawful p inside) (fastest-some doc lawful) (omega (arith, lawful.settings.beat_least))
+margin-law doc lawful p inside = margin-law-of doc (in-time doc lawful) p inside (slowest-some doc lawful p inside) (fastest-some doc lawful) (omega (arith, lawful.settings.beat_least))
 
 some-when : (b : Bool) (n : ℕ) → is_some (cond b (Some n) None) ≡ b
 some-when true n = refl
 some-when false n = refl
 
 -- where a stall is borne, if only of no beat, the lease is long enough
-pub stall-tells : (doc : Doc) → doc.settings.rules ≡ own_rules → (p : ℕ) → is_some (margin_of doc p).longest_stall ≡ is_long doc (fastest doc) p
-stall-tells doc rules p = some-when (nat_lt (need doc p) (lease doc p)) _ ∙ sym (test-is doc p (longest doc p) (lease_seconds doc p)) ∙ sym (test-of doc rules p)
+pub stall-tells : (doc : Doc) → AreInTime doc → (p : ℕ) → is_some (margin_of doc p).longest_stall ≡ is_long doc (fastest doc) p
+stall-tells doc none p = some-when (nat_lt (need doc p) (lease doc p)) _ ∙ sym (test-is doc p (longest doc p) (waited doc p)) ∙ sym (in-seconds doc p (outlasted doc p (longest doc p))) ∙ sym (test-of doc none p)
 
 -- ---- what the code counts with
 
@@ -200,6 +214,6 @@ module _ (doc : Doc) (p : ℕ) (controllers : List Proc) (d : Proc) (same : cont
       (λ i. (own (λ x. x.timeout_millis) i + own (λ x. x.retry_millis) i + own (λ x. x.renew_millis) i) * 1000000000 * is i)
       ∙ in-units (field (λ x. x.timeout_millis) 0 (process_at doc p)) (field (λ x. x.retry_millis) 0 (process_at doc p)) (field (λ x. x.renew_millis) 0 (process_at doc p)) (fastest doc)
 
-  pub numbers-are : (pauses slow fast : ℕ) → pauses ≡ longest doc p → slow ≡ slowest doc p → fast ≡ fastest doc
-      → numbers c.lease_seconds ((c.timeout_millis + c.retry_millis + c.renew_millis) * 1000000000 * fast) pauses doc.settings.beat_millis slow fast ≡ margin_of doc p
-  numbers-are pauses slow fast long low high = λ i. numbers (own (λ x. x.lease_seconds) i) (acting-is fast high i) (long i) doc.settings.beat_millis (low i) (high i)
+  pub numbers-are : (awaited pauses slow fast : ℕ) → awaited ≡ waited doc p → pauses ≡ longest doc p → slow ≡ slowest doc p → fast ≡ fastest doc
+      → numbers awaited ((c.timeout_millis + c.retry_millis + c.renew_millis) * 1000000000 * fast) pauses doc.settings.beat_millis slow fast ≡ margin_of doc p
+  numbers-are awaited pauses slow fast leased long low high = λ i. numbers (leased i) (acting-is fast high i) (long i) doc.settings.beat_millis (low i) (high i)

@@ -1,9 +1,12 @@
 -- What the numbers of a margin are: the least and the greatest for which the lease premise's own tests hold.
-use Rattle.std.specs.Prelude.{◌≡◌, ℕ, zero, suc, ◌+◌, ◌*◌, ◌<◌, ◌≤◌, Bool, true, List, [], ◌∷◌, length, Option, Some, None}
-use Rattle.kube_objects.specs.Document.{Doc, beat_micros, lease_seconds, call_timeout, retry_period, renew_deadline, of_millis}
+use Rattle.std.specs.Prelude.{◌≡◌, ℕ, zero, suc, ◌+◌, ◌*◌, ◌<◌, ◌≤◌, Bool, true, List, [], ◌∷◌, length, map, Option, Some, None}
+use Rattle.kube_objects.specs.Document.{Doc, beat_micros, call_timeout, retry_period, renew_deadline, of_millis}
+use Rattle.kube_objects.specs.declared.rules.RespectRule.{RespectRule}
+use Rattle.kube_objects.specs.declared.rules.RespectRule.TheVariants as respects
 use Rattle.kube_objects.specs.declared.script.Proc.{Proc}
 use Rattle.kube_objects.specs.declared.script.What.TheVariants.{Pause}
 use Rattle.history.specs.Premise.{longest, is_long}
+use Rattle.script_reader.specs.Leases.{waited_seconds}
 use Rattle.lens_margin.specs.declared.margin.Margin.{Margin}
 use Rattle.lens_margin.specs.Margins.{fastest, slowest, margin_of}
 
@@ -40,11 +43,16 @@ with_lease p seconds [] = []
 with_lease zero seconds (c ∷ cs) = leased_by seconds c ∷ cs
 with_lease (suc p) seconds (c ∷ cs) = c ∷ with_lease p seconds cs
 
--- the document with a lease of so many seconds for a controller
+-- the same of all controllers where each goes by its own lease
+abbrev pub with_leases : RespectRule → ℕ → ℕ → List Proc → List Proc
+with_leases respects.Record p seconds cs = with_lease p seconds cs
+with_leases respects.Own p seconds cs = map (leased_by seconds) cs
+
+-- the document with a lease of so many seconds for a controller, or for all where each goes by its own
 abbrev pub leased : Doc → ℕ → ℕ → Doc
 leased doc p seconds = record {
   settings = doc.settings;
-  controllers = with_lease p seconds doc.controllers;
+  controllers = with_leases doc.settings.rules.respect p seconds doc.controllers;
   kubelets = doc.kubelets;
   waits = doc.waits;
   objects = doc.objects;
@@ -82,10 +90,10 @@ IsLongestStall doc p (Some millis) =
     (beats : ℕ) × (millis ≡ beats * doc.settings.beat_millis) × IsGreatest (λ n. bears doc p n ≡ true) beats
 IsLongestStall doc p None = ¬ (is_long doc (fastest doc) p ≡ true)
 
--- the numbers of a controller. What its lease must exceed is rounded up: the least number of milliseconds that the test's left side
+-- the numbers of a controller. Its lease is what others wait; what that must exceed is rounded up: the least number of milliseconds that the test's left side
 -- isn't more than
 pub record IsMargin (doc : Doc) (p : ℕ) (m : Margin) : Type 0 where
-  pub lease : m.lease ≡ lease_seconds doc p * 1000
+  pub lease : m.lease ≡ waited_seconds doc.settings.rules.respect doc p * 1000
   pub must_exceed : IsLeast (λ n. outlasted doc p (longest doc p) ≤ of_millis n * slowest doc p) m.must_exceed
   pub least_seconds : IsLeastLease doc p m.least_seconds
   pub longest_stall : IsLongestStall doc p m.longest_stall

@@ -1,8 +1,9 @@
 -- What a controller's lease has to outlast, and what is left: the numbers of the lease premise. Source: profile.
 use Rattle.std.specs.Prelude.{ℕ, ◌+◌, ◌-◌, ◌*◌, ◌/◌, nat_lt, length, Option, Some, None, if◌then◌else◌}
 use Rattle.std.specs.Int.{div_ceil}
-use Rattle.kube_objects.specs.Document.{Doc, end_beat, lease_seconds, call_timeout, retry_period, renew_deadline}
+use Rattle.kube_objects.specs.Document.{Doc, end_beat, call_timeout, retry_period, renew_deadline}
 use Rattle.history.specs.Premise.{least_rate, greatest_below, longest}
+use Rattle.script_reader.specs.Leases.{waited_seconds}
 use Rattle.lens_margin.specs.declared.margin.Margin.{Margin}
 
 -- the greatest rate of any controller's clock
@@ -43,4 +44,4 @@ acting doc p = (call_timeout doc p + retry_period doc p + renew_deadline doc p) 
 
 -- the numbers of a controller of a document
 abbrev pub margin_of : Doc → ℕ → Margin
-margin_of doc p = numbers (lease_seconds doc p) (acting doc p) (longest doc p) doc.settings.beat_millis (slowest doc p) (fastest doc)
+margin_of doc p = numbers (waited_seconds doc.settings.rules.respect doc p) (acting doc p) (longest doc p) doc.settings.beat_millis (slowest doc p) (fastest doc)

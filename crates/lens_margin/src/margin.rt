@@ -7,7 +7,7 @@ ghost use Rattle.lens_margin.specs.Margins.{margin_of, numbers, least_within, st
 
 use crate::rates::fastest;
 use kube_objects::Proc;
-use script_reader::{Document, longest_pause, rates_of};
+use script_reader::{Document, longest_pause, rates_of, waited_seconds};
 
 /// The most seconds that a lease duration may have.
 const LONGEST_LEASE: u128 = 86_400;
@@ -15,11 +15,11 @@ const LONGEST_LEASE: u128 = 86_400;
 /// The numbers of a controller. Times are in milliseconds but where a name says else.
 #[derive(Clone, Copy)]
 pub struct Margin {
-    /// The lease duration.
+    /// What others wait: the lease duration, or the least of all where each goes by its own.
     pub lease: u128,
     /// What the lease must exceed, rounded up.
     pub must_exceed: u128,
-    /// The least lease in whole seconds that is long enough, where one of at most a day is.
+    /// The least lease in whole seconds that is long enough, for all where each goes by its own, where one of at most a day is.
     pub least_seconds: Option<u32>,
     /// The longest further stall that the lease bears, where it is long enough at all.
     pub longest_stall: Option<u128>,
@@ -32,8 +32,13 @@ pub fn controller_margin(document: &Document, controller: usize) -> Margin
     ensures is { result ≡ margin_of (doc_of document.now) controller }
     ensures law { IsMargin (doc_of document.now) controller result }
 {
+    let lease_seconds = waited_seconds(document, controller);
+    let process = document.controllers.as_slice()[controller];
     margin_at(
-        document.controllers.as_slice()[controller],
+        Proc {
+            lease_seconds,
+            ..process
+        },
         longest_pause(document, controller),
         document.settings.beat_millis,
         rates_of(document, controller).least,

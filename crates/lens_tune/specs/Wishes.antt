@@ -1,9 +1,11 @@
 -- What is wished for, and the calm span, the controllers and the stalls that it speaks of, by the settings of a plan.
 use Rattle.std.specs.Int.{div_ceil}
 use Rattle.std.specs.Prelude.{ℕ, ◌*◌, ◌/◌, ◌≤◌, max, false, Some}
+use Rattle.kube_objects.specs.declared.rules.RespectRule.TheVariants.{Record}
 use Rattle.kube_objects.specs.declared.script.Proc.{Proc}
 use Rattle.kube_objects.specs.Document.{Doc}
 use Rattle.lens_bounds.specs.declared.calm.Calm.{Calm}
+use Rattle.lens_bounds.specs.declared.calm.Waits.TheVariants.{UpTo}
 use Rattle.lens_margin.specs.Laws.{paused}
 use Rattle.lens_room.specs.declared.by_flags.flags.Flags.{Flags}
 use Rattle.lens_room.specs.Described.{slow, fast, controller, described}
@@ -76,7 +78,8 @@ calm_of w p = record {
   far = far_of w;
   slow = w.beat_millis * 1000 * slow (flags_of w p);
   fast = w.beat_millis * 1000 * fast (flags_of w p);
-  wait_millis = Some (wait_of w p);
+  waits = UpTo (wait_of w p);
+  respect = Record;
   fast_renew = false;
 }
 

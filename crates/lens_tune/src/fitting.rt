@@ -9,8 +9,8 @@ ghost use Rattle.lens_tune.specs.Wishes.{IsWish};
 
 use crate::plan::Plan;
 use crate::wish::{Timeout, Wish};
-use kube_objects::{Proc, ReadyStatus};
-use lens_bounds::{Calm, crash_most};
+use kube_objects::{Proc, ReadyStatus, RespectRule};
+use lens_bounds::{Calm, Waits, crash_most};
 
 /// How long a call waits for its reply, by the renew deadline, in milliseconds.
 pub fn timeout_by(timeout: Timeout, renew: u32) -> u32
@@ -45,7 +45,8 @@ fn calm_of(w: Wish, p: Plan) -> Calm
         far: w.delay_millis.div_ceil(w.beat_millis),
         slow: micros * u64::from(1_000_000 - w.skew_ppm),
         fast: micros * u64::from(1_000_000 + w.skew_ppm),
-        wait_millis: Some(wait_by(w, p)),
+        waits: Waits::UpTo(wait_by(w, p)),
+        respect: RespectRule::Record,
         fast_renew: false,
     }
 }

@@ -41,7 +41,7 @@ PassStands doc k q h looked health = (name : ℕ) → NodeStands doc q (passed k
 abbrev pub and_looked : ℕ → (ℕ → Bool) → ℕ → Bool
 and_looked node looked name = (node == name) || looked name
 
--- the graces are the document's, which goes by the project's own rules
+-- the graces are the document's, which goes by the project's own rules but for those of elections
 pub record IsGraceOf (doc : Doc) (graces : Grace) : Type 0 where
   pub grace : graces.grace ≡ of_millis doc.settings.grace_period_millis
   pub startup : graces.startup ≡ of_millis doc.settings.startup_grace_millis

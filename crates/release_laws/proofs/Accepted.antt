@@ -155,8 +155,8 @@ module _ (doc : Doc) (near far b e : ℕ) (q : Identity) (l : LeadsUntil doc nea
           (asks_election doc s.sound e s.end q l.role (entry b 1 q (Sends rel.call (Some rel.at))) rel.call (Some rel.at) (in_head (entry b 1 q (Sends rel.call (Some rel.at))) F (history doc (suc e)) F_e) refl refl)
 
   -- so nobody is blocked
-  pub lasts : LastsFor 0 (object_of (stored election released))
-  lasts = subst (λ t. LastsFor 0 (object_of t)) (sym is_free.top) (subst (λ y. LastsFor 0 (Some y)) (sym is_free.object) (inl is_free.holder))
+  pub lasts : (p : ℕ) → LastsFor doc p 0 (object_of (stored election released))
+  lasts p = subst (λ t. LastsFor doc p 0 (object_of t)) (sym is_free.top) (subst (λ y. LastsFor doc p 0 (Some y)) (sym is_free.object) (inl is_free.holder))
 
   -- ---- what is stored below it
 

@@ -6,7 +6,7 @@ use Rattle.kube_objects.specs.declared.call.Reply.{Reply}
 use Rattle.kube_objects.specs.declared.call.Reply.TheVariants.{Done}
 use Rattle.kube_objects.specs.declared.call.Request.TheVariants.{Get}
 use Rattle.kube_objects.specs.Answers.{lease_in, as_kind, answer_get, answer, written}
-use Rattle.kube_objects.specs.Document.{Doc, is_controller, retry_period}
+use Rattle.kube_objects.specs.Document.{Doc, is_controller}
 use Rattle.kube_objects.specs.Elector.{moment, follow_get, follow, leads, observed_at}
 use Rattle.kube_objects.specs.Entry.{Entry, Identity, Call, Answers, Sends, Delivers, actor_of, entry}
 use Rattle.kube_objects.specs.Identities.{identity}
@@ -19,6 +19,7 @@ use Rattle.history.specs.Safe.{Acts}
 use Rattle.history_laws.specs.Tails.{IsTail}
 use Rattle.history_laws.proofs.Plainly.{true_is}
 use Rattle.history_laws.proofs.Tailed.{tail_all, tail_trans, later_tail}
+use Rattle.takeover_laws.specs.Waits.{longest_wait}
 use Rattle.span_laws.specs.Spans.{IsEnough}
 use Rattle.call_laws.proofs.Placing.{in_own_beat, not_before}
 use Rattle.takeover_laws.specs.Calm.{IsSteady}
@@ -135,7 +136,7 @@ module _ (doc : Doc) (near far b e : ℕ) (q : Identity) (l : LeadsUntil doc nea
 
   -- ---- nobody else acts only so long
 
-  module _ (p slow fast wait : ℕ) (rival : IsRival doc b e q p slow fast) (wait_is : IsEnough slow (retry_period doc p) wait) (within : b + wait + (6 * far - 1) ≤ e) where
+  module _ (p slow fast wait : ℕ) (rival : IsRival doc b e q p slow fast) (wait_is : IsEnough slow (longest_wait doc p) wait) (within : b + wait + (6 * far - 1) ≤ e) where
     abbrev n : ℕ
     n = b + wait + (6 * far - 1)
 
@@ -145,7 +146,7 @@ module _ (doc : Doc) (near far b e : ℕ) (q : Identity) (l : LeadsUntil doc nea
     some_wait : 1 ≤ wait
     some_wait = by_wait wait wait_is
       where
-        by_wait : (k : ℕ) → retry_period doc p ≤ k * slow → 1 ≤ k
+        by_wait : (k : ℕ) → longest_wait doc p ≤ k * slow → 1 ≤ k
         by_wait zero le = absurd (omega (arith, le, s.waits p rival.role))
         by_wait (suc k) le = omega arith
 
@@ -157,7 +158,7 @@ module _ (doc : Doc) (near far b e : ℕ) (q : Identity) (l : LeadsUntil doc nea
       where
         with_identity : (i : ℕ) → alive p S ≡ Some i → ⊥
         with_identity i up =
-            none_first doc s.sound.2 near far e n s.one s.ways within c rival.role (l.others p rival.role rival.other) (s.calls p rival.role) (others.none doc near far b e q l s p rival.role rival.other n within (omega arith) idle i up) led_not 0 top (lasts doc near far b e q l s stop rel) (b + 2 * far) (omega (arith, a_way))
+            none_first doc s.sound.2 near far e n s.one s.ways within c rival.role (l.others p rival.role rival.other) (s.calls p rival.role) (others.none doc near far b e q l s p rival.role rival.other n within (omega arith) idle i up) led_not 0 top (lasts doc near far b e q l s stop rel p) (b + 2 * far) (omega (arith, a_way))
             (given c rival.role rival.other n within idle led_not) (no_writes c rival.role rival.other n within idle led_not) slow fast wait 0 b (omega arith) rival.runs_least rival.runs_most (s.waits p rival.role) wait_is (λ m le. omega arith) 0 0 (omega arith) greatest
             G (omega (arith, some_wait, a_way)) (omega (arith, some_wait, a_way)) (omega (arith, a_way, some_wait)) (others.there doc near far b e q l s p rival.role rival.other n within (omega arith) idle i up G (omega (arith, a_way, some_wait)) (omega (arith, a_way, some_wait)))
           where
@@ -267,6 +268,6 @@ releases_are_followed doc near far b e q l s stop rel replies renew p slow fast 
 -- in whole beats
 pub releases_are_told : ReleasesAreTold
 releases_are_told doc near far b e q l s stop rel replies renew p slow fast rival some within =
-    let same : b + div_ceil (retry_period doc p) slow + (6 * far - 1) ≡ b + release_bound doc far p slow = omega arith in
+    let same : b + div_ceil (longest_wait doc p) slow + (6 * far - 1) ≡ b + release_bound doc far p slow = omega arith in
     subst (λ n. IsFollowed doc b n e q) same
-    (releases_are_followed doc near far b e q l s stop rel replies renew p slow fast (div_ceil (retry_period doc p) slow) rival (rounded_is slow (retry_period doc p) some).0 (omega (arith, within)))
+    (releases_are_followed doc near far b e q l s stop rel replies renew p slow fast (div_ceil (longest_wait doc p) slow) rival (rounded_is slow (longest_wait doc p) some).0 (omega (arith, within)))

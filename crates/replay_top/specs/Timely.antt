@@ -19,7 +19,7 @@ pub record IsTimely (doc : Doc) : Type 0 where
   pub stays : LeaderStays doc
   -- so one does from a beat on that one candidate, and the longest term and lease of any, tell
   pub settles : Settles doc
-  -- a lead over another's record comes no sooner after its write than its duration and three messages take
+  -- a lead over another's record comes no sooner after its write than what the one who leads waits for it and three messages take
   pub gap : GapLasts doc
   -- and where the lease premise holds, so much later than another has acted
   pub waits : OtherWaits doc

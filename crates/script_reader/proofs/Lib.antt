@@ -1,4 +1,5 @@
 mod ClockRatesLemmas
+pub mod LeaseLemmas
 pub mod Loops
 pub mod Named
 pub mod OwnDocuments

@@ -12,10 +12,10 @@ use Rattle.kube_objects.specs.declared.script.Proc.{Proc}
 use Rattle.kube_objects.specs.declared.script.What.{What}
 use Rattle.kube_objects.specs.declared.script.What.TheVariants.{Rate, Delay, Loss, Crash, Start, Stop, Watch, Ready, Pause, Stall, Put, Remove}
 use Rattle.kube_objects.specs.declared.settings.Settings.{Settings}
-use Rattle.kube_objects.specs.Document.{Doc, own_waits_each, is_controller, processes, end_beat}
+use Rattle.kube_objects.specs.Document.{Doc, is_controller, processes, end_beat}
 use Rattle.kube_objects.specs.Keys.{key_eq}
 use Rattle.kube_objects.specs.Kinds.{IsOfKind}
-use Rattle.kube_objects.specs.Rules.{own_rules}
+use Rattle.kube_objects.specs.Own.{own_but_elections}
 use Rattle.kube_objects.specs.Stored.{election}
 use Rattle.history.specs.Sound.{AreApart}
 use Rattle.manifest_json.specs.Fields.{Texts}
@@ -52,8 +52,8 @@ pub record AreLawful (s : Settings) : Type 0 where
   pub secondary : s.secondary_rate ≤ s.primary_rate
   pub large_zone : s.large_zone ≤ 1000000
   pub percent : s.unhealthy_percent ≤ 100
-  -- any other rule is refused as not built
-  pub rules : s.rules ≡ own_rules
+  -- but for those of elections, any other rule is refused as not built
+  pub rules : s.rules ≡ own_but_elections s.rules
   pub renew_within_lease : s.renew_deadline_millis < s.lease_duration_seconds * 1000
   pub retry_within_renew : 6 * s.retry_period_millis < 5 * s.renew_deadline_millis
 
@@ -80,6 +80,12 @@ pub record IsLawful (p : Proc) : Type 0 where
   pub timeout : p.timeout_millis ≤ 600000
   pub renew_within_lease : p.renew_millis < p.lease_seconds * 1000
   pub retry_within_renew : 6 * p.retry_millis < 5 * p.renew_millis
+
+-- a controller's waits after failed attempts, in thousandths of its retry period
+pub record AreWaits (waits : List ℕ) : Type 0 where
+  pub some : 1 ≤ length waits
+  pub few : length waits ≤ 1000
+  pub each : All (λ w. (1000 ≤ w) × (w ≤ 2200)) waits
 
 -- no two of these processes have the same name
 abbrev pub AreNamedApart : List Proc → Type 0
@@ -114,8 +120,9 @@ pub record IsLawfulDoc (doc : Doc) : Type 0 where
   pub some : 1 ≤ length doc.controllers
   pub few : length doc.controllers ≤ 16
   pub controllers_apart : AreNamedApart doc.controllers
-  -- any others are refused as not built
-  pub waits : doc.waits ≡ own_waits_each doc.controllers
+  -- the waits are those of the controllers, in order
+  pub waits : All AreWaits doc.waits
+  pub waits_each : length doc.waits ≡ length doc.controllers
   pub kubelets : All IsLawful doc.kubelets
   pub few_kubelets : length doc.kubelets ≤ 1000
   pub kubelets_apart : AreNamedApart doc.kubelets

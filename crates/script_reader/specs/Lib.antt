@@ -5,6 +5,7 @@ pub mod ClockRates
 pub mod Documents
 pub mod Fields
 pub mod Lawful
+pub mod Leases
 pub mod Rules
 pub mod Scripts
 pub mod Tables

@@ -223,7 +223,6 @@ controller_at version settings names path earlier value = do
   timings ← timings_at (timings_of settings) path d
   waits ← waits_at path d
   controller ← if_controller path earlier name.0 timings (controller_of name.0 clock watch timings) name.1
-  built ← unless_there path (codes "waits") d
   Ok ((controller.0, waits), controller.1)
 
 -- controllers, and the waits of each

@@ -49,7 +49,7 @@ fn preset_of(text: &str) -> Option<Preset>
     }
 }
 
-/// When the attempt after a failed one comes.
+/// When a leader's attempt after a failed one comes.
 pub(crate) fn retries_at(
     default: RetryRule,
     path: &Path,

@@ -26,5 +26,5 @@ mod waits;
 mod what;
 
 pub use document::Document;
-pub use premise::{ClockRates, lease_premise, longest_pause, rates_of};
+pub use premise::{ClockRates, lease_premise, longest_pause, rates_of, waited_seconds};
 pub use reading::{document_of, read_document, read_value};

@@ -6,7 +6,6 @@ ghost use Rattle.manifest_json.specs.Walk.{member_path};
 ghost use Rattle.script_reader.specs.Cast.{Stands};
 ghost use Rattle.script_reader.specs.Walk as walk;
 
-use crate::built::unless_there;
 use crate::cast::{Named, Team};
 use crate::field::{
     array_in, fault_under, flag_at, member_of, name_number_at, not_empty, path_of, signed_at,
@@ -137,7 +136,6 @@ fn controller_at(
     if !is_sound(timings) {
         return Err(fault(BAD_SETTINGS, path));
     }
-    unless_there(path, "waits", value)?;
     let controller = proc_of(name, clock, watch, ReadyStatus::True, timings);
     Ok((controller, waits))
 }

@@ -17,6 +17,7 @@ use Rattle.history.specs.Sound.{IsSound}
 use Rattle.history_laws.specs.Tails.{IsTail}
 use Rattle.history_laws.proofs.Plainly.{true_is}
 use Rattle.history_laws.proofs.Tailed.{tail_all, tail_trans, in_tail, later_tail, turn_tail, before_turn}
+use Rattle.takeover_laws.specs.Waits.{longest_wait, shortest_wait}
 use Rattle.span_laws.specs.Looks.{IsGreatest}
 use Rattle.span_laws.specs.Quotients.{most_beats}
 use Rattle.span_laws.specs.Spans.{IsEnough}
@@ -141,8 +142,8 @@ module _ (doc : Doc) (near far a e n : ℕ) (sound : IsSound doc) (calm : IsCalm
   is_kept : IsKept doc far settled n
   is_kept = kept doc near far a e n sound calm time one ways end within settled (omega arith) no_write
 
-  module _ (most_lasts : ℕ) (all : AllLastFor doc near far a e most_lasts) (first_lasts : LastsFor most_lasts (early_record a (history doc (a + far))))
-      (p later slow fast lost wait needed : ℕ) (c : IsCandidate doc near far a e p later slow fast) (b : AreBeats doc p slow fast lost wait needed) (after : old ≤ later)
+  module _ (most_lasts : ℕ) (all : AllLastFor doc near far a e most_lasts) (p later slow fast lost wait needed : ℕ) (first_lasts : LastsFor doc p most_lasts (early_record a (history doc (a + far))))
+      (c : IsCandidate doc near far a e p later slow fast) (b : AreBeats doc p slow fast lost wait needed) (after : old ≤ later)
       (first : ℕ) (up_by : later ≤ first) (lost_by : lost + wait ≤ first) (ways_by : (old + 4 * far - 1) + wait ≤ first)
       (enough most : ℕ) (enough_is : IsEnough slow most_lasts enough) (most_is : IsGreatest (needed + 2 * near) (wait + 2 * far) enough most) (time_left : a + first + most + 4 * far ≤ n) where
     abbrev S : List Entry
@@ -151,8 +152,8 @@ module _ (doc : Doc) (near far a e n : ℕ) (sound : IsSound doc) (calm : IsCalm
     below : p < processes doc
     below = controllers_first doc p c.role
 
-    record_lasts : LastsFor most_lasts (object_of (stored election (history doc (settled + far))))
-    record_lasts = lasts doc near far a e n sound calm time one ways end within settled (omega arith) no_write most_lasts all first_lasts (omega (arith, ways_by, time_left, some_far))
+    record_lasts : LastsFor doc p most_lasts (object_of (stored election (history doc (settled + far))))
+    record_lasts = lasts doc near far a e n sound calm time one ways end within settled (omega arith) no_write most_lasts all p (all p c.role c.steady) first_lasts (omega (arith, ways_by, time_left, some_far))
 
     turn_high : (k : ℕ) → k ≤ n → IsTail (at_turn doc (suc p) k) (history doc (suc n))
     turn_high k le = tail_trans (at_turn doc (suc p) k) (history doc (suc k)) (history doc (suc n)) (turn_tail doc (suc p) k (omega (arith, below))) (later_tail doc (suc k) (suc n) (omega (arith, le)))
@@ -186,7 +187,7 @@ module _ (doc : Doc) (near far a e n : ℕ) (sound : IsSound doc) (calm : IsCalm
 
     with_identity : (i : ℕ) → alive p S ≡ Some i → ⊥
     with_identity i up =
-        no_candidate doc sound.2 near far a settled e n calm one ways (omega arith) within is_kept most_lasts record_lasts p later slow fast lost wait needed c b (time p c.role c.steady) first up_by lost_by (omega (arith, ways_by, some_far))
+        no_candidate doc sound.2 near far a settled e n calm one ways (omega arith) within is_kept most_lasts p later slow fast lost wait needed record_lasts c b (time p c.role c.steady) first up_by lost_by (omega (arith, ways_by, some_far))
         enough most enough_is most_is time_left i (idle (identity p i) c.role c.steady S s_low s_high up) (led (identity p i) c.role c.steady S s_low s_high up)
         (λ h low high. stays_up (identity p i) c.role c.steady S s_low s_high up (after_events S s_low) h low high) stays
       where
@@ -222,14 +223,14 @@ calm_spans_settle doc near far a e sound calm time one ways end renewed old ends
 
     nobody_never : NobodySucceeds doc near far a e n → ⊥
     nobody_never nobody =
-        never doc near far a e n sound calm time one ways end within old ends (omega (arith, after, up_by)) renewed nobody most_lasts all early p later slow fast lost wait needed c b after
+        never doc near far a e n sound calm time one ways end within old ends (omega (arith, after, up_by)) renewed nobody most_lasts all p later slow fast lost wait needed early c b after
         first up_by lost_by ways_by enough most enough_is most_is (omega arith)
 
 pub settling_is_told : SettlingIsTold
 settling_is_told doc near far a e sound calm time one ways end renewed old ends p later slow fast c some_slow some_fast after most_lasts early all within =
     subst (IsSettled doc near far a e) sum
     (calm_spans_settle doc near far a e sound calm time one ways end renewed old in_beats p later slow fast lost wait needed c
-    (record { lost_is = next_multiple (call_timeout doc p) slow some_slow; wait_is = (rounded_is slow (retry_period doc p) some_slow).0; needed_is = (rounded_is fast (retry_period doc p) some_fast).1 })
+    (record { lost_is = next_multiple (call_timeout doc p) slow some_slow; wait_is = (rounded_is slow (longest_wait doc p) some_slow).0; needed_is = (rounded_is fast (shortest_wait doc p) some_fast).1 })
     after first (omega arith) (omega arith) (omega arith) most_lasts enough most early all (rounded_is slow most_lasts some_slow).0 ((bounds_are_exact (needed + 2 * near) (wait + 2 * far) enough).0 some_step).1 (omega (arith, sum, within)))
   where
     in_beats : AllEndBy doc near far a e old
@@ -241,10 +242,10 @@ settling_is_told doc near far a e sound calm time one ways end renewed old ends 
     lost = call_timeout doc p / slow
 
     wait : ℕ
-    wait = div_ceil (retry_period doc p) slow
+    wait = div_ceil (longest_wait doc p) slow
 
     needed : ℕ
-    needed = div_ceil (retry_period doc p) fast
+    needed = div_ceil (shortest_wait doc p) fast
 
     enough : ℕ
     enough = div_ceil most_lasts slow

@@ -37,36 +37,37 @@ use Rattle.calm_laws.specs.Bounds.{early_record, LastsFor}
 use Rattle.calm_laws.proofs.Changes.{Change, Unwritten, Put, Written, IsWritten, IsStored, stored_as, unchanged, put_stored, early_stored, change_of}
 use Rattle.calm_laws.proofs.Kept.{IsKept}
 use Rattle.calm_laws.proofs.Looks.{object_of}
+use Rattle.takeover_laws.proofs.Waits.{blocked_time, blocked_most}
 use Rattle.settle_laws.specs.Settles.{AllLastFor}
 use Rattle.settle_laws.proofs.Successes.{asked_of}
 
 -- ---- what a controller writes lasts for its lease duration, or is nobody's
 
-lease_lasts : (doc : Doc) (v : View) (q : Identity) (lease : Lease) (time : ℕ) → lease_duration doc q.process ≤ time → Fit doc v q lease → LastsFor time (Some (object.Lease lease))
-lease_lasts doc v q lease time le (inl own) = inr (subst (λ o. of_seconds (or_zero o) ≤ time) (sym own.1) le)
-lease_lasts doc v q lease time le (inr free) = inl free.0
+lease_lasts : (doc : Doc) (p : ℕ) (v : View) (q : Identity) (lease : Lease) (time : ℕ) → lease_duration doc p ≤ time → lease_duration doc q.process ≤ time → Fit doc v q lease → LastsFor doc p time (Some (object.Lease lease))
+lease_lasts doc p v q lease time mine le (inl own) = inr (omega (arith, blocked_time doc p q.process lease own.1, blocked_most doc p q.process time mine le))
+lease_lasts doc p v q lease time mine le (inr free) = inl free.0
 
-done_lasts : (doc : Doc) (v : View) (q : Identity) (lease : Lease) (time : ℕ) (reply : Reply) (r : Request) (o : Option Object) → lease_duration doc q.process ≤ time → Fit doc v q lease
-    → at_key election (request_write r (if_done reply (object.Lease lease))) ≡ Some o → LastsFor time o
-done_lasts doc v q lease time (Done version) r o le fit is = subst (LastsFor time) (by_key (key_eq (key_of r) election) is) (lease_lasts doc v q lease time le fit)
+done_lasts : (doc : Doc) (p : ℕ) (v : View) (q : Identity) (lease : Lease) (time : ℕ) (reply : Reply) (r : Request) (o : Option Object) → lease_duration doc p ≤ time → lease_duration doc q.process ≤ time → Fit doc v q lease
+    → at_key election (request_write r (if_done reply (object.Lease lease))) ≡ Some o → LastsFor doc p time o
+done_lasts doc p v q lease time (Done version) r o mine le fit is = subst (LastsFor doc p time) (by_key (key_eq (key_of r) election) is) (lease_lasts doc p v q lease time mine le fit)
   where
     by_key : (b : Bool) → when b (Some (object.Lease lease)) ≡ Some o → Some (object.Lease lease) ≡ o
     by_key true is = some_is (Some (object.Lease lease)) o is
     by_key false is = absurd (none_is o is)
-done_lasts doc v q lease time Absent r o le fit is = absurd (none_is o is)
-done_lasts doc v q lease time (Found version l) r o le fit is = absurd (none_is o is)
-done_lasts doc v q lease time Exists r o le fit is = absurd (none_is o is)
-done_lasts doc v q lease time (Conflict version) r o le fit is = absurd (none_is o is)
-done_lasts doc v q lease time Unchanged r o le fit is = absurd (none_is o is)
+done_lasts doc p v q lease time Absent r o mine le fit is = absurd (none_is o is)
+done_lasts doc p v q lease time (Found version l) r o mine le fit is = absurd (none_is o is)
+done_lasts doc p v q lease time Exists r o mine le fit is = absurd (none_is o is)
+done_lasts doc p v q lease time (Conflict version) r o mine le fit is = absurd (none_is o is)
+done_lasts doc p v q lease time Unchanged r o mine le fit is = absurd (none_is o is)
 
-written_lasts : (doc : Doc) (v : View) (q : Identity) (time : ℕ) (r : Request) (h : List Entry) (o : Option Object) → lease_duration doc q.process ≤ time → FitRequest doc v q r
-    → at_key election (request_write r (written r h)) ≡ Some o → LastsFor time o
-written_lasts doc v q time (Get key) h o le fit is = absurd (none_is o is)
-written_lasts doc v q time (Create key lease) h o le fit is = done_lasts doc v q lease time (answer (Create key lease) h) (Create key lease) o le fit is
-written_lasts doc v q time (Update key given lease) h o le fit is = done_lasts doc v q lease time (answer (Update key given lease) h) (Update key given lease) o le fit is
-written_lasts doc v q time (PostStatus name status at) h o le fit is = by_written (written (PostStatus name status at) h) is
+written_lasts : (doc : Doc) (p : ℕ) (v : View) (q : Identity) (time : ℕ) (r : Request) (h : List Entry) (o : Option Object) → lease_duration doc p ≤ time → lease_duration doc q.process ≤ time → FitRequest doc v q r
+    → at_key election (request_write r (written r h)) ≡ Some o → LastsFor doc p time o
+written_lasts doc p v q time (Get key) h o mine le fit is = absurd (none_is o is)
+written_lasts doc p v q time (Create key lease) h o mine le fit is = done_lasts doc p v q lease time (answer (Create key lease) h) (Create key lease) o mine le fit is
+written_lasts doc p v q time (Update key given lease) h o mine le fit is = done_lasts doc p v q lease time (answer (Update key given lease) h) (Update key given lease) o mine le fit is
+written_lasts doc p v q time (PostStatus name status at) h o mine le fit is = by_written (written (PostStatus name status at) h) is
   where
-    by_written : (w : Option Object) → at_key election (request_write (PostStatus name status at) w) ≡ Some o → LastsFor time o
+    by_written : (w : Option Object) → at_key election (request_write (PostStatus name status at) w) ≡ Some o → LastsFor doc p time o
     by_written None is = absurd (none_is o is)
     by_written (Some x) is = absurd (none_is o is)
 
@@ -151,10 +152,10 @@ module _ (doc : Doc) (near far a e n : ℕ) (sound : IsSound doc) (calm : IsCalm
             (sym arrives ∙ travels.1 ∙ request_passes doc sound.2 near far who.process f.beat low passes (forces_stand doc sound.2 (suc n) f low asked_at step))
 
     -- what it leaves lasts for no longer than the longest lease duration
-    pub leaves : (most : ℕ) → AllLastFor doc near far a e most → a ≤ w.call.sent → LastsFor most (object_of (stored election (x ∷ T)))
-    leaves most all since =
-        subst (LastsFor most) (sym (stored_as x T w.object (ap (λ d. at_key election (write_of d)) w.fact ∙ w.is)))
-        (written_lasts doc (view (history doc (suc n))) who most w.made.s.call.request T w.object (all who.process w.role (is_steady since))
+    pub leaves : (most : ℕ) → AllLastFor doc near far a e most → (p : ℕ) → lease_duration doc p ≤ most → a ≤ w.call.sent → LastsFor doc p most (object_of (stored election (x ∷ T)))
+    leaves most all p mine since =
+        subst (LastsFor doc p most) (sym (stored_as x T w.object (ap (λ d. at_key election (write_of d)) w.fact ∙ w.is)))
+        (written_lasts doc p (view (history doc (suc n))) who most w.made.s.call.request T w.object mine (all who.process w.role (is_steady since))
         (asked_of doc sound n (omega (arith, within, end)) who w.role f low w.made.s.call w.made.s.arrives asked_at facts.0 facts.1).fit
         (subst (λ (c : Call). at_key election (request_write c.request (written w.made.s.call.request T)) ≡ Some w.object) w.made.call_is (subst (λ o. at_key election (request_write w.call.request o) ≡ Some w.object) w.made.written_is w.is)))
 
@@ -188,22 +189,22 @@ module _ (doc : Doc) (near far a e n : ℕ) (sound : IsSound doc) (calm : IsCalm
 
     -- ---- and how long it lasts
 
-    module _ (most : ℕ) (all : AllLastFor doc near far a e most) (early : LastsFor most (early_record a (history doc (a + far)))) (room : settled + far ≤ n) where
+    module _ (most : ℕ) (all : AllLastFor doc near far a e most) (p : ℕ) (mine : lease_duration doc p ≤ most) (early : LastsFor doc p most (early_record a (history doc (a + far)))) (room : settled + far ≤ n) where
       abbrev Lasts : List Entry → Type 0
-      Lasts h = LastsFor most (object_of (stored election h))
+      Lasts h = LastsFor doc p most (object_of (stored election h))
 
       into : (m : ℕ) → m ≤ settled + far → (h : List Entry) → IsTail h (history doc m) → IsTail h (history doc (suc n))
       into m le h at = tail_trans h (history doc m) (history doc (suc n)) at (later_tail doc m (suc n) (omega (arith, le, room)))
 
       first_more : (x : Entry) (T : List Entry) → IsTail (x ∷ T) (history doc (suc n)) → IsStored a T ⊎ Lasts T → Change doc x T → IsStored a (x ∷ T) ⊎ Lasts (x ∷ T)
       first_more x T at (inl s) (Unwritten u) = inl (unchanged a x T u s)
-      first_more x T at (inr l) (Unwritten u) = inr (subst (λ o. LastsFor most (object_of o)) (sym u.same) l)
+      first_more x T at (inr l) (Unwritten u) = inr (subst (λ o. LastsFor doc p most (object_of o)) (sym u.same) l)
       first_more x T at s (Put p) = inl (put_stored a x T p)
       first_more x T at s (Written w) = by_time (nat_lt w.call.sent a) refl
         where
           by_time : (b : Bool) → nat_lt w.call.sent a ≡ b → IsStored a (x ∷ T) ⊎ Lasts (x ∷ T)
           by_time true before = inl (early_stored doc a x T w before)
-          by_time false since = inr (leaves x T at w most all (ltb-false w.call.sent a since))
+          by_time false since = inr (leaves x T at w most all p mine (ltb-false w.call.sent a since))
 
       first : (h : List Entry) → IsTail h (history doc (a + far)) → IsStored a h ⊎ Lasts h
       first [] at = inl refl
@@ -212,12 +213,12 @@ module _ (doc : Doc) (near far a e n : ℕ) (sound : IsSound doc) (calm : IsCalm
           first_more x T there (first T (tail_trans T (x ∷ T) (history doc (a + far)) (inr (tail_all T)) at)) (change_of doc sound n (omega (arith, within, end)) x T there)
 
       begins : Lasts (history doc (a + far))
-      begins = ⊎_elim (λ s. subst (LastsFor most) (sym s) early) (λ l. l) (first (history doc (a + far)) (tail_all (history doc (a + far))))
+      begins = ⊎_elim (λ s. subst (LastsFor doc p most) (sym s) early) (λ l. l) (first (history doc (a + far)) (tail_all (history doc (a + far))))
 
       then_more : (x : Entry) (T : List Entry) → IsTail (x ∷ T) (history doc (suc n)) → a + far ≤ x.beat → Lasts T → Change doc x T → Lasts (x ∷ T)
-      then_more x T at from l (Unwritten u) = subst (λ o. LastsFor most (object_of o)) (sym u.same) l
+      then_more x T at from l (Unwritten u) = subst (λ o. LastsFor doc p most (object_of o)) (sym u.same) l
       then_more x T at from l (Put p) = absurd (omega (arith, from, p.first, one, ways))
-      then_more x T at from l (Written w) = leaves x T at w most all (sent_since x T at w from)
+      then_more x T at from l (Written w) = leaves x T at w most all p mine (sent_since x T at w from)
 
       goes_on : (h : List Entry) → IsTail (history doc (a + far)) h → IsTail h (history doc (settled + far)) → Lasts h
       goes_on [] low at = subst Lasts low begins
@@ -227,5 +228,5 @@ module _ (doc : Doc) (near far a e n : ℕ) (sound : IsSound doc) (calm : IsCalm
           let beat : a + far ≤ x.beat = (next_above (λ y. a + far ≤ y.beat) (history doc (a + far)) T (history doc (settled + far)) x (from_beat doc (a + far) (settled + far) (omega (arith, ordered))) low at).0 in
           then_more x T there beat (goes_on T low (tail_trans T (x ∷ T) (history doc (settled + far)) (inr (tail_all T)) at)) (change_of doc sound n (omega (arith, within, end)) x T there)
 
-      pub lasts : LastsFor most (object_of (stored election (history doc (settled + far))))
+      pub lasts : LastsFor doc p most (object_of (stored election (history doc (settled + far))))
       lasts = goes_on (history doc (settled + far)) (later_tail doc (a + far) (settled + far) (omega (arith, ordered))) (tail_all (history doc (settled + far)))

@@ -10,6 +10,7 @@ use Rattle.span_laws.specs.Quotients.{most_beats}
 use Rattle.span_laws.specs.Spans.{RunsAtLeast, IsEnough}
 use Rattle.takeover_laws.specs.Acting.{AreInTime}
 use Rattle.takeover_laws.specs.Calm.{IsSteady, IsCalm}
+use Rattle.takeover_laws.specs.Waits.{longest_wait, shortest_wait}
 use Rattle.calm_laws.specs.Bounds.{early_record, LastsFor, IsCandidate, AreBeats}
 use Rattle.stay_laws.specs.Stays.{RenewsInTime, Stays}
 
@@ -50,7 +51,7 @@ CalmSpansSettle =
     → (old : ℕ) → AllEndBy doc near far a e old
     → (p later slow fast lost wait needed : ℕ) → IsCandidate doc near far a e p later slow fast → AreBeats doc p slow fast lost wait needed → old ≤ later
     → (first : ℕ) → later ≤ first → lost + wait ≤ first → (old + 4 * far - 1) + wait ≤ first
-    → (time enough most : ℕ) → LastsFor time (early_record a (history doc (a + far))) → AllLastFor doc near far a e time → IsEnough slow time enough → IsGreatest (needed + 2 * near) (wait + 2 * far) enough most
+    → (time enough most : ℕ) → LastsFor doc p time (early_record a (history doc (a + far))) → AllLastFor doc near far a e time → IsEnough slow time enough → IsGreatest (needed + 2 * near) (wait + 2 * far) enough most
     → a + first + most + 4 * far ≤ e → IsSettled doc near far a e (a + first + most + 4 * far)
 
 -- the same in whole beats, as a program finds it: old is two ways less a beat and the greatest of the quotients of the retry periods and renew
@@ -60,7 +61,7 @@ settle_beats near far later old lost wait needed enough = max later (max lost (o
 
 abbrev pub settle_bound : Doc → (near far p later slow fast old time : ℕ) → ℕ
 settle_bound doc near far p later slow fast old time =
-    settle_beats near far later old (call_timeout doc p / slow) (div_ceil (retry_period doc p) slow) (div_ceil (retry_period doc p) fast) (div_ceil time slow)
+    settle_beats near far later old (call_timeout doc p / slow) (div_ceil (longest_wait doc p) slow) (div_ceil (shortest_wait doc p) fast) (div_ceil time slow)
 
 -- a term without a success by a call of the span is over by then, by the quotient
 pub record EndsInBeats (doc : Doc) (far a e old p : ℕ) : Type 0 where
@@ -77,7 +78,7 @@ Settles doc =
     (near far a e : ℕ) → IsSound doc → IsCalm doc near far a e → AreInTime doc near far a e → 1 ≤ near → near ≤ far → e ≤ end_beat doc → AreRenewed doc near far a e
     → (old : ℕ) → AllEndInBeats doc near far a e old
     → (p later slow fast : ℕ) → IsCandidate doc near far a e p later slow fast → 1 ≤ slow → 1 ≤ fast → old ≤ later
-    → (time : ℕ) → LastsFor time (early_record a (history doc (a + far))) → AllLastFor doc near far a e time
+    → (time : ℕ) → LastsFor doc p time (early_record a (history doc (a + far))) → AllLastFor doc near far a e time
     → a + settle_bound doc near far p later slow fast old time ≤ e → IsSettled doc near far a e (a + settle_bound doc near far p later slow fast old time)
 
 abbrev pub SettlingIsTold : Type 0

@@ -9,8 +9,8 @@ use Rattle.kube_objects.specs.declared.lease.Lease.{Lease}
 use Rattle.kube_objects.specs.declared.object.Object.TheVariants as object
 use Rattle.kube_objects.specs.Answers.{as_kind, lease_in, answer_get, answer, versioned}
 use Rattle.kube_objects.specs.Clocks.{local}
-use Rattle.kube_objects.specs.Document.{Doc, is_controller, retry_period}
-use Rattle.kube_objects.specs.Elector.{Fails, told, shows, shown, observed, leads, follow_on}
+use Rattle.kube_objects.specs.Document.{Doc, is_controller}
+use Rattle.kube_objects.specs.Elector.{Fails, retry_at, told, shows, shown, observed, leads, follow_on}
 use Rattle.kube_objects.specs.Entry.{Entry, Identity, Call, Fact, First, Event, Starts, Stops, Sends, Answers, Delivers, Expires, Leads, Ends, Crashes, Stalls, Ticks, actor_of, entry, StepsDown, ReleaseBegins, ReleaseEnds, ReleaseStops}
 use Rattle.kube_objects.specs.Identities.{is_by, of_process}
 use Rattle.kube_objects.specs.Newest.{when, only_if, has}
@@ -32,6 +32,8 @@ use Rattle.call_laws.proofs.Starting.{actor_is}
 use Rattle.call_laws.proofs.Waiting.{calls_wait}
 use Rattle.takeover_laws.specs.Asking.{HasAsked}
 use Rattle.takeover_laws.specs.Calm.{IsSteady, IsInTime}
+use Rattle.takeover_laws.specs.Waits.{longest_wait, shortest_wait}
+use Rattle.takeover_laws.proofs.Waits.{retry_least}
 use Rattle.takeover_laws.proofs.Asking.{candidates_ask}
 use Rattle.takeover_laws.proofs.Unasked.{Quiet, Asked, quiet_or_asked}
 use Rattle.takeover_laws.proofs.Writers.{since_low}
@@ -171,7 +173,7 @@ module _ (doc : Doc) (rules : IsOwn doc) (near far e : ℕ) (one : 1 ≤ near) (
 
   module _ (n : ℕ) (within : n ≤ e) (unled : (h : List Entry) → IsTail h (history doc (suc n)) → leads c h ≡ false) (idle : (j : ℕ) → j ≤ n → Acts doc c j → ⊥) (alive_n : alive c.process (history doc (suc n)) ≡ Some c.incarnation)
       (slow fast wait needed : ℕ) (runs_least : RunsAtLeast doc c.process 0 e slow) (runs_most : RunsAtMost doc c.process 0 e fast) (some : 1 ≤ wait)
-      (wait_is : IsEnough slow (retry_period doc c.process) wait) (needed_is : IsNeeded fast (retry_period doc c.process) needed) where
+      (wait_is : IsEnough slow (longest_wait doc c.process) wait) (needed_is : IsNeeded fast (shortest_wait doc c.process) needed) where
     pub record IsStep (from to : ℕ) : Type 0 where
       pub least : from + (needed + 2 * near) ≤ to
       pub most : to ≤ from + (wait + 2 * far)
@@ -186,11 +188,14 @@ module _ (doc : Doc) (rules : IsOwn doc) (near far e : ℕ) (one : 1 ≤ near) (
         → follow_on doc c r look.w.kind look.w.request (Found y.version lease) (looked r look.w S) ≡ Fails → IsStep r q
     step r q S Q look later last below none failed = ⊎_elim (λ lt. absurd (too_late lt)) (λ le. by_quiet (quiet_or_asked doc c here due (shown c here) (observed c here) rules (suc n) role unled up G (quiet_low doc rules (suc n) c role unled unstopped r look.w (Found y.version lease) S here_n failed) below_g G_n) le) (cases_lt (r + wait) g.beat)
       where
+        failed_at : Entry
+        failed_at = entry r 3 c (Delivers look.w (Found y.version lease) true)
+
         here : List Entry
         here = looked r look.w S
 
         due : ℕ
-        due = local doc c.process r + retry_period doc c.process
+        due = retry_at false doc c failed_at S
 
         g : Entry
         g = later.o.begun.f
@@ -265,17 +270,17 @@ module _ (doc : Doc) (rules : IsOwn doc) (near far e : ℕ) (one : 1 ≤ near) (
             no_ask r S look G G_t none_g idle_g h.x h.before h.call h.arrives (tail_trans (h.x ∷ h.before) (history doc (suc (r + wait))) G h.position (history_below doc (r + wait) e g G (in_e (g ∷ G) g_t) lt (omega (arith, lt, early, within)))) h.since h.actor h.fact h.get
             (opens_of doc rules n c role unstopped h.x h.before h.call h.arrives (tail_trans (h.x ∷ h.before) (history doc (suc (r + wait))) (history doc (suc n)) h.position (later_tail doc (suc (r + wait)) (suc n) (omega (arith, lt, early)))) h.actor h.fact)
           where
-            h : HasAsked doc c due here (history doc (suc (r + wait)))
+            h : HasAsked doc c (local doc c.process r + shortest_wait doc c.process) here (history doc (suc (r + wait)))
             h =
                 candidates_ask doc rules near far 0 e n r (r + wait) c role time.deadline steady within (λ j from to. idle j to) (omega arith) look.w (Found y.version lease) S
                 (since_low doc 0 n (entry r 3 c (Delivers look.w (Found y.version lease) true)) S here_n (omega arith) (omega arith)) here_n up_s failed (omega (arith, some)) (omega (arith, lt, early))
-                (readings_grow doc c.process 0 e slow (retry_period doc c.process) wait runs_least wait_is r (r + wait) (omega arith) (omega arith) (omega (arith, lt, early, within)))
+                (readings_grow doc c.process 0 e slow (longest_wait doc c.process) wait runs_least wait_is r (r + wait) (omega arith) (omega arith) (omega (arith, lt, early, within)))
 
         by_quiet : Quiet doc c here due (shown c here) (observed c here) G ⊎ Asked doc c here due (shown c here) (observed c here) G → g.beat ≤ r + wait → IsStep r q
         by_quiet (inl still) le =
             let reached : IsReached doc rules (suc n) c role unled unstopped r look.w (Found y.version lease) S here_n failed g later.w =
             first_gets doc rules (suc n) c role unled unstopped r look.w (Found y.version lease) S here_n failed g G later.w later.o.begun.arrives g_n below_g still later.o.begun.fact later.o.begun.actor in
-            let since : r + needed ≤ g.beat = readings_last doc c.process 0 e fast (retry_period doc c.process) needed runs_most needed_is r g.beat (omega arith) order (omega (arith, early, within)) reached.reached in
+            let since : r + needed ≤ g.beat = readings_last doc c.process 0 e fast (shortest_wait doc c.process) needed runs_most needed_is r g.beat (omega arith) order (omega (arith, early, within)) (omega (arith, reached.reached, retry_least doc false refl c failed_at S)) in
             record { least = omega (arith, since, trip.request.least, trip.reply.least); most = omega (arith, le, trip.request.most, trip.reply.most) }
         by_quiet (inr s) le =
             absurd (no_ask r S look G G_t none_g idle_g s.x s.before s.call s.arrives s.position s.since s.actor s.fact

@@ -1,5 +1,5 @@
 -- How long a candidate's looks at another's record take at least until one finds it over.
-use Rattle.std.proofs.Common.{◌≡◌, ◌⊎◌, ◌<◌, ◌≤◌, ℕ, zero, suc, ◌+◌, ◌-◌, ◌*◌, ◌==◌, ◌&&◌, Bool, true, false, cond, List, ◌∷◌, length, Option, Some, None, refl, sym, ap, ◌∙◌, subst, inl, inr, arith}
+use Rattle.std.proofs.Common.{◌≡◌, ◌⊎◌, ◌<◌, ◌≤◌, ℕ, zero, suc, ◌+◌, ◌-◌, ◌*◌, ◌==◌, ◌&&◌, nat_lt, Bool, true, false, cond, List, ◌∷◌, length, Option, Some, None, refl, sym, ap, ◌∙◌, subst, inl, inr, arith}
 use Rattle.std.proofs.Math.Nat.{mul-le-mul_right}
 use Rattle.std.proofs.lemmas.Bool.{ltb-false, eqb-true}
 use Rattle.kube_objects.specs.declared.call.Reply.TheVariants.{Found}
@@ -7,14 +7,13 @@ use Rattle.kube_objects.specs.declared.call.Request.TheVariants.{Update}
 use Rattle.kube_objects.specs.declared.lease.Lease.{Lease}
 use Rattle.kube_objects.specs.declared.object.Object.TheVariants as object
 use Rattle.kube_objects.specs.Clocks.{local}
-use Rattle.kube_objects.specs.Document.{Doc, end_beat, is_controller, of_seconds, retry_period}
-use Rattle.kube_objects.specs.Elector.{Fails, Asks, moment, updated, is_blocked, is_valid, told, Shown, shows, shown, is_known, newly, observed, observed_at, leads, follow, follow_on}
+use Rattle.kube_objects.specs.Document.{Doc, end_beat, is_controller, lease_seconds}
+use Rattle.kube_objects.specs.Elector.{Fails, Asks, moment, updated, respected, is_blocked, told, Shown, shows, shown, is_known, newly, observed, observed_at, leads, follow, follow_on}
 use Rattle.kube_objects.specs.Entry.{Entry, Identity, Call, Fact, Delivers, actor_of, entry}
 use Rattle.kube_objects.specs.Identities.{is_other}
 use Rattle.kube_objects.specs.Newest.{only_if, or_zero}
 use Rattle.kube_objects.specs.Process.{alive}
 use Rattle.kube_objects.specs.Stored.{Held, election, stored}
-use Rattle.kube_objects.proofs.Own.{respected-own}
 use Rattle.history.specs.History.{history}
 use Rattle.history.specs.Safe.{Acts}
 use Rattle.history.specs.Sound.{IsSound}
@@ -27,6 +26,9 @@ use Rattle.span_laws.proofs.Spans.{readings_last}
 use Rattle.call_laws.proofs.Above.{tail_length}
 use Rattle.call_laws.proofs.Making.{MadeAs, MadeDelivery, are_made}
 use Rattle.takeover_laws.specs.Calm.{IsSteady, IsInTime}
+use Rattle.lease_laws.specs.Respects.{respected_time}
+use Rattle.takeover_laws.specs.Waits.{longest_wait, shortest_wait}
+use Rattle.takeover_laws.proofs.Waits.{blocked_is}
 use Rattle.calm_laws.proofs.Origins.{Origin}
 use Rattle.silence_laws.proofs.Chain.{Look, IsStep, step, looked, record_kept, beats_in}
 use Rattle.silence_laws.proofs.Kept.{Kept}
@@ -42,7 +44,7 @@ module _ (doc : Doc) (near far e : ℕ) (sound : IsSound doc) (end : e ≤ end_b
     (T : List Entry) (at : IsTail T (history doc (suc e))) (y : Held) (is : stored election T ≡ Some y) (lease : Lease) (object_is : y.object ≡ object.Lease lease) (foreign : y.by ≡ Some c → ⊥) (other : is_other c lease.holder ≡ true)
     (n : ℕ) (within : n ≤ e) (unled : (h : List Entry) → IsTail h (history doc (suc n)) → leads c h ≡ false) (idle : (j : ℕ) → j ≤ n → Acts doc c j → ⊥) (alive_n : alive c.process (history doc (suc n)) ≡ Some c.incarnation)
     (slow fast wait needed : ℕ) (runs_least : RunsAtLeast doc c.process 0 e slow) (runs_most : RunsAtMost doc c.process 0 e fast) (some : 1 ≤ wait)
-    (wait_is : IsEnough slow (retry_period doc c.process) wait) (needed_is : IsNeeded fast (retry_period doc c.process) needed) (lasting : ℕ) (lasting_is : IsNeeded fast (of_seconds (or_zero lease.duration)) lasting) where
+    (wait_is : IsEnough slow (longest_wait doc c.process) wait) (needed_is : IsNeeded fast (shortest_wait doc c.process) needed) (lasting : ℕ) (lasting_is : IsNeeded fast (respected_time doc c.process lease) lasting) where
   abbrev pub Looks : ℕ → List Entry → Type 0
   Looks r S = Look doc sound.2 near far e one ways c role steady time T at y is lease object_is r S
 
@@ -79,8 +81,12 @@ module _ (doc : Doc) (near far e : ℕ) (sound : IsSound doc) (end : e ≤ end_b
     upto : first_of r S look ≤ r
     either : Steps (first_of r S look) r ⊎ Lasts (r - first_of r S look)
 
+  -- whether it blocks a look
+  abbrev pub Blocks : (r : ℕ) (S : List Entry) → Looks r S → Bool
+  Blocks r S look = is_blocked c (local doc c.process r) (observed_at doc c (at_look r look.w S)) (respected doc.settings.rules.respect (lease_seconds doc c.process) lease)
+
   -- a look that finds it over
-  over_at : (r : ℕ) (S : List Entry) (look : Looks r S) → Steps (first_of r S look) r → is_blocked c (local doc c.process r) (observed_at doc c (at_look r look.w S)) lease ≡ false → Lasts (r - first_of r S look)
+  over_at : (r : ℕ) (S : List Entry) (look : Looks r S) → Steps (first_of r S look) r → Blocks r S look ≡ false → Lasts (r - first_of r S look)
   over_at r S look s free = (enough, λ steps steps_is. omega (arith, counted steps steps_is))
     where
       o : ℕ
@@ -89,11 +95,13 @@ module _ (doc : Doc) (near far e : ℕ) (sound : IsSound doc) (end : e ≤ end_b
       later : o ≤ r
       later = omega (arith, s.least)
 
-      over : local doc c.process o + of_seconds (or_zero lease.duration) ≤ local doc c.process r
-      over = ltb-false (local doc c.process r) (local doc c.process o + of_seconds (or_zero lease.duration)) (sym (ap (λ b. b && is_valid (local doc c.process r) (observed_at doc c (at_look r look.w S)) lease) other) ∙ free)
+      over : local doc c.process o + respected_time doc c.process lease ≤ local doc c.process r
+      over =
+          ltb-false (local doc c.process r) (local doc c.process o + respected_time doc c.process lease)
+          (sym (ap (λ b. b && nat_lt (local doc c.process r) (local doc c.process o + respected_time doc c.process lease)) other) ∙ sym (blocked_is doc c.process c (local doc c.process r) (local doc c.process o) lease) ∙ free)
 
       enough : lasting ≤ r - o
-      enough = omega (arith, readings_last doc c.process 0 e fast (of_seconds (or_zero lease.duration)) lasting runs_most lasting_is o r (omega arith) later (beats_in doc sound.2 near far e one ways c role steady time T at y is lease object_is _ S look.position) over)
+      enough = omega (arith, readings_last doc c.process 0 e fast (respected_time doc c.process lease) lasting runs_most lasting_is o r (omega arith) later (beats_in doc sound.2 near far e one ways c role steady time T at y is lease object_is _ S look.position) over)
 
       counted : (steps : ℕ) → IsNeeded (wait + 2 * far) lasting steps → steps * (needed + 2 * near) ≤ r - o
       counted steps steps_is =
@@ -193,12 +201,11 @@ module _ (doc : Doc) (near far e : ℕ) (sound : IsSound doc) (end : e ≤ end_b
           later s = longer (b.r - o) (r - o) (omega (arith, order)) s
 
           blocked : Bool
-          blocked = is_blocked c (local doc c.process b.r) (observed_at doc c (at_look b.r b.look.w b.low)) lease
+          blocked = Blocks b.r b.low b.look
 
           follows : follow_on doc c b.r b.look.w.kind b.look.w.request (Found y.version lease) (at_look b.r b.look.w b.low) ≡ cond blocked Fails (Asks (Update election y.version (updated c (moment doc c b.r) lease)))
           follows =
               ap (λ request. follow c (moment doc c b.r) (observed_at doc c (at_look b.r b.look.w b.low)) b.look.w.kind request (Found y.version lease)) b.look.get
-              ∙ ap (λ l. cond (is_blocked c (local doc c.process b.r) (observed_at doc c (at_look b.r b.look.w b.low)) l) Fails (Asks (Update election y.version (updated c (moment doc c b.r) lease)))) (respected-own doc sound.2 c b.r lease)
 
           by_test : (t : Bool) → blocked ≡ t → Steps o b.r → Steps o r ⊎ Lasts (r - o)
           by_test false free s = inr (later (over_at b.r b.low b.look s free))
@@ -245,7 +252,7 @@ module _ (doc : Doc) (near far e : ℕ) (sound : IsSound doc) (end : e ≤ end_b
     pub upto : first ≤ r
     pub lasts : IsAtLeast (needed + 2 * near) (wait + 2 * far) lasting (r - first)
 
-  pub found_over : (r : ℕ) (S : List Entry) (look : Looks r S) → r ≤ suc n → is_blocked c (local doc c.process r) (observed_at doc c (at_look r look.w S)) lease ≡ false → IsOver r
+  pub found_over : (r : ℕ) (S : List Entry) (look : Looks r S) → r ≤ suc n → Blocks r S look ≡ false → IsOver r
   found_over r S look to free = record { first = first_of r S look; late = past.first; upto = past.upto; lasts = by_past past.either }
     where
       past : Outcome r S look

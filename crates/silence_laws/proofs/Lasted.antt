@@ -3,8 +3,8 @@ use Rattle.std.proofs.Common.{◌≡◌, ◌<◌, ◌≤◌, ℕ, zero, suc, ◌
 use Rattle.std.proofs.lemmas.Bool.{cases_lt}
 use Rattle.kube_objects.specs.declared.call.Reply.TheVariants.{Done, Found}
 use Rattle.kube_objects.specs.Clocks.{local}
-use Rattle.kube_objects.specs.Document.{Doc, of_seconds, lease_duration, retry_period}
-use Rattle.kube_objects.specs.Elector.{leads, deadline, is_before, is_blocked, observed_at}
+use Rattle.kube_objects.specs.Document.{Doc, lease_seconds}
+use Rattle.kube_objects.specs.Elector.{leads, deadline, is_before, is_blocked, respected, observed_at}
 use Rattle.kube_objects.specs.Entry.{Entry, Identity, Stops, Ends, Delivers, entry}
 use Rattle.kube_objects.specs.Identities.{of_process}
 use Rattle.kube_objects.specs.Newest.{join, has, or_zero}
@@ -18,6 +18,9 @@ use Rattle.history_laws.proofs.Plainly.{upper, none_is, true_is, false_is, and_r
 use Rattle.history_laws.proofs.Tailed.{tail_all, tail_trans, later_tail, turn_tail, before_turn}
 use Rattle.lease_laws.proofs.Claims.{is_holder, same_holder, term_of}
 use Rattle.lease_laws.proofs.Premises.{premise_from}
+use Rattle.lease_laws.specs.Respects.{respected_time}
+use Rattle.takeover_laws.specs.Waits.{longest_wait, blocked_for}
+use Rattle.takeover_laws.proofs.Waits.{blocked_time}
 use Rattle.span_laws.specs.Spans.{IsNeeded}
 use Rattle.call_laws.proofs.Above.{place_of, in_head}
 use Rattle.call_laws.proofs.Making.{MadeAs, MadeEnd, are_made}
@@ -260,21 +263,21 @@ module _ (doc : Doc) (near far b e : ℕ) (q : Identity) (l : LeadsUntil doc nea
   way : IsWay near far d f.x.beat
   way = request_way doc s.sound.2 near far e p won.role passing won.f won.low won.call f.x.beat asked won.f_actor won.f_fact (opens_of doc s.sound.2 e p won.role unstopped won.f won.low won.call (Some f.x.beat) asked won.f_actor won.f_fact)
 
-  pub taken_late : (least : ℕ) → TakesAtLeast doc near far e p.process (lease_duration doc q.process) least → mine.y.beat + least + 2 * near ≤ f.x.beat
+  pub taken_late : (least : ℕ) → TakesAtLeast doc near far e p.process (blocked_for doc p.process q.process) least → mine.y.beat + least + 2 * near ≤ f.x.beat
   taken_late least t = omega (arith, over.late, over.upto, t.least_is (d - over.first) over.lasts, way.least)
     where
       some : 1 ≤ t.wait
       some = by_wait t.wait t.wait_is
         where
-          by_wait : (j : ℕ) → retry_period doc p.process ≤ j * t.slow → 1 ≤ j
+          by_wait : (j : ℕ) → longest_wait doc p.process ≤ j * t.slow → 1 ≤ j
           by_wait zero le = absurd (omega (arith, le, s.waits p.process won.role))
           by_wait (suc j) le = omega arith
 
-      lasting_is : IsNeeded t.fast (of_seconds (or_zero mine.lease.duration)) t.lasting
-      lasting_is = subst (λ o. IsNeeded t.fast (of_seconds (or_zero o)) t.lasting) (sym mine.duration) t.lasting_is
+      lasting_is : IsNeeded t.fast (respected_time doc p.process mine.lease) t.lasting
+      lasting_is = subst (λ time. IsNeeded t.fast time t.lasting) (sym (blocked_time doc p.process q.process mine.lease mine.duration)) t.lasting_is
 
-      free : is_blocked p (local doc p.process d) (observed_at doc p (entry d 3 p (Delivers L.look.w (Found mine.y.version mine.lease) true) ∷ L.S)) mine.lease ≡ false
-      free = subst (λ h. is_blocked p (local doc p.process d) (observed_at doc p h) mine.lease ≡ false) L.low L.free
+      free : is_blocked p (local doc p.process d) (observed_at doc p (entry d 3 p (Delivers L.look.w (Found mine.y.version mine.lease) true) ∷ L.S)) (respected doc.settings.rules.respect (lease_seconds doc p.process) mine.lease) ≡ false
+      free = subst (λ h. is_blocked p (local doc p.process d) (observed_at doc p h) (respected doc.settings.rules.respect (lease_seconds doc p.process) mine.lease) ≡ false) L.low L.free
 
       over : IsOver doc near far e s.sound s.end s.one s.ways p won.role passing (time doc near far b e q l s H H_e quiet f) f.before (low_e doc near far b e q l s H H_e quiet f) mine.y mine.top mine.lease mine.object (foreign doc near far b e q l s H H_e quiet f) (others doc near far b e q l s H H_e quiet f) n n_e unled idle alive_n t.slow t.fast t.wait t.needed t.runs_least t.runs_most some t.wait_is t.needed_is t.lasting lasting_is d
       over = found_over doc near far e s.sound s.end s.one s.ways p won.role passing (time doc near far b e q l s H H_e quiet f) f.before (low_e doc near far b e q l s H H_e quiet f) mine.y mine.top mine.lease mine.object (foreign doc near far b e q l s H H_e quiet f) (others doc near far b e q l s H H_e quiet f) n n_e unled idle alive_n t.slow t.fast t.wait t.needed t.runs_least t.runs_most some t.wait_is t.needed_is t.lasting lasting_is d L.S L.look (omega (arith, d_is)) free

@@ -1,7 +1,7 @@
 -- For how long nobody else comes to lead after a leader has fallen silent.
 use Rattle.std.proofs.Common.{◌≡◌, ◌<◌, ◌≤◌, ℕ, suc, ◌+◌, ◌-◌, ◌*◌, true, ◌∷◌, Some, refl, sym, ap, ◌∙◌, inl, inr, ⊎_elim, arith}
 use Rattle.std.specs.Int.{div_ceil}
-use Rattle.kube_objects.specs.Document.{Doc, is_controller, lease_duration, retry_period}
+use Rattle.kube_objects.specs.Document.{Doc, is_controller}
 use Rattle.kube_objects.specs.Entry.{Entry, Identity, Stops, actor_of}
 use Rattle.kube_objects.specs.Identities.{of_process}
 use Rattle.kube_objects.specs.Newest.{has}
@@ -9,6 +9,7 @@ use Rattle.kube_objects.specs.Stored.{election, at_key, write_of}
 use Rattle.history.specs.History.{history}
 use Rattle.history_laws.specs.Tails.{In, IsTail}
 use Rattle.history_laws.proofs.Tailed.{tail_all, tail_trans, later_tail, same_head}
+use Rattle.takeover_laws.specs.Waits.{longest_wait, shortest_wait, blocked_for}
 use Rattle.call_laws.proofs.Placing.{in_own_beat}
 use Rattle.call_laws.proofs.Starting.{actor_is}
 use Rattle.takeover_laws.specs.Calm.{IsSteady, IsQuiet}
@@ -135,7 +136,7 @@ module _ (doc : Doc) (near far b e : ℕ) (q : Identity) (l : LeadsUntil doc nea
 
   -- ---- the number of beats
 
-  pub lasts : (least : ℕ) → ((p : ℕ) → is_controller doc p ≡ true → (p ≡ q.process → ⊥) → TakesAtLeast doc near far e p (lease_duration doc q.process) least) → b + least + 3 * near ≤ k + s.renews.wait + last_renewal doc far
+  pub lasts : (least : ℕ) → ((p : ℕ) → is_controller doc p ≡ true → (p ≡ q.process → ⊥) → TakesAtLeast doc near far e p (blocked_for doc p q.process) least) → b + least + 3 * near ≤ k + s.renews.wait + last_renewal doc far
   lasts least takes =
       omega (
         arith,
@@ -160,19 +161,19 @@ silences_are_told doc near far b e q l s alone quiet slow fast runs least bound 
     some_beats : 1 ≤ e
     some_beats = omega (arith, l.long, l.within, s.one, s.ways)
 
-    takes : (p : ℕ) → is_controller doc p ≡ true → (p ≡ q.process → ⊥) → TakesAtLeast doc near far e p (lease_duration doc q.process) least
+    takes : (p : ℕ) → is_controller doc p ≡ true → (p ≡ q.process → ⊥) → TakesAtLeast doc near far e p (blocked_for doc p q.process) least
     takes p role other = record {
       slow = slow p;
       fast = fast p;
-      wait = div_ceil (retry_period doc p) (slow p);
-      needed = div_ceil (retry_period doc p) (fast p);
-      lasting = div_ceil (lease_duration doc q.process) (fast p);
+      wait = div_ceil (longest_wait doc p) (slow p);
+      needed = div_ceil (shortest_wait doc p) (fast p);
+      lasting = div_ceil (blocked_for doc p q.process) (fast p);
       runs_least = within.least;
       runs_most = within.most;
-      wait_is = (rounded_is (slow p) (retry_period doc p) within.some).0;
-      needed_is = (rounded_is (fast p) (retry_period doc p) some_fast).1;
-      lasting_is = (rounded_is (fast p) (lease_duration doc q.process) some_fast).1;
-      least_is = λ beats is. omega (arith, bound p role other, ((bounds_are_exact (div_ceil (retry_period doc p) (fast p) + 2 * near) (div_ceil (retry_period doc p) (slow p) + 2 * far) (div_ceil (lease_duration doc q.process) (fast p))).1 (omega (arith, s.one, s.ways))).1 beats is);
+      wait_is = (rounded_is (slow p) (longest_wait doc p) within.some).0;
+      needed_is = (rounded_is (fast p) (shortest_wait doc p) some_fast).1;
+      lasting_is = (rounded_is (fast p) (blocked_for doc p q.process) some_fast).1;
+      least_is = λ beats is. omega (arith, bound p role other, ((bounds_are_exact (div_ceil (shortest_wait doc p) (fast p) + 2 * near) (div_ceil (longest_wait doc p) (slow p) + 2 * far) (div_ceil (blocked_for doc p q.process) (fast p))).1 (omega (arith, s.one, s.ways))).1 beats is);
     }
       where
         within : RunsWithin doc e p (slow p) (fast p)

@@ -24,6 +24,7 @@ use Rattle.history_laws.specs.Tails.{In, IsTail}
 use Rattle.history_laws.proofs.Counting.{present_is}
 use Rattle.history_laws.proofs.Plainly.{some_is, none_is, false_is, and_left}
 use Rattle.history_laws.proofs.Tailed.{tail_all, tail_trans, tails_meet, later_tail, turn_tail, before_turn, same_head}
+use Rattle.takeover_laws.proofs.Waits.{some_period}
 use Rattle.call_laws.proofs.Once.{answers_differ}
 use Rattle.call_laws.proofs.Placing.{in_own_beat}
 use Rattle.call_laws.proofs.Starting.{actor_is}
@@ -126,7 +127,7 @@ module _ (doc : Doc) (near far b e : ℕ) (q : Identity) (l : LeadsUntil doc nea
     some_wait = by_wait s.renews.wait s.renews.wait_is
       where
         by_wait : (j : ℕ) → retry_period doc q.process ≤ j * s.renews.slow → 1 ≤ j
-        by_wait zero le = absurd (omega (arith, le, s.waits q.process l.role))
+        by_wait zero le = absurd (omega (arith, le, some_period doc q.process (s.waits q.process l.role)))
         by_wait (suc j) le = omega arith
 
     asked_a : IsTail (w.f ∷ w.low) (history doc (suc (b - 1)))

@@ -496,7 +496,7 @@ module _ (doc : Doc) (near far b e : ℕ) (q : Identity) (l : LeadsUntil doc nea
 
           free : IsFree made.q (moment doc made.q w.f.beat) (observed_at doc made.q w.low) p.reply update.version
           free =
-              get_free made.q (moment doc made.q w.f.beat) (ap (λ r. r.respect) s.sound.2.rules) (observed_at doc made.q w.low) p.reply update.version update.lease
+              get_free made.q (moment doc made.q w.f.beat) (observed_at doc made.q w.low) p.reply update.version update.lease
               (ap (λ request. follow made.q (moment doc made.q w.f.beat) (observed_at doc made.q w.low) p.waiting.kind request p.reply) (sym get.1) ∙ p.follows ∙ ap Asks request_made)
 
           low_is : w.low ≡ entry w.f.beat 3 r (Delivers p.waiting p.reply true) ∷ p.before

@@ -31,6 +31,8 @@ use Rattle.history_laws.proofs.Order.{entries_are_earlier}
 use Rattle.history_laws.proofs.Plainly.{upper, some_is, none_is, false_is, and_both, same_self}
 use Rattle.history_laws.proofs.Tailed.{tail_all, tail_trans, later_tail}
 use Rattle.lease_laws.proofs.EachKind.{top_stays}
+use Rattle.takeover_laws.specs.Waits.{blocked_for}
+use Rattle.takeover_laws.proofs.Waits.{own_blocked}
 use Rattle.span_laws.proofs.Spans.{goes_most}
 use Rattle.call_laws.specs.Answering.{with_events, IsAnswered}
 use Rattle.call_laws.proofs.Above.{in_head}
@@ -459,7 +461,7 @@ module _ (doc : Doc) (near far b e : ℕ) (q : Identity) (l : LeadsUntil doc nea
 
               by_test : (t : Bool) → nat_lt (local doc q.process x) (observed_at doc q h + of_seconds (or_zero lease.duration)) ≡ t → t ≡ true
               by_test true is = refl
-              by_test false is = absurd (omega (arith, ltb-false (local doc q.process x) (observed_at doc q h + of_seconds (or_zero lease.duration)) is, lasts, goes, short, s.lasts))
+              by_test false is = absurd (omega (arith, ltb-false (local doc q.process x) (observed_at doc q h + of_seconds (or_zero lease.duration)) is, lasts, goes, short, s.lasts q.process l.role, own_blocked doc q.process))
 
           asked : tried.call.request ≡ Update election own.y.version (renewed q (moment doc q x) lease)
           asked = tried.request ∙ attempt_fast doc q x h hs.version lease quick led tried.idle.shown_is mine valid ∙ ap (λ v. Update election v (renewed q (moment doc q x) lease)) (sym given)

@@ -12,7 +12,7 @@ use Rattle.kube_objects.specs.declared.lease.Holder.{Holder}
 use Rattle.kube_objects.specs.declared.lease.Holder.TheVariants as holder
 use Rattle.kube_objects.specs.Answers.{answer_create, answer_update, answer}
 use Rattle.kube_objects.specs.Clocks.{local}
-use Rattle.kube_objects.specs.Document.{Doc, is_controller}
+use Rattle.kube_objects.specs.Document.{Doc, is_controller, lease_seconds}
 use Rattle.kube_objects.specs.Elector.{Moment, moment, Fails, Asks, Shown, told, shown, is_done, succeeds, updated, renewed, created, is_blocked, is_valid, observed_at, leads, follow_get, follow, attempt_from, attempt, respected}
 use Rattle.kube_objects.specs.Entry.{Entry, Identity, Call, CallKind, Plain, Fast, Fact, First, Event, Starts, Stops, Sends, Answers, Delivers, Expires, Leads, Ends, Crashes, Stalls, Ticks, actor_of, entry, StepsDown, ReleaseBegins, ReleaseEnds, ReleaseStops}
 use Rattle.kube_objects.specs.Identities.{is_by, is_own, is_other, is_same}
@@ -20,7 +20,6 @@ use Rattle.kube_objects.specs.Newest.{newest, when, join, has}
 use Rattle.kube_objects.specs.Process.{alive, call_in}
 use Rattle.kube_objects.specs.Stored.{Held, election, key_of, stored, next_version}
 use Rattle.kube_objects.specs.Turns.{expired_in, just_expired, is_fast_call}
-use Rattle.kube_objects.specs.declared.rules.RespectRule.TheVariants.{Record}
 use Rattle.history.specs.History.{history}
 use Rattle.history_laws.specs.Tails.{In, IsTail}
 use Rattle.history_laws.proofs.Plainly.{upper, some_is, none_is, false_is, and_left}
@@ -127,28 +126,25 @@ accepted_update (Update key v l) reply h y key_is answered top so =
 pub record IsFree (q : Identity) (m : Moment) (seen : ℕ) (reply : Reply) (version : Version) : Type 0 where
   pub lease : Lease
   pub found : reply ≡ Found version lease
-  pub free : is_blocked q m.now seen lease ≡ false
+  pub free : is_blocked q m.now seen (respected m.respect m.seconds lease) ≡ false
 
-pub get_free : (q : Identity) (m : Moment) → m.respect ≡ Record → (seen : ℕ) (reply : Reply) (version : Version) (lease : Lease) → follow_get q m seen reply ≡ Asks (Update election version lease) → IsFree q m seen reply version
-get_free q m rule seen Absent version lease is = absurd (create_not (asks_same (Create election (created q m)) (Update election version lease) is))
+pub get_free : (q : Identity) (m : Moment) (seen : ℕ) (reply : Reply) (version : Version) (lease : Lease) → follow_get q m seen reply ≡ Asks (Update election version lease) → IsFree q m seen reply version
+get_free q m seen Absent version lease is = absurd (create_not (asks_same (Create election (created q m)) (Update election version lease) is))
   where
     create_not : Create election (created q m) ≡ Update election version lease → ⊥
     create_not is = cc
-get_free q m rule seen (Found v l) version lease is = by_test (is_blocked q m.now seen (respected m.respect m.seconds l)) refl is
+get_free q m seen (Found v l) version lease is = by_test (is_blocked q m.now seen (respected m.respect m.seconds l)) refl is
   where
     version_is : Update election v (updated q m l) ≡ Update election version lease → v ≡ version
     version_is is = cc
 
-    so : is_blocked q m.now seen (respected m.respect m.seconds l) ≡ is_blocked q m.now seen l
-    so = ap (λ r. is_blocked q m.now seen (respected r m.seconds l)) rule
-
     by_test : (b : Bool) → is_blocked q m.now seen (respected m.respect m.seconds l) ≡ b → cond b Fails (Asks (Update election v (updated q m l))) ≡ Asks (Update election version lease) → IsFree q m seen (Found v l) version
     by_test true blocks is = absurd (fails_not (Update election version lease) is)
-    by_test false free is = record { lease = l; found = ap (λ v. Found v l) (version_is (asks_same (Update election v (updated q m l)) (Update election version lease) is)); free = sym so ∙ free }
-get_free q m rule seen (Done v) version lease is = absurd (fails_not (Update election version lease) is)
-get_free q m rule seen Exists version lease is = absurd (fails_not (Update election version lease) is)
-get_free q m rule seen (Conflict v) version lease is = absurd (fails_not (Update election version lease) is)
-get_free q m rule seen Unchanged version lease is = absurd (fails_not (Update election version lease) is)
+    by_test false free is = record { lease = l; found = ap (λ v. Found v l) (version_is (asks_same (Update election v (updated q m l)) (Update election version lease) is)); free = free }
+get_free q m seen (Done v) version lease is = absurd (fails_not (Update election version lease) is)
+get_free q m seen Exists version lease is = absurd (fails_not (Update election version lease) is)
+get_free q m seen (Conflict v) version lease is = absurd (fails_not (Update election version lease) is)
+get_free q m seen Unchanged version lease is = absurd (fails_not (Update election version lease) is)
 
 -- an attempt that is an update is on an own record that was shown
 record IsOwnShown (q : Identity) (h : List Entry) (version : Version) : Type 0 where
@@ -258,7 +254,7 @@ module _ (doc : Doc) (near far b e : ℕ) (q : Identity) (l : LeadsUntil doc nea
   pub record LastLook : Type 0 where
     pub S : List Entry
     pub look : Look doc s.sound.2 near far e s.one s.ways c w.role steady time f.before low_e own.y own.top own.lease own.object w.f.beat S
-    pub free : is_blocked c (local doc c.process w.f.beat) (observed_at doc c w.low) own.lease ≡ false
+    pub free : is_blocked c (local doc c.process w.f.beat) (observed_at doc c w.low) (respected doc.settings.rules.respect (lease_seconds doc c.process) own.lease) ≡ false
     pub low : w.low ≡ entry w.f.beat 3 c (Delivers look.w (Found own.y.version own.lease) true) ∷ S
 
   -- not in its turn
@@ -303,7 +299,7 @@ module _ (doc : Doc) (near far b e : ℕ) (q : Identity) (l : LeadsUntil doc nea
 
       free : IsFree made.q (moment doc made.q w.f.beat) (observed_at doc made.q w.low) r.reply update.version
       free =
-          get_free made.q (moment doc made.q w.f.beat) (ap (λ r. r.respect) s.sound.2.rules) (observed_at doc made.q w.low) r.reply update.version update.lease
+          get_free made.q (moment doc made.q w.f.beat) (observed_at doc made.q w.low) r.reply update.version update.lease
           (ap (λ request. follow made.q (moment doc made.q w.f.beat) (observed_at doc made.q w.low) r.waiting.kind request r.reply) (sym get.1) ∙ r.follows ∙ ap Asks request_made)
 
       d : Entry
@@ -336,10 +332,10 @@ module _ (doc : Doc) (near far b e : ℕ) (q : Identity) (l : LeadsUntil doc nea
       lease_is : free.lease ≡ own.lease
       lease_is = found_lease update.version own.y.version free.lease own.lease (sym free.found ∙ it.reply_is)
 
-      free_c : is_blocked c (local doc c.process w.f.beat) (observed_at doc c w.low) own.lease ≡ false
+      free_c : is_blocked c (local doc c.process w.f.beat) (observed_at doc c w.low) (respected doc.settings.rules.respect (lease_seconds doc c.process) own.lease) ≡ false
       free_c =
-          subst (λ (p : Identity). is_blocked p (local doc p.process w.f.beat) (observed_at doc p w.low) own.lease ≡ false) whose
-          (subst (λ lease. is_blocked made.q (local doc made.q.process w.f.beat) (observed_at doc made.q w.low) lease ≡ false) lease_is free.free)
+          subst (λ (p : Identity). is_blocked p (local doc p.process w.f.beat) (observed_at doc p w.low) (respected doc.settings.rules.respect (lease_seconds doc p.process) own.lease) ≡ false) whose
+          (subst (λ lease. is_blocked made.q (local doc made.q.process w.f.beat) (observed_at doc made.q w.low) (respected doc.settings.rules.respect (lease_seconds doc made.q.process) lease) ≡ false) lease_is free.free)
 
   pub last_look : LastLook
   last_look = by_step made.step_is

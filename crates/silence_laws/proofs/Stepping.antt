@@ -4,8 +4,8 @@ use Rattle.std.proofs.lemmas.Bool.{ltb-false, eq-eqb}
 use Rattle.kube_objects.specs.declared.call.Reply.{Reply}
 use Rattle.kube_objects.specs.declared.call.Request.TheVariants.{Get}
 use Rattle.kube_objects.specs.Clocks.{local}
-use Rattle.kube_objects.specs.Document.{Doc, is_controller, retry_period}
-use Rattle.kube_objects.specs.Elector.{Follow, Fails, shown, observed, leads, follow_on, timer_follow, timer_says}
+use Rattle.kube_objects.specs.Document.{Doc, is_controller}
+use Rattle.kube_objects.specs.Elector.{Follow, Fails, retry_at, shown, observed, leads, follow_on, timer_follow, timer_says}
 use Rattle.kube_objects.specs.Entry.{Entry, Identity, Call, Stops, Sends, Delivers, actor_of, entry}
 use Rattle.kube_objects.specs.Identities.{is_by, of_process}
 use Rattle.kube_objects.specs.Newest.{newest, when, only_if, join, has, or_zero}
@@ -13,7 +13,6 @@ use Rattle.kube_objects.specs.Process.{alive, last_call, call_in}
 use Rattle.kube_objects.specs.Stored.{election}
 use Rattle.kube_objects.specs.Turns.{expired_in, is_fast_call}
 use Rattle.kube_objects.specs.Own.{IsOwn}
-use Rattle.kube_objects.proofs.Own.{retry_at-own}
 use Rattle.history.specs.History.{history}
 use Rattle.history_laws.specs.Tails.{In, IsTail}
 use Rattle.history_laws.proofs.Plainly.{upper, false_is, same_self}
@@ -42,7 +41,7 @@ module _ (doc : Doc) (rules : IsOwn doc) (m : ℕ) (q : Identity) (role : is_con
   low = failure ∷ S
 
   abbrev pub due_at : ℕ
-  due_at = local doc q.process r + retry_period doc q.process
+  due_at = retry_at false doc q failure S
 
   abbrev pub Still : List Entry → Type 0
   Still h = Quiet doc q low due_at (shown q low) (observed q low) h
@@ -53,7 +52,7 @@ module _ (doc : Doc) (rules : IsOwn doc) (m : ℕ) (q : Identity) (role : is_con
     timer_is =
         ap (λ b. or_zero (upper (only_if b (timer_follow doc q failure S (leads q S) (follow_on doc q r w.kind w.request reply low))) (newest (λ e T. timer_says doc q e T e.fact) S))) (same_self q)
         ∙ ap (λ f. or_zero (upper (timer_follow doc q failure S (leads q S) f) (newest (λ e T. timer_says doc q e T e.fact) S))) failed
-        ∙ retry_at-own doc rules (leads q S) q failure S;
+        ∙ ap (λ b. retry_at b doc q failure S) (unled S (tail_trans S low (history doc m) (inr (tail_all S)) stands));
     shown_is = refl;
     seen_is = refl;
     expiry = λ k. ap (λ b. join (upper (when b None) (newest (λ e T. when (is_by q e.actor) (expired_in k e.beat e.fact)) S))) (same_self q);

@@ -17,6 +17,8 @@ use Rattle.history_laws.specs.Tails.{IsTail}
 use Rattle.history_laws.proofs.Plainly.{same_is}
 use Rattle.history_laws.proofs.Tailed.{tail_all, tail_trans, later_tail}
 use Rattle.lease_laws.proofs.Premises.{rates_at_most}
+use Rattle.takeover_laws.specs.Waits.{blocked_for}
+use Rattle.takeover_laws.proofs.Waits.{blocked_time}
 use Rattle.span_laws.proofs.Spans.{goes_most}
 use Rattle.gap_laws.proofs.Waits.{Waited, WaitedFor, Topped, Took, Waits}
 use Rattle.gap_laws.proofs.Histories.{whole_known}
@@ -130,8 +132,8 @@ module _ (doc : Doc) (near far b e : ℕ) (q : Identity) (l : LeadsUntil doc nea
     waited : Waited doc plainly won.who won.call.sent own.y own.lease
     waited = base.1 own.lease own.object other
 
-    over : local doc won.who.process waited.seen + lease_duration doc q.process ≤ local doc won.who.process won.call.sent
-    over = subst (λ o. local doc won.who.process waited.seen + of_seconds (or_zero o) ≤ local doc won.who.process won.call.sent) own.duration waited.over
+    over : local doc won.who.process waited.seen + blocked_for doc won.who.process q.process ≤ local doc won.who.process won.call.sent
+    over = subst (λ t. local doc won.who.process waited.seen + t ≤ local doc won.who.process won.call.sent) (blocked_time doc won.who.process q.process own.lease own.duration) waited.over
 
     f_upto : f.x.beat ≤ e
     f_upto = beat_before doc e f.x f.before (tail_trans (f.x ∷ f.before) H (history doc (suc e)) f.position H_e)
@@ -147,7 +149,7 @@ module _ (doc : Doc) (near far b e : ℕ) (q : Identity) (l : LeadsUntil doc nea
               over,
               goes_most doc won.who.process 0 e s.fastest (s.clocks won.who.process won.role) waited.seen won.call.sent (omega arith) waited.before (omega (arith, took.after.0, f_upto)),
               mul-le-mul_right s.fastest beats,
-              s.lasts,
+              s.lasts won.who.process won.role,
             )
           where
             beats : won.call.sent - waited.seen ≤ s.renews.wait + 5 * far - near

@@ -2,7 +2,7 @@
 use Rattle.std.specs.Int.{div_ceil}
 use Rattle.std.specs.Prelude.{◌≡◌, ◌≤◌, ℕ, suc, ◌+◌, ◌*◌, Bool, true, cond, List, ◌∷◌, Some}
 use Rattle.kube_base.specs.declared.numbers.Version.{Version}
-use Rattle.kube_objects.specs.Document.{Doc, is_controller, lease_duration, retry_period}
+use Rattle.kube_objects.specs.Document.{Doc, is_controller}
 use Rattle.kube_objects.specs.Elector.{lead_says}
 use Rattle.kube_objects.specs.Entry.{Entry, Identity}
 use Rattle.history.specs.History.{history}
@@ -11,6 +11,7 @@ use Rattle.span_laws.specs.Looks.{IsAtLeast}
 use Rattle.span_laws.specs.Quotients.{least_beats}
 use Rattle.span_laws.specs.Spans.{RunsAtLeast, RunsAtMost, IsEnough, IsNeeded}
 use Rattle.takeover_laws.specs.Calm.{IsQuiet}
+use Rattle.takeover_laws.specs.Waits.{longest_wait, shortest_wait, blocked_for}
 use Rattle.silence_laws.specs.Silence.{LeadsUntil, Bears, ActsAlone, IsReleased, IsStopped}
 
 -- an identity other than q comes to lead at beat k, which is b or later
@@ -26,7 +27,7 @@ pub record IsLead (doc : Doc) (b e : ℕ) (q : Identity) (k : ℕ) : Type 0 wher
   pub from : b ≤ k
 
 -- a number of beats that the looks of a candidate take at least until they find a record over that lasts for a time: wait is enough beats for its
--- retry period, needed no more than it needs, and lasting no more than the time needs, on its clock
+-- longest wait, needed no more than its shortest one needs, and lasting no more than the time needs, on its clock
 pub record TakesAtLeast (doc : Doc) (near far e p time least : ℕ) : Type 0 where
   pub slow : ℕ
   pub fast : ℕ
@@ -35,8 +36,8 @@ pub record TakesAtLeast (doc : Doc) (near far e p time least : ℕ) : Type 0 whe
   pub lasting : ℕ
   pub runs_least : RunsAtLeast doc p 0 e slow
   pub runs_most : RunsAtMost doc p 0 e fast
-  pub wait_is : IsEnough slow (retry_period doc p) wait
-  pub needed_is : IsNeeded fast (retry_period doc p) needed
+  pub wait_is : IsEnough slow (longest_wait doc p) wait
+  pub needed_is : IsNeeded fast (shortest_wait doc p) needed
   pub lasting_is : IsNeeded fast time lasting
   pub least_is : (beats : ℕ) → IsAtLeast (needed + 2 * near) (wait + 2 * far) lasting beats → least ≤ beats
 
@@ -52,7 +53,7 @@ last_renewal doc far = renewal_ways doc.settings.fast_renew far
 abbrev pub SilenceLasts : Doc → Type 0
 SilenceLasts doc =
     (near far b e : ℕ) (q : Identity) → LeadsUntil doc near far b e q → (s : Bears doc near far b e q) → ActsAlone doc near far b q → IsQuiet doc b e q.process
-    → (least : ℕ) → ((p : ℕ) → is_controller doc p ≡ true → (p ≡ q.process → ⊥) → TakesAtLeast doc near far e p (lease_duration doc q.process) least)
+    → (least : ℕ) → ((p : ℕ) → is_controller doc p ≡ true → (p ≡ q.process → ⊥) → TakesAtLeast doc near far e p (blocked_for doc p q.process) least)
     → (k : ℕ) → IsLead doc b e q k → b + least + 3 * near ≤ k + s.renews.wait + last_renewal doc far
 
 abbrev pub SilencesLast : Type 0
@@ -68,13 +69,13 @@ pub record RunsWithin (doc : Doc) (e p slow fast : ℕ) : Type 0 where
   pub most : RunsAtMost doc p 0 e fast
 
 abbrev pub takes_least : Doc → (near far p slow fast time : ℕ) → ℕ
-takes_least doc near far p slow fast time = takes_beats near far (div_ceil (retry_period doc p) fast) (div_ceil (retry_period doc p) slow) (div_ceil time fast)
+takes_least doc near far p slow fast time = takes_beats near far (div_ceil (shortest_wait doc p) fast) (div_ceil (longest_wait doc p) slow) (div_ceil time fast)
 
 abbrev pub SilenceIsTold : Doc → Type 0
 SilenceIsTold doc =
     (near far b e : ℕ) (q : Identity) → LeadsUntil doc near far b e q → (s : Bears doc near far b e q) → ActsAlone doc near far b q → IsQuiet doc b e q.process
     → (slow fast : ℕ → ℕ) → ((p : ℕ) → is_controller doc p ≡ true → (p ≡ q.process → ⊥) → RunsWithin doc e p (slow p) (fast p))
-    → (least : ℕ) → ((p : ℕ) → is_controller doc p ≡ true → (p ≡ q.process → ⊥) → least ≤ takes_least doc near far p (slow p) (fast p) (lease_duration doc q.process))
+    → (least : ℕ) → ((p : ℕ) → is_controller doc p ≡ true → (p ≡ q.process → ⊥) → least ≤ takes_least doc near far p (slow p) (fast p) (blocked_for doc p q.process))
     → (k : ℕ) → IsLead doc b e q k → b + least + 3 * near ≤ k + s.renews.wait + last_renewal doc far
 
 abbrev pub SilencesAreTold : Type 0

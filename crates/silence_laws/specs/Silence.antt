@@ -4,7 +4,7 @@ use Rattle.std.specs.Prelude.{◌≡◌, ◌⊎◌, ◌≤◌, ◌<◌, ℕ, suc
 use Rattle.kube_base.specs.declared.numbers.Version.{Version}
 use Rattle.kube_objects.specs.declared.call.Reply.TheVariants.{Done}
 use Rattle.kube_objects.specs.declared.object.Object.{Object}
-use Rattle.kube_objects.specs.Document.{Doc, end_beat, is_controller, lease_duration, retry_period}
+use Rattle.kube_objects.specs.Document.{Doc, end_beat, is_controller}
 use Rattle.kube_objects.specs.Entry.{Entry, Identity, Call, Release, Starts, Stops, Sends, Answers, entry}
 use Rattle.kube_objects.specs.Identities.{of_process}
 use Rattle.kube_objects.specs.Newest.{has}
@@ -16,6 +16,7 @@ use Rattle.history.specs.Sound.{IsSound}
 use Rattle.history_laws.specs.Tails.{In}
 use Rattle.span_laws.specs.Spans.{RunsAtMost}
 use Rattle.takeover_laws.specs.Calm.{IsSteady, IsQuiet, IsInTime, AllBeats}
+use Rattle.takeover_laws.specs.Waits.{longest_wait, blocked_for}
 use Rattle.stay_laws.specs.Stays.{RenewsInTime}
 
 -- a leader in a calm up to the beat before b: it has led for three ways or longer, and its messages pass up to then; those of each other
@@ -35,12 +36,12 @@ pub record Bears (doc : Doc) (near far b e : ℕ) (q : Identity) : Type 0 where
   pub one : 1 ≤ near
   pub ways : near ≤ far
   pub end : e ≤ end_beat doc
-  pub waits : (p : ℕ) → is_controller doc p ≡ true → 1 ≤ retry_period doc p
+  pub waits : (p : ℕ) → is_controller doc p ≡ true → 1 ≤ longest_wait doc p
   pub calls : (p : ℕ) → is_controller doc p ≡ true → IsInTime doc far 0 e p
   pub renews : RenewsInTime doc near far 0 (b - 1) q
   pub fastest : ℕ
   pub clocks : (p : ℕ) → is_controller doc p ≡ true → RunsAtMost doc p 0 e fastest
-  pub lasts : (renews.wait + 5 * far - near) * fastest < lease_duration doc q.process
+  pub lasts : (p : ℕ) → is_controller doc p ≡ true → (renews.wait + 5 * far - near) * fastest < blocked_for doc p q.process
 
 -- each other controller renews in time where it leads, before beat b
 abbrev pub OthersRenewBefore : Doc → (near far b : ℕ) → Identity → Type 0

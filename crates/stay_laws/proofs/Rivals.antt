@@ -32,6 +32,8 @@ use Rattle.call_laws.proofs.Above.{in_head}
 use Rattle.call_laws.proofs.Placing.{forces_stand, messages_travel}
 use Rattle.call_laws.proofs.Starting.{actor_is}
 use Rattle.takeover_laws.specs.Acting.{AreInTime}
+use Rattle.takeover_laws.specs.Waits.{blocked_for}
+use Rattle.takeover_laws.proofs.Waits.{blocked_time}
 use Rattle.takeover_laws.specs.Calm.{Passes, IsSteady, IsQuiet, IsCalm, WritesElection}
 use Rattle.takeover_laws.proofs.Rounds.{sent_is}
 use Rattle.takeover_laws.proofs.Writers.{Sending, sending_of}
@@ -156,8 +158,8 @@ module _ (doc : Doc) (near far a e : ℕ) (sound : IsSound doc) (calm : IsCalm d
       waited : Waited doc plainly w.who w.call.sent own.y own.lease
       waited = base.1 own.lease own.object (ap (is_other w.who) own.holder ∙ ap not (differs (is_same q w.who) refl))
 
-      over : local doc w.who.process waited.seen + lease_duration doc q.process ≤ local doc w.who.process w.call.sent
-      over = subst (λ o. local doc w.who.process waited.seen + of_seconds (or_zero o) ≤ local doc w.who.process w.call.sent) own.duration waited.over
+      over : local doc w.who.process waited.seen + blocked_for doc w.who.process q.process ≤ local doc w.who.process w.call.sent
+      over = subst (λ t. local doc w.who.process waited.seen + t ≤ local doc w.who.process w.call.sent) (blocked_time doc w.who.process q.process own.lease own.duration) waited.over
 
       -- which takes longer
       too_soon : x.beat ≤ own.y.beat + renews.wait + 5 * far → ⊥
@@ -167,7 +169,7 @@ module _ (doc : Doc) (near far a e : ℕ) (sound : IsSound doc) (calm : IsCalm d
             over,
             goes_most doc w.who.process a e renews.fastest (renews.others w.who.process w.role rival_steady) waited.seen w.call.sent (omega (arith, waited.late.0, after, own.since)) waited.before (omega (arith, earlier, x_upto)),
             mul-le-mul_right renews.fastest beats,
-            renews.lasts,
+            renews.lasts w.who.process w.role rival_steady,
           )
         where
           beats : w.call.sent - waited.seen ≤ renews.wait + 5 * far - near

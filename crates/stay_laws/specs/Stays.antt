@@ -3,7 +3,7 @@
 use Rattle.std.specs.Prelude.{◌≡◌, ◌≤◌, ◌<◌, ℕ, suc, ◌+◌, ◌-◌, ◌*◌, true, List, ◌∷◌}
 use Rattle.kube_base.specs.declared.numbers.Version.{Version}
 use Rattle.kube_objects.specs.declared.call.Reply.TheVariants.{Done}
-use Rattle.kube_objects.specs.Document.{Doc, end_beat, is_controller, lease_duration, retry_period, renew_deadline}
+use Rattle.kube_objects.specs.Document.{Doc, end_beat, is_controller, retry_period, renew_deadline}
 use Rattle.kube_objects.specs.Elector.{succeeds}
 use Rattle.kube_objects.specs.Entry.{Entry, Identity, Call, Delivers, actor_of, entry}
 use Rattle.kube_objects.specs.Newest.{has}
@@ -15,6 +15,7 @@ use Rattle.history_laws.specs.Tails.{IsTail}
 use Rattle.span_laws.specs.Spans.{RunsAtLeast, RunsAtMost, IsEnough}
 use Rattle.takeover_laws.specs.Acting.{AreInTime}
 use Rattle.takeover_laws.specs.Calm.{IsSteady, IsCalm}
+use Rattle.takeover_laws.specs.Waits.{blocked_for}
 
 -- in beat j a reply to a call of q, which was sent at beat a or later, counts and tells that the election Lease was written: by this q leads, or
 -- its lead is renewed
@@ -27,8 +28,8 @@ pub record HasSuccess (doc : Doc) (q : Identity) (a j : ℕ) : Type 0 where
   pub success : succeeds call.request (Done version) ≡ true
 
 -- a leader's renewals come before its deadline, and before another finds its record over: wait is enough beats for its retry period; four ways take
--- no longer than its renew deadline, and wait, five ways and what a way may be shorter take less than its lease duration on every steady
--- controller's clock
+-- no longer than its renew deadline, and wait, five ways and what a way may be shorter take less on every steady controller's clock than its record
+-- blocks that controller
 pub record RenewsInTime (doc : Doc) (near far a e : ℕ) (q : Identity) : Type 0 where
   pub slow : ℕ
   pub fast : ℕ
@@ -39,7 +40,7 @@ pub record RenewsInTime (doc : Doc) (near far a e : ℕ) (q : Identity) : Type 0
   pub others : (p : ℕ) → is_controller doc p ≡ true → IsSteady doc near far a e p → RunsAtMost doc p a e fastest
   pub wait_is : IsEnough slow (retry_period doc q.process) wait
   pub deadline : (4 * far) * fast ≤ renew_deadline doc q.process
-  pub lasts : (wait + 5 * far - near) * fastest < lease_duration doc q.process
+  pub lasts : (p : ℕ) → is_controller doc p ≡ true → IsSteady doc near far a e p → (wait + 5 * far - near) * fastest < blocked_for doc p q.process
 
 -- from beat j to beat e it acts at each beat, and each accepted write of the election Lease is its own
 pub record Stays (doc : Doc) (q : Identity) (j e : ℕ) : Type 0 where

@@ -17,11 +17,13 @@ use Rattle.kube_objects.specs.Identities.{is_by, is_same, is_other, holder_of}
 use Rattle.kube_objects.specs.Newest.{only_if, when, or_zero}
 use Rattle.kube_objects.specs.Process.{call_says}
 use Rattle.kube_objects.specs.Stored.{Held, election, stored}
-use Rattle.kube_objects.proofs.Own.{respected-own}
 use Rattle.history.specs.History.{history}
 use Rattle.history_laws.specs.Tails.{IsTail}
 use Rattle.history_laws.proofs.Plainly.{upper, some_is, none_is, and_both, same_is, same_self}
 use Rattle.history_laws.proofs.Tailed.{tail_all, tail_trans, same_head}
+use Rattle.lease_laws.specs.Respects.{respected_time}
+use Rattle.takeover_laws.specs.Waits.{blocked_for}
+use Rattle.takeover_laws.proofs.Waits.{blocked_time, blocked_is}
 use Rattle.span_laws.proofs.Spans.{goes_most}
 use Rattle.call_laws.proofs.Above.{in_head}
 use Rattle.takeover_laws.specs.Calm.{IsSteady}
@@ -204,8 +206,9 @@ module _ (doc : Doc) (near far b e : ℕ) (q : Identity) (l : LeadsUntil doc nea
   pub blocked : follow_on doc c r w.kind w.request reply here ≡ Fails
   blocked =
       ap (λ request. follow c (moment doc c r) (observed_at doc c here) w.kind request reply) get ∙ ap (follow_get c (moment doc c r) (observed_at doc c here)) found
-      ∙ ap (λ l. cond (is_blocked c (local doc c.process r) (observed_at doc c here) l) Fails (Asks (Update election y.version (updated c (moment doc c r) lease)))) (respected-own doc s.sound.2 c r lease)
-      ∙ ap (λ t. cond t Fails (Asks (Update election y.version (updated c (moment doc c r) lease)))) (and_both (is_other c lease.holder) (is_valid (local doc c.process r) (observed_at doc c here) lease) differs valid)
+      ∙ ap (λ t. cond t Fails (Asks (Update election y.version (updated c (moment doc c r) lease))))
+      (blocked_is doc c.process c (local doc c.process r) (observed_at doc c here) lease
+      ∙ and_both (is_other c lease.holder) (nat_lt (local doc c.process r) (observed_at doc c here + respected_time doc c.process lease)) differs valid)
     where
       differs : is_other c lease.holder ≡ true
       differs = ap (is_other c) holder_is ∙ by_test (is_same who c) refl
@@ -214,14 +217,14 @@ module _ (doc : Doc) (near far b e : ℕ) (q : Identity) (l : LeadsUntil doc nea
           by_test true is = absurd (other (ap (λ (p : Identity). p.process) (sym (same_is who c is)) ∙ mine))
           by_test false is = refl
 
-      valid : is_valid (local doc c.process r) (observed_at doc c here) lease ≡ true
-      valid = by_test (nat_lt (local doc c.process r) (observed_at doc c here + of_seconds (or_zero lease.duration))) refl
+      valid : nat_lt (local doc c.process r) (observed_at doc c here + respected_time doc c.process lease) ≡ true
+      valid = by_test (nat_lt (local doc c.process r) (observed_at doc c here + respected_time doc c.process lease)) refl
         where
           seen : ℕ
           seen = or_zero (observed c here)
 
-          lasts : of_seconds (or_zero lease.duration) ≡ lease_duration doc q.process
-          lasts = ap (λ t. of_seconds (or_zero t)) duration
+          lasts : respected_time doc c.process lease ≡ blocked_for doc c.process q.process
+          lasts = blocked_time doc c.process q.process lease duration
 
           goes : local doc c.process r ≤ local doc c.process seen + (r - seen) * s.fastest
           goes = goes_most doc c.process 0 e s.fastest (s.clocks c.process role) seen r (omega arith) (seen_upto here at (tail_all here)) within
@@ -232,6 +235,6 @@ module _ (doc : Doc) (near far b e : ℕ) (q : Identity) (l : LeadsUntil doc nea
               beats : r - seen ≤ s.renews.wait + 5 * far - near
               beats = omega (arith, soon, least)
 
-          by_test : (t : Bool) → nat_lt (local doc c.process r) (observed_at doc c here + of_seconds (or_zero lease.duration)) ≡ t → t ≡ true
+          by_test : (t : Bool) → nat_lt (local doc c.process r) (observed_at doc c here + respected_time doc c.process lease) ≡ t → t ≡ true
           by_test true is = refl
-          by_test false is = absurd (omega (arith, ltb-false (local doc c.process r) (observed_at doc c here + of_seconds (or_zero lease.duration)) is, lasts, goes, short, s.lasts))
+          by_test false is = absurd (omega (arith, ltb-false (local doc c.process r) (observed_at doc c here + respected_time doc c.process lease) is, lasts, goes, short, s.lasts c.process role))

@@ -2,7 +2,7 @@
 use Rattle.std.proofs.Common.{◌≡◌, ◌≤◌, ℕ, suc, ◌+◌, ◌*◌, true, false, List, ◌∷◌, Option, Some, sym, ◌∙◌, subst, inr, arith}
 use Rattle.kube_base.specs.declared.numbers.Version.{Version}
 use Rattle.kube_objects.specs.Answers.{lease_in, as_kind, answer_get}
-use Rattle.kube_objects.specs.Document.{Doc, is_controller, retry_period}
+use Rattle.kube_objects.specs.Document.{Doc, is_controller}
 use Rattle.kube_objects.specs.Elector.{leads}
 use Rattle.kube_objects.specs.Entry.{Entry, Identity, Call, Sends, actor_of}
 use Rattle.kube_objects.specs.Process.{alive}
@@ -24,16 +24,17 @@ use Rattle.calm_laws.proofs.Asked.{IsWrite, reason_key, reason_of}
 use Rattle.calm_laws.proofs.Looks.{object_of}
 use Rattle.calm_laws.proofs.Origins.{Origin}
 use Rattle.calm_laws.proofs.Replies.{wrote_by}
+use Rattle.takeover_laws.specs.Waits.{longest_wait, shortest_wait}
 use Rattle.calm_laws.specs.Bounds.{LastsFor}
 use Rattle.calm_laws.proofs.First as first
 
 module _ (doc : Doc) (rules : IsOwn doc) (near far e n : ℕ) (one : 1 ≤ near) (ways : near ≤ far) (within : n ≤ e) (q : Identity) (role : is_controller doc q.process ≡ true)
     (steady : IsSteady doc near far 0 e q.process) (my_time : IsInTime doc far 0 e q.process) (none : (k : ℕ) → 0 ≤ k → k ≤ n → Acts doc q k → ⊥) (led : (h : List Entry) → IsTail h (history doc (suc n)) → leads q h ≡ false)
-    (lasting : ℕ) (top : Option Held) (lasts : LastsFor lasting (object_of top)) (K : ℕ) (some : 1 ≤ K)
+    (lasting : ℕ) (top : Option Held) (lasts : LastsFor doc q.process lasting (object_of top)) (K : ℕ) (some : 1 ≤ K)
     (given : (w : Call) (reply : Reply) (T : List Entry) (y : ℕ) → Origin doc q w reply T y → IsTail T (history doc (suc n)) → w.request ≡ Get election → K ≤ y → y + far ≤ n → reply ≡ answer_get (as_kind lease_in top))
     (no_writes : (x : Entry) (T : List Entry) (call : Call) (arrives : Option ℕ) → IsTail (x ∷ T) (history doc (suc n)) → x.actor ≡ actor_of q → x.fact ≡ Sends call arrives → IsWrite call.request → K ≤ x.beat + 2 * far → x.beat + 2 * far ≤ n → ⊥)
     (slow fast wait needed from : ℕ) (low_from : from ≤ K) (runs_least : RunsAtLeast doc q.process from e slow) (runs_most : RunsAtMost doc q.process from e fast)
-    (waits : 1 ≤ retry_period doc q.process) (wait_is : IsEnough slow (retry_period doc q.process) wait) (needed_is : IsNeeded fast (retry_period doc q.process) needed)
+    (waits : 1 ≤ longest_wait doc q.process) (wait_is : IsEnough slow (longest_wait doc q.process) wait) (needed_is : IsNeeded fast (shortest_wait doc q.process) needed)
     (enough most : ℕ) (enough_is : IsEnough slow lasting enough) (most_is : IsGreatest (needed + 2 * near) (wait + 2 * far) enough most)
     (G : ℕ) (after : K + wait ≤ G + 1) (low_wait : from + wait ≤ G) (room : G + most + 4 * far ≤ n) where
   -- its writes aren't accepted: it would act

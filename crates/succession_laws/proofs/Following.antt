@@ -11,7 +11,7 @@ use Rattle.kube_objects.specs.declared.key.Key.{Key}
 use Rattle.kube_objects.specs.declared.lease.Lease.{Lease}
 use Rattle.kube_objects.specs.declared.object.Object.TheVariants as object
 use Rattle.kube_objects.specs.Answers.{lease_in, versioned, as_kind, answer_get, answer, answer_over, written, written_over, if_done}
-use Rattle.kube_objects.specs.Document.{Doc, is_controller, lease_duration, retry_period}
+use Rattle.kube_objects.specs.Document.{Doc, is_controller}
 use Rattle.kube_objects.specs.Elector.{Moment, moment, Fails, Asks, is_blocked, updated, follow_get, follow, follow_on, leads, observed_at, respected}
 use Rattle.kube_objects.specs.Entry.{Entry, Identity, Call, Answers, Sends, Delivers, actor_of, entry}
 use Rattle.kube_objects.specs.Identities.{identity}
@@ -25,6 +25,7 @@ use Rattle.history_laws.specs.Tails.{IsTail}
 use Rattle.history_laws.proofs.Order.{entries_are_earlier}
 use Rattle.history_laws.proofs.Plainly.{true_is}
 use Rattle.history_laws.proofs.Tailed.{tail_all, tail_trans, later_tail}
+use Rattle.takeover_laws.specs.Waits.{longest_wait, shortest_wait, blocked_for}
 use Rattle.span_laws.specs.Looks.{IsGreatest}
 use Rattle.span_laws.specs.Quotients.{most_beats}
 use Rattle.span_laws.proofs.Quotients.{rounded_is, bounds_are_exact}
@@ -299,8 +300,8 @@ module _ (doc : Doc) (near far b e : ℕ) (q : Identity) (l : LeadsUntil doc nea
 
   -- ---- nobody else acts only so long
 
-  module _ (p slow fast wait needed : ℕ) (rival : IsRival doc b e q p slow fast) (wait_is : IsEnough slow (retry_period doc p) wait) (needed_is : IsNeeded fast (retry_period doc p) needed)
-      (enough most : ℕ) (enough_is : IsEnough slow (lease_duration doc q.process) enough) (most_is : IsGreatest (needed + 2 * near) (wait + 2 * far) enough most)
+  module _ (p slow fast wait needed : ℕ) (rival : IsRival doc b e q p slow fast) (wait_is : IsEnough slow (longest_wait doc p) wait) (needed_is : IsNeeded fast (shortest_wait doc p) needed)
+      (enough most : ℕ) (enough_is : IsEnough slow (blocked_for doc p q.process) enough) (most_is : IsGreatest (needed + 2 * near) (wait + 2 * far) enough most)
       (rest : ℕ) (rest_is : (rest ≡ 6 * far - 1) ⊎ ((doc.settings.fast_renew ≡ false) × (rest ≡ 6 * far - 2))) (within : b + most + wait + rest ≤ e) where
     abbrev n : ℕ
     n = b + most + wait + rest
@@ -321,7 +322,7 @@ module _ (doc : Doc) (near far b e : ℕ) (q : Identity) (l : LeadsUntil doc nea
     some_wait : 1 ≤ wait
     some_wait = by_wait wait wait_is
       where
-        by_wait : (k : ℕ) → retry_period doc p ≤ k * slow → 1 ≤ k
+        by_wait : (k : ℕ) → longest_wait doc p ≤ k * slow → 1 ≤ k
         by_wait zero le = absurd (omega (arith, le, s.waits p rival.role))
         by_wait (suc k) le = omega arith
 
@@ -333,7 +334,7 @@ module _ (doc : Doc) (near far b e : ℕ) (q : Identity) (l : LeadsUntil doc nea
       where
         with_identity : (i : ℕ) → alive p S ≡ Some i → ⊥
         with_identity i up =
-            none_first doc s.sound.2 near far e n s.one s.ways within c rival.role (steady c rival.role rival.other) (my_time c rival.role rival.other) (others.none doc near far b e q l s p rival.role rival.other n within (omega arith) idle i up) led_not (lease_duration doc q.process) (top c rival.role rival.other n within idle led_not room K late_K) lasts K (omega (arith, a_way, rest_least))
+            none_first doc s.sound.2 near far e n s.one s.ways within c rival.role (steady c rival.role rival.other) (my_time c rival.role rival.other) (others.none doc near far b e q l s p rival.role rival.other n within (omega arith) idle i up) led_not (blocked_for doc p q.process) (top c rival.role rival.other n within idle led_not room K late_K) lasts K (omega (arith, a_way, rest_least))
             (given c rival.role rival.other n within idle led_not room K late_K) (no_writes c rival.role rival.other n within idle led_not room K late_K) slow fast wait needed b (omega (arith, a_way, rest_least)) rival.runs_least rival.runs_most (s.waits p rival.role) wait_is needed_is enough most enough_is most_is
             G (omega (arith, some_wait, a_way, rest_least)) (omega (arith, some_wait, a_way, rest_least)) (omega (arith, a_way, rest_least, some_wait)) (others.there doc near far b e q l s p rival.role rival.other n within (omega arith) idle i up G (omega (arith, a_way, rest_least, some_wait)) (omega (arith, a_way, rest_least, some_wait)))
           where
@@ -349,8 +350,8 @@ module _ (doc : Doc) (near far b e : ℕ) (q : Identity) (l : LeadsUntil doc nea
             led_not : (h : List Entry) → IsTail h (history doc (suc n)) → leads c h ≡ false
             led_not = others.led_not doc near far b e q l s p rival.role rival.other n within (omega arith) idle i up
 
-            lasts : LastsFor (lease_duration doc q.process) (object_of (top c rival.role rival.other n within idle led_not room K late_K))
-            lasts = lasts_for doc q (history doc (b + far)) (of_top c rival.role rival.other n within idle led_not room K late_K)
+            lasts : LastsFor doc p (blocked_for doc p q.process) (object_of (top c rival.role rival.other n within idle led_not room K late_K))
+            lasts = lasts_for doc p q (history doc (b + far)) (of_top c rival.role rival.other n within idle led_not room K late_K)
 
         by_up : (o : Option ℕ) → alive p S ≡ o → ⊥
         by_up None is = true_is (sym rival.up ∙ ap has is)
@@ -453,20 +454,20 @@ successors_lead doc near far b e q l s quiet replies renew p slow fast wait need
 pub successors_are_told : SuccessorsAreTold
 successors_are_told doc near far b e q l s quiet replies renew p slow fast rival some_slow some_fast within =
     subst (λ n. IsFollowed doc b n e q) sum
-    (successors_lead doc near far b e q l s quiet replies renew p slow fast wait needed rival (rounded_is slow (retry_period doc p) some_slow).0 (rounded_is fast (retry_period doc p) some_fast).1 enough most
-    (rounded_is slow (lease_duration doc q.process) some_slow).0 ((bounds_are_exact (needed + 2 * near) (wait + 2 * far) enough).0 (omega (arith, s.one))).1 (omega (arith, sum, within)))
+    (successors_lead doc near far b e q l s quiet replies renew p slow fast wait needed rival (rounded_is slow (longest_wait doc p) some_slow).0 (rounded_is fast (shortest_wait doc p) some_fast).1 enough most
+    (rounded_is slow (blocked_for doc p q.process) some_slow).0 ((bounds_are_exact (needed + 2 * near) (wait + 2 * far) enough).0 (omega (arith, s.one))).1 (omega (arith, sum, within)))
   where
     wait : ℕ
-    wait = div_ceil (retry_period doc p) slow
+    wait = div_ceil (longest_wait doc p) slow
 
     needed : ℕ
-    needed = div_ceil (retry_period doc p) fast
+    needed = div_ceil (shortest_wait doc p) fast
 
     enough : ℕ
-    enough = div_ceil (lease_duration doc q.process) slow
+    enough = div_ceil (blocked_for doc p q.process) slow
 
     most : ℕ
     most = most_beats (needed + 2 * near) (wait + 2 * far) enough
 
-    sum : b + most + wait + last_ways doc far ≡ b + succession_bound doc near far p slow fast (lease_duration doc q.process)
+    sum : b + most + wait + last_ways doc far ≡ b + succession_bound doc near far p slow fast (blocked_for doc p q.process)
     sum = omega arith

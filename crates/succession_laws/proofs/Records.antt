@@ -27,6 +27,8 @@ use Rattle.lease_laws.proofs.EachKind.{top_stays}
 use Rattle.lease_laws.proofs.Histories.{turn_right}
 use Rattle.lease_laws.proofs.Invariant.{view, Fit, FitRequest, SentRight}
 use Rattle.lease_laws.proofs.Premises.{rates_at_most}
+use Rattle.takeover_laws.specs.Waits.{blocked_for}
+use Rattle.takeover_laws.proofs.Waits.{blocked_time}
 use Rattle.call_laws.proofs.Above.{in_head, next_above}
 use Rattle.call_laws.proofs.Making.{MadeAs, MadeAnswer, are_made}
 use Rattle.call_laws.proofs.Placing.{in_own_beat, from_beat, messages_travel}
@@ -108,9 +110,11 @@ new_of_it doc b q x T i = record {
 pub old_of_it : (doc : Doc) (q : Identity) (x : Entry) (T : List Entry) → at_key election (write_of x.fact) ≡ None → OfIt doc q T → OfIt doc q (x ∷ T)
 old_of_it doc q x T none o = record { y = o.y; top = top_stays x T none ∙ o.top; who = o.who; mine = o.mine; by = o.by; lease = o.lease; object = o.object; holder = o.holder; duration = o.duration }
 
--- it blocks others for the leader's lease duration
-pub lasts_for : (doc : Doc) (q : Identity) (h : List Entry) → OfIt doc q h → LastsFor (lease_duration doc q.process) (object_of (stored election h))
-lasts_for doc q h o = subst (λ t. LastsFor (lease_duration doc q.process) (object_of t)) (sym o.top) (subst (λ y. LastsFor (lease_duration doc q.process) (Some y)) (sym o.object) (inr (omega (arith, ap (λ t. of_seconds (or_zero t)) o.duration))))
+-- it blocks a process for as long as that respects the leader's records
+pub lasts_for : (doc : Doc) (p : ℕ) (q : Identity) (h : List Entry) → OfIt doc q h → LastsFor doc p (blocked_for doc p q.process) (object_of (stored election h))
+lasts_for doc p q h o =
+    subst (λ t. LastsFor doc p (blocked_for doc p q.process) (object_of t)) (sym o.top)
+    (subst (λ y. LastsFor doc p (blocked_for doc p q.process) (Some y)) (sym o.object) (inr (omega (arith, blocked_time doc p q.process o.lease o.duration))))
 
 module _ (doc : Doc) (near far b e : ℕ) (q : Identity) (l : LeadsUntil doc near far b e q) (s : Bears doc near far b e q) (quiet : IsQuiet doc b e q.process)
     (n : ℕ) (within : n ≤ e) where

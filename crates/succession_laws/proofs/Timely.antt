@@ -23,6 +23,8 @@ use Rattle.history_laws.proofs.Counting.{present_is}
 use Rattle.history_laws.proofs.Order.{entries_are_earlier}
 use Rattle.history_laws.proofs.Plainly.{true_is, same_is, and_left}
 use Rattle.history_laws.proofs.Tailed.{tail_all, tail_trans, tails_meet, later_tail, before_turn, turn_tail, tail_of_empty, same_head}
+use Rattle.takeover_laws.specs.Waits.{blocked_for}
+use Rattle.takeover_laws.proofs.Waits.{blocked_time}
 use Rattle.span_laws.proofs.Spans.{goes_most}
 use Rattle.lease_laws.proofs.Claims.{term_of}
 use Rattle.lease_laws.proofs.Premises.{rates_at_most}
@@ -324,7 +326,7 @@ module _ (doc : Doc) (near far b e : ℕ) (q : Identity) (l : LeadsUntil doc nea
           over,
           goes_most doc w.who.process 0 e s.fastest (s.clocks w.who.process w.role) waited.seen w.call.sent (omega arith) waited.before (omega (arith, sent, f_upto, within)),
           mul-le-mul_right s.fastest beats,
-          s.lasts,
+          s.lasts w.who.process w.role,
         )
       where
         back : Back
@@ -351,8 +353,8 @@ module _ (doc : Doc) (near far b e : ℕ) (q : Identity) (l : LeadsUntil doc nea
         waited : Waited doc plainly w.who w.call.sent o.y o.lease
         waited = base.1 o.lease o.object differs
 
-        over : local doc w.who.process waited.seen + lease_duration doc q.process ≤ local doc w.who.process w.call.sent
-        over = subst (λ t. local doc w.who.process waited.seen + of_seconds (or_zero t) ≤ local doc w.who.process w.call.sent) o.duration waited.over
+        over : local doc w.who.process waited.seen + blocked_for doc w.who.process q.process ≤ local doc w.who.process w.call.sent
+        over = subst (λ t. local doc w.who.process waited.seen + t ≤ local doc w.who.process w.call.sent) (blocked_time doc w.who.process q.process o.lease o.duration) waited.over
 
         asked : IsTail (w.f ∷ w.low) (history doc (suc m))
         asked = tail_trans (w.f ∷ w.low) T (history doc (suc m)) w.asked (tail_trans T (x ∷ T) (history doc (suc m)) (inr (tail_all T)) at)

@@ -2,7 +2,7 @@
 -- Source: client-go, package `leaderelection`; profile.
 use Rattle.std.specs.Int.{div_ceil}
 use Rattle.std.specs.Prelude.{◌≡◌, ◌≤◌, ◌<◌, ℕ, suc, ◌+◌, ◌-◌, ◌*◌, Bool, true, false, cond, IfSome}
-use Rattle.kube_objects.specs.Document.{Doc, end_beat, is_controller, lease_duration, retry_period, renew_deadline}
+use Rattle.kube_objects.specs.Document.{Doc, end_beat, is_controller, retry_period, renew_deadline}
 use Rattle.kube_objects.specs.Entry.{Entry, Identity}
 use Rattle.kube_objects.specs.Identities.{of_process}
 use Rattle.kube_objects.specs.Newest.{has}
@@ -18,6 +18,7 @@ use Rattle.span_laws.specs.Quotients.{most_beats}
 use Rattle.span_laws.specs.Spans.{RunsAtLeast, RunsAtMost, IsEnough, IsNeeded}
 use Rattle.call_laws.specs.Answering.{with_events}
 use Rattle.takeover_laws.specs.Calm.{IsQuiet}
+use Rattle.takeover_laws.specs.Waits.{longest_wait, shortest_wait, blocked_for}
 use Rattle.stay_laws.specs.Stays.{RenewsInTime, HasSuccess, Stays}
 use Rattle.silence_laws.specs.Silence.{LeadsUntil, Bears, OthersRenewBefore}
 
@@ -55,13 +56,13 @@ ways_after quick far = cond quick (6 * far - 1) (6 * far - 2)
 abbrev pub last_ways : Doc → ℕ → ℕ
 last_ways doc far = ways_after doc.settings.fast_renew far
 
--- where a leader in a calm falls silent at beat b, another one leads by the time that the looks of a rival take at most, its wait, and these ways;
+-- where a leader in a calm falls silent at beat b, another one leads by the time that the looks of a rival take at most, its longest wait, and these ways;
 -- and it stays
 abbrev pub SuccessorsLead : Type 0
 SuccessorsLead =
     (doc : Doc) (near far b e : ℕ) (q : Identity) → LeadsUntil doc near far b e q → Bears doc near far b e q → IsQuiet doc b e q.process → RepliesCome doc far b q.process → OthersRenew doc near far b e q
-    → (p slow fast wait needed : ℕ) → IsRival doc b e q p slow fast → IsEnough slow (retry_period doc p) wait → IsNeeded fast (retry_period doc p) needed
-    → (enough most : ℕ) → IsEnough slow (lease_duration doc q.process) enough → IsGreatest (needed + 2 * near) (wait + 2 * far) enough most
+    → (p slow fast wait needed : ℕ) → IsRival doc b e q p slow fast → IsEnough slow (longest_wait doc p) wait → IsNeeded fast (shortest_wait doc p) needed
+    → (enough most : ℕ) → IsEnough slow (blocked_for doc p q.process) enough → IsGreatest (needed + 2 * near) (wait + 2 * far) enough most
     → b + most + wait + last_ways doc far ≤ e → IsFollowed doc b (b + most + wait + last_ways doc far) e q
 
 -- the same bound in whole beats, as a program finds it: each quotient is rounded up, but for the number of looks
@@ -69,13 +70,13 @@ abbrev pub succession_beats : (near far wait needed enough rest : ℕ) → ℕ
 succession_beats near far wait needed enough rest = most_beats (needed + 2 * near) (wait + 2 * far) enough + wait + rest
 
 abbrev pub succession_bound : Doc → (near far p slow fast time : ℕ) → ℕ
-succession_bound doc near far p slow fast time = succession_beats near far (div_ceil (retry_period doc p) slow) (div_ceil (retry_period doc p) fast) (div_ceil time slow) (last_ways doc far)
+succession_bound doc near far p slow fast time = succession_beats near far (div_ceil (longest_wait doc p) slow) (div_ceil (shortest_wait doc p) fast) (div_ceil time slow) (last_ways doc far)
 
 abbrev pub Succeeds : Doc → Type 0
 Succeeds doc =
     (near far b e : ℕ) (q : Identity) → LeadsUntil doc near far b e q → Bears doc near far b e q → IsQuiet doc b e q.process → RepliesCome doc far b q.process → OthersRenew doc near far b e q
     → (p slow fast : ℕ) → IsRival doc b e q p slow fast → 1 ≤ slow → 1 ≤ fast
-    → b + succession_bound doc near far p slow fast (lease_duration doc q.process) ≤ e → IsFollowed doc b (b + succession_bound doc near far p slow fast (lease_duration doc q.process)) e q
+    → b + succession_bound doc near far p slow fast (blocked_for doc p q.process) ≤ e → IsFollowed doc b (b + succession_bound doc near far p slow fast (blocked_for doc p q.process)) e q
 
 abbrev pub SuccessorsAreTold : Type 0
 SuccessorsAreTold = (doc : Doc) → Succeeds doc

@@ -6,8 +6,8 @@ use Rattle.kube_objects.specs.declared.call.Reply.{Reply}
 use Rattle.kube_objects.specs.declared.call.Request.TheVariants.{Get}
 use Rattle.kube_objects.specs.declared.deed.Actor.{Actor}
 use Rattle.kube_objects.specs.Clocks.{local}
-use Rattle.kube_objects.specs.Document.{Doc, is_controller, retry_period, renew_deadline}
-use Rattle.kube_objects.specs.Elector.{Follow, timer_says, Fails, shown, observed, leads, lead_says, follow_on, timer_follow, deadline_says, deadline, attempt}
+use Rattle.kube_objects.specs.Document.{Doc, is_controller, renew_deadline}
+use Rattle.kube_objects.specs.Elector.{Follow, retry_at, timer_says, Fails, shown, observed, leads, lead_says, follow_on, timer_follow, deadline_says, deadline, attempt}
 use Rattle.kube_objects.specs.Entry.{Entry, Identity, Call, Fact, First as FirstPut, Event as Happens, Starts, Stops, Sends, Answers, Delivers, Expires, Leads, Ends, Crashes, Stalls, Ticks, actor_of, entry, StepsDown, ReleaseBegins, ReleaseEnds, ReleaseStops}
 use Rattle.kube_objects.specs.Identities.{is_by}
 use Rattle.kube_objects.specs.Newest.{newest, when, only_if, join, has, or_zero}
@@ -17,7 +17,6 @@ use Rattle.kube_objects.specs.Stored.{election}
 use Rattle.kube_objects.specs.Turns.{expired_in, is_fast_call}
 use Rattle.kube_objects.specs.Wire.{send, next_call, request_arrival}
 use Rattle.kube_objects.specs.Own.{IsOwn}
-use Rattle.kube_objects.proofs.Own.{retry_at-own}
 use Rattle.history.specs.History.{history, at_turn}
 use Rattle.history.specs.Safe.{Acts}
 use Rattle.history.specs.Steps.{turn}
@@ -35,6 +34,7 @@ use Rattle.takeover_laws.specs.Calm.{IsSteady}
 use Rattle.takeover_laws.proofs.Unasked.{Quiet, Asked, quiet_or_asked, turn_tries, attempt_gets}
 use Rattle.takeover_laws.proofs.Fresh.{turn_leads}
 use Rattle.takeover_laws.proofs.Standing.{controllers_first, IsSince, since_events, unled, persists}
+use Rattle.takeover_laws.proofs.Waits.{retry_least, retry_most}
 use Rattle.lease_laws.proofs.Steps.{no_ask}
 
 -- ---- who leads has a deadline, and leads on
@@ -100,7 +100,7 @@ module _ (doc : Doc) (rules : IsOwn doc) (near far a e n r : ℕ) (q : Identity)
   low = failure ∷ T
 
   abbrev due_at : ℕ
-  due_at = local doc q.process r + retry_period doc q.process
+  due_at = retry_at false doc q failure T
 
   up : (h : List Entry) → IsTail low h → IsTail h (history doc (suc n)) → alive q.process h ≡ Some q.incarnation
   up h below high = persists doc rules near far a e n q role lasts steady within none (omega (arith, from, last)) T h after (tail_trans T low h (inr (tail_all T)) below) high alive_at
@@ -128,7 +128,7 @@ module _ (doc : Doc) (rules : IsOwn doc) (near far a e n r : ℕ) (q : Identity)
     timer_is =
         ap (λ b. or_zero (upper (only_if b (timer_follow doc q failure T (leads q T) (follow_on doc q r w.kind w.request reply low))) (newest (λ e T. timer_says doc q e T e.fact) T))) (same_self q)
         ∙ ap (λ f. or_zero (upper (timer_follow doc q failure T (leads q T) f) (newest (λ e T. timer_says doc q e T e.fact) T))) failed
-        ∙ retry_at-own doc rules (leads q T) q failure T;
+        ∙ ap (λ b. retry_at b doc q failure T) (never_led T (tail_trans T low (history doc (suc n)) (inr (tail_all T)) stands));
     shown_is = refl;
     seen_is = refl;
     expiry = λ k. ap (λ b. join (upper (when b None) (newest (λ e T. when (is_by q e.actor) (expired_in k e.beat e.fact)) T))) (same_self q);
@@ -287,4 +287,25 @@ module _ (doc : Doc) (rules : IsOwn doc) (near far a e n r : ℕ) (q : Identity)
 
 pub candidates_ask : CandidatesAsk
 candidates_ask doc rules near far a e n r k q role lasts steady within none from w reply T after stands up failed later to reached =
-    asks_by doc rules near far a e n r q role lasts steady within none from w reply T after stands up failed (omega (arith, later, to)) k later to reached
+    record {
+      x = h.x;
+      before = h.before;
+      position = h.position;
+      since = h.since;
+      call = h.call;
+      arrives = h.arrives;
+      fact = h.fact;
+      actor = h.actor;
+      get = h.get;
+      reached = omega (arith, h.reached, retry_least doc false refl q failed_at T);
+      shown_is = h.shown_is;
+      seen_is = h.seen_is;
+    }
+  where
+    failed_at : Entry
+    failed_at = entry r 3 q (Delivers w reply true)
+
+    h : HasAsked doc q (retry_at false doc q failed_at T) (failed_at ∷ T) (history doc (suc k))
+    h =
+        asks_by doc rules near far a e n r q role lasts steady within none from w reply T after stands up failed (omega (arith, later, to)) k later to
+        (omega (arith, reached, retry_most doc false refl q failed_at T))

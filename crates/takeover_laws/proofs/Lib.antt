@@ -1,3 +1,4 @@
+pub mod Waits
 pub mod Fresh
 pub mod Standing
 pub mod Rounds

@@ -3,3 +3,4 @@ pub mod Rounds
 pub mod Acting
 pub mod Asking
 pub mod Taking
+pub mod Waits

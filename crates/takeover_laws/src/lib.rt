@@ -1,11 +1,12 @@
-//! How calls go, who acts, and what stays stored in a calm span, under the project's own rules: laws of every history. Each is the contract of
-//! a function with an empty body.
+//! How calls go, who acts, and what stays stored in a calm span, under the project's own rules but for those of elections: laws of every
+//! history. Each is the contract of a function with an empty body.
 #![tactic(auto)]
 
 ghost use Rattle.takeover_laws.specs.Acting.{RecordsStay, WritersAct};
 ghost use Rattle.takeover_laws.specs.Asking.{CandidatesAsk};
 ghost use Rattle.takeover_laws.specs.Rounds.{RepliesCount, RoundsAreShort};
 ghost use Rattle.takeover_laws.specs.Taking.{TakeoversEndInActing};
+ghost use Rattle.takeover_laws.specs.Waits.{OwnWaitsAreWhole, WaitsAreBetween};
 
 /// Each call of a controller whose messages pass is answered after one way, and its reply is delivered after another; it counts where the
 /// sender stays up and the call timeout is at least two ways.
@@ -21,7 +22,14 @@ pub fn writers_act()
     ensures records { RecordsStay }
 {}
 
-/// A candidate whose attempt failed asks again as soon as its clock has gone a retry period since, and no sooner.
+/// Each wait of a candidate after a failed attempt lies between its shortest and its longest one; both are its retry period where the document
+/// says no waits.
+pub fn waits_are_between()
+    ensures between { WaitsAreBetween }
+    ensures whole { OwnWaitsAreWhole }
+{}
+
+/// A candidate whose attempt failed asks again as soon as its clock has gone its longest wait since, and no sooner than its shortest one.
 pub fn candidates_ask()
     ensures { CandidatesAsk }
 {}

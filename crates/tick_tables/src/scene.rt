@@ -6,7 +6,7 @@ use crate::change::{Change, EPOCH, write};
 use crate::rows::{Pace, Renewals, Row, Span};
 use controller_core::Term;
 use kube_base::{Beat, Local, NoMemory, ProcId, Steps, Version, Wall};
-use kube_objects::{Reply, TickSettings};
+use kube_objects::{Reply, RespectRule, RetryRule, TickSettings};
 use leader_elector::{Candidate, CandidateNext, Leading, Timing};
 use object_store::Store;
 use std::alloc::Global;
@@ -21,6 +21,8 @@ const TIMING: Timing = Timing {
     retry: 600_000_000_000_000,
     timeout: 2_000_000_000_000,
     fast: false,
+    retries: RetryRule::After,
+    respect: RespectRule::Record,
 };
 
 // Milliseconds from the first beat to this one.
@@ -64,10 +66,11 @@ fn leader(at: Local, wall: Wall) -> Option<Leading>
     requires { at.0 ≤ most_local }
 {
     let candidate = Candidate::start(ProcId(0), 1, TIMING, at);
-    let CandidateNext::Ask(candidate, get) = candidate.on_timer(at, wall) else {
+    let CandidateNext::Ask(candidate, get) = candidate.on_timer(&[1_000], at, wall) else {
         return None;
     };
     let CandidateNext::Ask(candidate, create) = candidate.on_reply(
+        &[1_000],
         get.number,
         Reply::Absent,
         at,
@@ -75,7 +78,7 @@ fn leader(at: Local, wall: Wall) -> Option<Leading>
     ) else {
         return None;
     };
-    match candidate.on_reply(create.number, Reply::Done(Version(1)), at, wall) {
+    match candidate.on_reply(&[1_000], create.number, Reply::Done(Version(1)), at, wall) {
         CandidateNext::Lead(leading) => Some(leading),
         _ => None,
     }

@@ -104,7 +104,7 @@ pub record Keeps (old new : World) : Type 0 where
 
 -- ---- the relation
 
--- what the world keeps of a document, which goes by the project's own rules
+-- what the world keeps of a document, which goes by the project's own rules but for those of elections
 pub record DocStands (doc : Doc) (k : ℕ) (w : World) : Type 0 where
   pub at : w.beat.0 ≡ k
   pub restart : w.restart ≡ restart_delay doc
@@ -135,11 +135,12 @@ EachStands doc h xs = (p : ℕ) (x : Process) → slice_get xs p ≡ Some x → 
 abbrev pub OthersStand : Doc → ℕ → List Entry → List Process → Type 0
 OthersStand doc q h xs = (p : ℕ) (x : Process) → ¬ (p ≡ q) → slice_get xs p ≡ Some x → ProcessStands doc p h x
 
--- what processes are made of is what the document has, which goes by the project's own rules
-pub record AreMadeOf (doc : Doc) (s : Settings) (cs ks : List Proc) (es : List Event) : Type 0 where
+-- what processes are made of is what the document has, which goes by the project's own rules but for those of elections
+pub record AreMadeOf (doc : Doc) (s : Settings) (cs ks : List Proc) (ws : List (List ℕ)) (es : List Event) : Type 0 where
   pub settings : doc.settings ≡ s
   pub controllers : doc.controllers ≡ cs
   pub kubelets : doc.kubelets ≡ ks
+  pub waits : doc.waits ≡ ws
   pub events : doc.events ≡ es
   pub own : IsOwn doc
 

@@ -3,8 +3,10 @@ use Rattle.std.proofs.Common.{◌≡◌, ℕ, ◌+◌, ◌≤◌, [], ◌∷◌,
 use Rattle.std.proofs.lemmas.List.Elements.{All-from_recursion}
 use Rattle.std.specs.List.{AllByRecursion}
 use Rattle.history.proofs.Pauses.{never_apart}
+use Rattle.kube_objects.specs.Document.{own_waits_each}
 use Rattle.manifest_laws.specs.Laws.{FittingAreApart}
-use Rattle.script_reader.specs.Lawful.{IsLawful, IsLawfulDoc}
+use Rattle.script_reader.specs.Lawful.{IsLawful, IsLawfulDoc, AreWaits}
+use Rattle.script_reader.proofs.OwnDocuments.{own-waits}
 use Rattle.world_gen.specs.Draws.{start, crashes}
 use Rattle.world_gen.specs.Generated.{controllers, event, kubelets, by_beat, middle, generated}
 use Rattle.world_gen.proofs.Ranges.{Fits, settings-lawful, controllers-lawful, controllers-apart, kubelets-lawful, kubelets-apart, kubelets-count, crashes-all-fit, in_order, events-few, crashes-pause_nobody}
@@ -28,7 +30,8 @@ generated-lawful seed nodes pods beats few fewer soon apart =
       some = omega arith;
       few = omega arith;
       controllers_apart = controllers-apart;
-      waits = refl;
+      waits = All-from_recursion AreWaits (own_waits_each controllers) (own-waits, (own-waits, (own-waits, tt)));
+      waits_each = refl;
       kubelets = All-from_recursion IsLawful (kubelets nodes) (kubelets-lawful nodes);
       few_kubelets = omega (arith, kubelets-count nodes);
       kubelets_apart = kubelets-apart nodes;

@@ -125,6 +125,7 @@ ticked-acting doc k p h c t s old told is up stands went =
             me = stands.me;
             incarnation = stands.incarnation ∙ sym (starts-tick doc k p q h);
             timing = stands.timing;
+            waits = stands.waits;
             clock = stands.clock;
             pauses = stands.pauses;
             up_first = stands.up_first;

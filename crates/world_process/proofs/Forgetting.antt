@@ -50,6 +50,7 @@ stands-forgets doc p h c t down s anew = record {
   me = s.me;
   incarnation = s.incarnation;
   timing = s.timing;
+  waits = s.waits;
   clock = s.clock;
   pauses = s.pauses;
   up_first = s.up_first;

@@ -1,16 +1,15 @@
 -- A controller that changed its role stands for a history that started nothing since.
-use Rattle.std.proofs.Common.{◌≡◌, ℕ, ◌+◌, List, Some, sym, ap, ◌∙◌, subst}
+use Rattle.std.proofs.Common.{◌≡◌, ℕ, ◌+◌, List, [], ◌∷◌, Some, sym, ap, ◌∙◌, subst}
 use Rattle.std.specs.Box.{with_value}
-use Rattle.kube_objects.specs.Clocks.{local}
 use Rattle.kube_objects.specs.Document.{Doc}
 use Rattle.kube_objects.specs.Entry.{Entry, Identity}
 use Rattle.kube_objects.specs.Identities.{identity}
-use Rattle.kube_objects.specs.Newest.{or_zero}
 use Rattle.kube_objects.specs.Process.{starts}
 use Rattle.history.specs.Steps.{start}
 use Rattle.controller_core.specs.declared.term.Term.{Term}
 use Rattle.leader_elector.specs.declared.candidate.Candidate.{Candidate}
 use Rattle.leader_elector.specs.Stands.{CandidateStands, IsNew}
+use Rattle.leader_elector.proofs.Frames.{new-empty, new-foreign}
 use Rattle.world_process.specs.declared.controller.Controller.{Controller}
 use Rattle.world_process.specs.declared.controller.Role.{Role}
 use Rattle.world_process.specs.declared.controller.Role.TheVariants as role
@@ -20,24 +19,17 @@ use Rattle.world_process.specs.Plain.{IsUnheard}
 use Rattle.world_process.proofs.Lives.{alive-start}
 use Rattle.world_process.proofs.OwnTerm.{KeepsTerm}
 use Rattle.world_process.proofs.Plainly.{starts-start}
-use Rattle.world_process.proofs.Unheard.{begun-unheard, call-unheard, shown-unheard, observed-unheard, leads-unheard}
 
 pub stands-role : (doc : Doc) (p : ℕ) (h g : List Entry) (c : Controller) (r : Role) → ControllerStands doc p h c → starts p g ≡ starts p h → KeepsTerm doc p h g → RoleStands doc p c.incarnation g r → ControllerStands doc p g (record c { role = r })
 stands-role doc p h g c r s same keeps stands =
-    record { sort = s.sort; me = s.me; incarnation = s.incarnation ∙ sym same; timing = s.timing; clock = s.clock; up_first = s.up_first; pauses = s.pauses; waking = s.waking; term = keeps c.term.value s.term; role = stands }
+    record { sort = s.sort; me = s.me; incarnation = s.incarnation ∙ sym same; timing = s.timing; waits = s.waits; clock = s.clock; up_first = s.up_first; pauses = s.pauses; waking = s.waking; term = keeps c.term.value s.term; role = stands }
 
 pub role-at : (doc : Doc) (p : ℕ) (h : List Entry) (c : Controller) (r : Role) → ControllerStands doc p h c → c.role ≡ r → RoleStands doc p c.incarnation h r
 role-at doc p h c r s is = subst (λ x. RoleStands doc p c.incarnation h x) is s.role
 
 pub new-unheard : (doc : Doc) (q : Identity) (h : List Entry) → IsUnheard q h → IsNew doc q h
-new-unheard doc q h u =
-    record {
-      begun = begun-unheard q h u;
-      call = call-unheard q h u;
-      shown = shown-unheard q h u;
-      observed = ap (λ x. local doc q.process (or_zero x)) (observed-unheard q h u);
-      leads = leads-unheard q h u;
-    }
+new-unheard doc q [] u = new-empty doc q
+new-unheard doc q (e ∷ h) u = new-foreign doc q e h u.0 (new-unheard doc q h u.1)
 
 -- a controller that has started
 pub stands-started : (doc : Doc) (k step p i : ℕ) (h : List Entry) (c : Controller) (x : Candidate) (t : Term) → ControllerStands doc p h c → i ≡ starts p h + 1 → CandidateStands doc (identity p (starts p h + 1)) (start k step p h) x →
@@ -48,6 +40,7 @@ stands-started doc k step p i h c x t s is stands owns =
       me = s.me;
       incarnation = is ∙ sym (starts-start k step (identity p (starts p h + 1)) h);
       timing = s.timing;
+      waits = s.waits;
       clock = s.clock;
       up_first = s.up_first;
       pauses = s.pauses;

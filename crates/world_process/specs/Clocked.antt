@@ -28,7 +28,7 @@ pub record SameSpan (old new : Clocking) : Type 0 where
   pub beat_micros : new.beat_micros ≡ old.beat_micros
   pub end : new.end ≡ old.end
 
--- what a process is made of is that of process p of the document, which goes by the project's own rules
+-- what a process is made of is that of process p of the document, which goes by the project's own rules but for those of elections
 pub record IsMadeOf (doc : Doc) (p id : ℕ) (s : Settings) (x : Proc) (es : List Event) : Type 0 where
   pub me : id ≡ p
   pub settings : doc.settings ≡ s

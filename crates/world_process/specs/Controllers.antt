@@ -12,7 +12,7 @@ use Rattle.kube_objects.specs.Process.{alive, starts, ended}
 use Rattle.kube_objects.specs.Wire.{Back}
 use Rattle.history.specs.Printed.{printed}
 use Rattle.history.specs.Steps.{restart, attempts}
-use Rattle.leader_elector.specs.Stands.{IsTimingOf, CandidateStands, LeadingStands}
+use Rattle.leader_elector.specs.Stands.{AreWaitsOf, IsTimingOf, CandidateStands, LeadingStands}
 use Rattle.object_store.specs.declared.store.Store.{Store}
 use Rattle.pause_times.specs.Owned.{PausesStand}
 use Rattle.world_process.specs.declared.controller.Controller.{Controller}
@@ -54,6 +54,7 @@ pub record ControllerStands (doc : Doc) (p : ℕ) (h : List Entry) (c : Controll
   pub me : c.me.0 ≡ p
   pub incarnation : c.incarnation ≡ starts p h
   pub timing : IsTimingOf doc p c.timing
+  pub waits : AreWaitsOf doc p c.waits.each
   pub clock : ClockStands doc p c.clock
   pub pauses : PausesStand doc p c.pauses
   pub up_first : c.up_first ≡ is_up_first doc p
@@ -65,6 +66,7 @@ pub record ControllerStands (doc : Doc) (p : ℕ) (h : List Entry) (c : Controll
 pub record SameController (old new : Controller) : Type 0 where
   pub me : new.me ≡ old.me
   pub timing : new.timing ≡ old.timing
+  pub waits : new.waits ≡ old.waits
   pub clock : new.clock ≡ old.clock
   pub up_first : new.up_first ≡ old.up_first
   pub waking : new.waking ≡ old.waking

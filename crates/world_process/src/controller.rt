@@ -5,7 +5,7 @@ ghost use Rattle.kube_base.specs.declared.numbers.Local.{Local};
 ghost use Rattle.kube_base.specs.declared.numbers.ProcId.{ProcId};
 ghost use Rattle.kube_objects.specs.declared.script.What.TheVariants as what;
 ghost use Rattle.kube_objects.specs.Clocks.{local, wall as wall_in};
-ghost use Rattle.kube_objects.specs.Document.{Doc, is_controller, restart_delay};
+ghost use Rattle.kube_objects.specs.Document.{Doc, is_controller, restart_delay, waits_of};
 ghost use Rattle.kube_objects.specs.Entry.{Entry};
 ghost use Rattle.kube_objects.specs.Identities.{identity};
 ghost use Rattle.kube_objects.specs.Process.{alive, starts};
@@ -15,7 +15,7 @@ ghost use Rattle.history.specs.Steps.{happens, start, restart};
 ghost use Rattle.agenda_laws.specs.Times.{elector_reading};
 ghost use Rattle.leader_elector.specs.declared.leading.Leading.{Leading};
 ghost use Rattle.leader_elector.specs.Stands.{acting_identity};
-ghost use Rattle.script_reader.specs.Lawful.{AreLawful, IsLawful};
+ghost use Rattle.script_reader.specs.Lawful.{AreLawful, AreWaits, IsLawful};
 ghost use Rattle.world_process.specs.declared.controller.Role.TheVariants as role;
 ghost use Rattle.world_process.specs.Beats.{IsBeatOf, reading_of};
 ghost use Rattle.world_process.specs.Clocked.{AreEventsFrom, ClockStands, IsMadeOf};
@@ -27,10 +27,11 @@ ghost use Rattle.world_process.specs.Processes.{in_term_as};
 use crate::clocks::{picoseconds, times_for};
 use crate::moves::{Received, Stopped, Turn, asks, final_turn, leads, stays, stop_with, turn_with};
 use crate::settings::tick_settings;
+use crate::waits::Waits;
 use crate::waking::Waking;
 use controller_core::Term;
 use kube_base::{Beat, Local, NoMemory, ProcId, Wall};
-use kube_objects::{Event, Proc, Reply, Settings};
+use kube_objects::{Event, NumberList, Proc, Reply, Settings};
 use leader_elector::{Acting, Candidate, Heard, Leading, LeadingNext, Timing};
 use pause_times::Pauses;
 use skew_clock::Clock;
@@ -70,6 +71,7 @@ pub struct Controller {
     pub me: ProcId,
     pub incarnation: u32,
     pub timing: Timing,
+    pub waits: Waits,
     pub clock: Clock,
     pub pauses: Pauses,
     pub up_first: bool,
@@ -85,16 +87,18 @@ impl Controller {
         me: ProcId,
         settings: &Settings,
         process: &Proc,
+        waits: &NumberList,
         events: &[Event],
     ) -> Result<Controller, NoMemory>
         requires settings { AreLawful settings.now }
         requires process { IsLawful process.now }
+        requires waits { AreWaits waits.now }
         requires events { AreEventsFrom settings.now.end_beat.0 0 events.now }
         requires apart { AreApart events.now }
         ensures end { IfOk result (λ c. c.clock.end ≡ settings.now.end_beat.0) }
         ensures timed { IfOk result (λ c. IsBeatOf c.clock c.waking.until c.waking.below) }
         ensures stands { (doc : Doc) (p : ℕ) → IsMadeOf doc p me.0 settings.now process.now events.now → is_controller doc p ≡ true
-            → IfOk result (ControllerStands doc p []) }
+            → waits.now ≡ waits_of doc p → IfOk result (ControllerStands doc p []) }
     {
         let timing = Timing {
             lease_seconds: process.lease_seconds,
@@ -102,6 +106,11 @@ impl Controller {
             retry: picoseconds(process.retry_millis),
             timeout: picoseconds(process.timeout_millis),
             fast: settings.fast_renew,
+            retries: settings.rules.retries,
+            respect: settings.rules.respect,
+        };
+        let waits = Waits {
+            each: waits.copy()?,
         };
         let (clock, pauses) = times_for(alloc, me, settings, process, events)?;
         let term = Term::new(alloc, &tick_settings(settings));
@@ -109,6 +118,7 @@ impl Controller {
             me,
             incarnation: 0,
             timing,
+            waits,
             clock,
             pauses,
             up_first: process.up,
@@ -268,7 +278,11 @@ impl Controller {
         let wall = self.clock.wall_at(now);
         match &mut self.role {
             Role::Down(_) => turn_with(None),
-            Role::Candidate(candidate) => turn_with(candidate.turn(now, wall)),
+            Role::Candidate(candidate) => turn_with(candidate.turn(
+                self.waits.as_slice(),
+                now,
+                wall,
+            )),
             Role::Leading(_) => self.lead_on(now, wall, delay),
         }
     }
@@ -319,14 +333,17 @@ impl Controller {
         let wall = self.clock.wall_at(now);
         match &mut self.role {
             Role::Down(_) => stays(),
-            Role::Candidate(candidate) => match candidate.hear(number, reply, now, wall) {
-                Heard::Stays => stays(),
-                Heard::Asks(ask) => asks(ask),
-                Heard::Wins(won) => {
-                    self.role = Role::Leading(won.lead());
-                    leads(reply)
+            Role::Candidate(candidate) => {
+                let waits = self.waits.as_slice();
+                match candidate.hear(waits, number, reply, now, wall) {
+                    Heard::Stays => stays(),
+                    Heard::Asks(ask) => asks(ask),
+                    Heard::Wins(won) => {
+                        self.role = Role::Leading(won.lead());
+                        leads(reply)
+                    }
                 }
-            },
+            }
             Role::Leading(_) => self.hear(number, *reply, now, wall),
         }
     }

@@ -10,6 +10,7 @@ mod process;
 mod round_timing;
 mod settings;
 mod ticking;
+mod waits;
 mod waking;
 
 pub use clocks::{first_beat, picoseconds};
@@ -19,4 +20,5 @@ pub use kubelet::Kubelet;
 pub use moves::{Received, Stopped, Turn};
 pub use process::Process;
 pub use round_timing::RoundTiming;
+pub use waits::{Waits, waits_at};
 pub use waking::Waking;

@@ -1,4 +1,4 @@
--- The settings of a tick are the document's, which goes by the project's own rules: a tick knows no others.
+-- The settings of a tick are the document's, which goes by the project's own rules but for those of elections: a tick knows no others.
 use Rattle.std.specs.Prelude.{◌≡◌}
 use Rattle.kube_objects.specs.declared.settings.TickSettings.{TickSettings}
 use Rattle.kube_objects.specs.Document.{Doc}

@@ -53,16 +53,27 @@ class Clock:
 
 
 @dataclass(frozen=True)
+class Waits:
+    """The waits of these controllers after failures may be any lists of so many of this range, in thousandths of the retry period."""
+
+    processes: tuple[str, ...]
+    most: int
+    thousandths: Range
+
+
+@dataclass(frozen=True)
 class Bounds:
     """All that a script may hold."""
 
     clocks: tuple[Clock, ...]
     allowances: tuple[Allowance, ...]
+    waits: tuple[Waits, ...] = ()
 
 
 RATES = Range(500_000, 2_000_000)
 CLOCK_NUMBERS = {'ratePpm': RATES, 'offsetMillis': Range(-31_536_000_000, 31_536_000_000)}
 DELAYS = Range(1, 6_000)
+THOUSANDTHS = Range(1_000, 2_200)
 KINDS: dict[str, Kind] = {
     'rates': Kind('rate', {'ratePpm': ('ratePpm', RATES)}),
     'delays': Kind('delay', {'requestBeats': ('requestBeats', DELAYS), 'replyBeats': ('replyBeats', DELAYS)}),
@@ -77,12 +88,13 @@ KINDS: dict[str, Kind] = {
 
 def read_bounds(given: Any, document: Mapping[str, Any]) -> Bounds:
     """The bounds that a JSON value says, for a document. Raises `WrongBounds`."""
-    fields = _object(given, '', {'clocks', *KINDS})
+    fields = _object(given, '', {'clocks', 'waits', *KINDS})
     processes = _processes_of(document)
     end = int(document['settings']['endBeat'])
     clocks = tuple(_clock(each, path, processes) for each, path in _each(fields, 'clocks'))
     allowances = tuple(_allowance(KINDS[name], each, path, processes, end) for name in KINDS for each, path in _each(fields, name))
-    return Bounds(clocks, allowances)
+    waits = tuple(_waits(each, path, processes) for each, path in _each(fields, 'waits'))
+    return Bounds(clocks, allowances, waits)
 
 
 def _processes_of(document: Mapping[str, Any]) -> list[str]:
@@ -118,6 +130,18 @@ def _clock(value: Any, path: str, processes: list[str]) -> Clock:
     fields = _object(value, path, {'processes', *CLOCK_NUMBERS})
     numbers = {name: _range(fields[name], f'{path}/{name}', limits) for name, limits in CLOCK_NUMBERS.items() if name in fields}
     return Clock(_named(fields, path, processes), numbers)
+
+
+def _waits(value: Any, path: str, processes: list[str]) -> Waits:
+    fields = _object(value, path, {'processes', 'most', 'thousandths'})
+    if 'most' not in fields:
+        raise WrongBounds(f'{path}/most: is missing')
+    most = _range(fields['most'], f'{path}/most', Range(1, MOST_EVENTS)).greatest
+    thousandths = _range(fields.get('thousandths', [THOUSANDTHS.least, THOUSANDTHS.greatest]), f'{path}/thousandths', THOUSANDTHS)
+    named = _named(fields, path, processes)
+    if any(name.startswith('kubelet/') for name in named):
+        raise WrongBounds(f'{path}/processes: waits are of controllers alone')
+    return Waits(named, most, thousandths)
 
 
 def _allowance(kind: Kind, value: Any, path: str, processes: list[str], end: int) -> Allowance:

@@ -31,7 +31,11 @@ class Run:
         """The node of each pod that the document names, by `NAMESPACE/NAME`."""
         items = list((self.document.get('objects') or {}).get('items', []))
         items += [event['object'] for event in self.document.get('events', []) if event['type'] == 'put']
-        return {pod_key(item): (item.get('spec') or {}).get('nodeName') or '' for item in items if item.get('kind') == 'Pod'}
+        nodes = {pod_key(item): (item.get('spec') or {}).get('nodeName') or '' for item in items if item.get('kind') == 'Pod'}
+        for each in self.document.get('podSets', []):
+            placed = [member['node'] for member in each['on'] for _ in range(member['pods'])]
+            nodes.update((f"{each.get('namespace', 'default')}/{each['name']}-{number}", node) for number, node in enumerate(placed))
+        return nodes
 
     @cached_property
     def healthy_nodes(self) -> set[str]:

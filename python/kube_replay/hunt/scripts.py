@@ -1,7 +1,7 @@
 """Scripts within bounds: how Hypothesis makes one, and the document that it stands for."""
 from __future__ import annotations
 
-from dataclasses import dataclass
+from dataclasses import dataclass, field
 from typing import Any, Mapping
 
 from hypothesis import strategies
@@ -16,10 +16,18 @@ TRUE_RATE = 1_000_000
 
 @dataclass(frozen=True)
 class Script:
-    """What is added to a document: the keys of clocks, by process, and events in the order of their beats."""
+    """What is added to a document: the keys of clocks, by process, events in the order of their beats, and waits, by controller."""
 
     clocks: Mapping[str, Mapping[str, int]]
     events: tuple[Event, ...]
+    waits: Mapping[str, tuple[int, ...]] = field(default_factory=dict)
+
+    def keys_of(self, process: str) -> dict[str, Any]:
+        """The keys of a process that the script says."""
+        keys: dict[str, Any] = dict(self.clocks.get(process) or {})
+        if process in self.waits:
+            keys['waits'] = list(self.waits[process])
+        return keys
 
 
 @dataclass(frozen=True)
@@ -61,24 +69,28 @@ def events_allowed(allowance: Allowance) -> list[SearchStrategy[Event | None]]:
 
 
 @strategies.composite
-def scripts_of(draw: DrawFn, clocks: list[tuple[str, str, Number]], events: list[SearchStrategy[Event | None]]) -> Script:
-    """Scripts with these keys of clocks, each by its process and its name, and with these events."""
+def scripts_of(
+    draw: DrawFn, clocks: list[tuple[str, str, Number]], events: list[SearchStrategy[Event | None]], waits: list[tuple[str, int, Number]]
+) -> Script:
+    """Scripts with these keys of clocks, each by its process and its name, with these events, and with so many waits of each controller."""
     keys: dict[str, dict[str, int]] = {}
     for process, name, number in clocks:
         keys.setdefault(process, {})[name] = number.draw(draw)
     drawn = [draw(event) for event in events]
-    return Script(keys, tuple(sorted((event for event in drawn if event is not None), key=beat_of)))
+    lists = {process: tuple(number.draw(draw) for _ in range(count)) for process, count, number in waits}
+    return Script(keys, tuple(sorted((event for event in drawn if event is not None), key=beat_of)), lists)
 
 
 def scripts_in(bounds: Bounds) -> SearchStrategy[Script]:
-    """Scripts within bounds; the one without events, and with clocks that go right where they may, is the simplest."""
+    """Scripts within bounds; the simplest one has no events, clocks that go right where they may, and the shortest waits."""
     clocks = [
         (process, name, number_of(allowed, name))
         for clock in bounds.clocks
         for process in clock.processes
         for name, allowed in clock.numbers.items()
     ]
-    return scripts_of(clocks, [event for allowance in bounds.allowances for event in events_allowed(allowance)])
+    waits = [(process, each.most, number_of(each.thousandths, 'waits')) for each in bounds.waits for process in each.processes]
+    return scripts_of(clocks, [event for allowance in bounds.allowances for event in events_allowed(allowance)], waits)
 
 
 def beat_of(event: Event) -> int:
@@ -87,15 +99,17 @@ def beat_of(event: Event) -> int:
 
 
 def document_of(script: Script, document: Mapping[str, Any]) -> dict[str, Any]:
-    """The document with a script added: its own events first within a beat. Pauses make it one of version 3."""
+    """The document with a script added: its own events first within a beat. Pauses make it one of version 3, and waits one of version 4."""
     added = dict(document)
-    if script.clocks:
-        added['controllers'] = [{**each, **script.clocks.get(each['name'], {})} for each in document['controllers']]
-        added['kubelets'] = [{**each, **script.clocks.get('kubelet/' + each['node'], {})} for each in document.get('kubelets', [])]
+    if script.clocks or script.waits:
+        added['controllers'] = [{**each, **script.keys_of(each['name'])} for each in document['controllers']]
+        added['kubelets'] = [{**each, **script.keys_of('kubelet/' + each['node'])} for each in document.get('kubelets', [])]
     events = sorted([*document.get('events', []), *script.events], key=beat_of)
     if any(event['type'] == 'pause' for event in events):
-        added['version'] = 3
+        added['version'] = max(3, document['version'])
         events = without_pauses_in_pauses(events)
+    if script.waits:
+        added['version'] = max(4, document['version'])
     added['events'] = events
     return added
 

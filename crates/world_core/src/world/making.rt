@@ -6,19 +6,19 @@ ghost use Rattle.object_store.specs.Stands.{StoreStands};
 ghost use Rattle.history.specs.History.{history, put_all};
 ghost use Rattle.history.specs.Sound.{AreApart};
 ghost use Rattle.script_reader.specs.Documents.{doc_of};
-ghost use Rattle.script_reader.specs.Lawful.{AreLawful, IsLawful, IsLawfulDoc};
+ghost use Rattle.script_reader.specs.Lawful.{AreLawful, AreWaits, IsLawful, IsLawfulDoc};
 ghost use Rattle.world_process.specs.Clocked.{AreEventsFrom};
 ghost use Rattle.world_core.specs.Worlds.{at_of, end_of, names_of, GoOnTo, IsReady, AreKept, AreMadeOf, AreNoted, EachStands, WorldStands};
 
 use crate::world::World;
 use beat_tree::BeatTree;
 use kube_base::{Beat, NoMemory, ProcId, Wall};
-use kube_objects::{Event, Items, Procs, Settings};
+use kube_objects::{Event, Items, Procs, Settings, WaitLists};
 use object_store::Store;
 use script_reader::Document;
 use std::alloc::Global;
 use wire_calls::Wire;
-use world_process::{Controller, InForce, Kubelet, Process, picoseconds};
+use world_process::{Controller, InForce, Kubelet, Process, picoseconds, waits_at};
 
 impl World {
     /// The world of a document before beat 0, with the document's objects in its store.
@@ -34,6 +34,7 @@ impl World {
             &settings,
             &document.controllers,
             &document.kubelets,
+            &document.waits,
             document.events.as_slice(),
         )?;
         let controllers = document.controllers.as_slice().len();
@@ -67,24 +68,29 @@ fn processes_of(
     settings: &Settings,
     controllers: &Procs,
     kubelets: &Procs,
+    waits: &WaitLists,
     events: &[Event],
 ) -> Result<Vec<Process>, NoMemory>
     requires settings { AreLawful settings.now }
     requires controllers { All IsLawful controllers.now }
     requires kubelets { All IsLawful kubelets.now }
+    requires waits { All AreWaits waits.now }
+    requires waits_each { length waits.now ≡ length controllers.now }
     requires events { AreEventsFrom settings.now.end_beat.0 0 events.now }
     requires apart { AreApart events.now }
     requires few { (length controllers.now ≤ 16) × (length kubelets.now ≤ 1000) }
     ensures count { IfOk result (λ xs. length xs.items ≡ length controllers.now + length kubelets.now) }
     ensures clocks { IfOk result (λ xs. GoOnTo settings.now.end_beat.0 xs.items) }
     ensures kept { IfOk result (λ xs. AreKept xs.items) }
-    ensures stands { (doc : Doc) → AreMadeOf doc settings.now controllers.now kubelets.now events.now
+    ensures stands { (doc : Doc) → AreMadeOf doc settings.now controllers.now kubelets.now waits.now events.now
         → IfOk result (λ xs. EachStands doc [] xs.items) }
 {
     let mut processes = Vec::new(alloc);
     for process in controllers.as_slice() {
-        let me = ProcId(processes.len() as u32);
-        let controller = Controller::new(alloc, me, settings, process, events)?;
+        let place = processes.len();
+        let me = ProcId(place as u32);
+        let own = waits_at(waits, place);
+        let controller = Controller::new(alloc, me, settings, process, own, events)?;
         let mut made = Process::Controller(controller);
         made.keep_turn_beat();
         processes.push(made)?;

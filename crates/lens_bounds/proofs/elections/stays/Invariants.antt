@@ -1,7 +1,11 @@
 use Rattle.std.proofs.Common.{◌≡◌, drop}
-use Rattle.lens_bounds.specs.Elections.{stay}
+use Rattle.std.specs.List.{list_all}
+use Rattle.lens_bounds.specs.Elections.{shortest_lease, as_respected, stays_by, stay}
 use Rattle.lens_bounds.proofs.elections.stays.Given as goal
 
 -- what is left decides
 abbrev pub invariant-loop-p : goal.invariant-loop-p
-invariant-loop-p l = stay l.c l.controllers ≡ stay l.c (drop l.p-index l.controllers)
+invariant-loop-p l = record {
+  rest : stay l.c l.controllers ≡ list_all (λ p. stays_by l.c (as_respected l.c.respect (shortest_lease l.controllers) p)) (drop l.p-index l.controllers);
+  least : l.least ≡ shortest_lease l.controllers;
+}

@@ -24,5 +24,5 @@ returns c =
     nat_lt
     (a.longest * c.from.ensures i * a.greatest * a.least
     + (p.timeout_millis + p.retry_millis + p.renew_millis) * 1000000 * a.greatest)
-    (p.lease_seconds * 1000000000 * a.least))
-    ∙ in_units a.longest a.beat_millis p.timeout_millis p.retry_millis p.renew_millis p.lease_seconds a.greatest a.least
+    (a.lease_seconds * 1000000000 * a.least))
+    ∙ in_units a.longest a.beat_millis p.timeout_millis p.retry_millis p.renew_millis a.lease_seconds a.greatest a.least

@@ -6,6 +6,7 @@ use Rattle.kube_objects.specs.Elector.{Fails, Succeeds, leads}
 use Rattle.kube_objects.specs.Entry.{Delivers, Leads, Plain, Sends, entry}
 use Rattle.kube_objects.specs.Turns.{react, with_reply}
 use Rattle.kube_objects.specs.Wire.{next_call, send}
+use Rattle.kube_objects.proofs.OwnCalls.{call_in-with_reply}
 use Rattle.leader_elector.specs.Calls.{TakesReply}
 use Rattle.leader_elector.specs.Moves.{Asked, Received, reacted}
 use Rattle.leader_elector.specs.Plain.{moment_of}
@@ -14,13 +15,13 @@ use Rattle.leader_elector.proofs.Own.{settled-own}
 use Rattle.leader_elector.proofs.candidate.Candidate.hear.Goals as goal
 
 pub returns-in_default-clause-counts : goal.returns-in_default-clause-counts
-returns-in_default-clause-counts c doc q h k call s now wall room is =
-    absurd (subst (λ r. Received doc k q call c.args.reply.now h c.receive.new.self r) c.in_default.is (c.receive.ensures.counts doc q h k call s.elector s.leads now wall is))
+returns-in_default-clause-counts c doc q h k call s waits_are now wall room is =
+    absurd (subst (λ r. Received doc k q call c.args.reply.now h c.receive.new.self r) c.in_default.is (c.receive.ensures.counts doc q h k call s.elector s.leads waits_are now wall is))
 
 pub returns-in-Fails-clause-counts : goal.returns-in-Fails-clause-counts
-returns-in-Fails-clause-counts c doc q h k call s now wall room is =
+returns-in-Fails-clause-counts c doc q h k call s waits_are now wall room is =
     let g = with_reply k q call c.args.reply.now h in
-    let t = c.in-Some.ensures.counts doc q h k call s.elector s.leads now wall is in (
+    let t = c.in-Some.ensures.counts doc q h k call s.elector s.leads waits_are now wall is in (
       ap (λ f. react doc k q (leads q h) f g) (sym t.0 ∙ ap follow_of c.in-Fails.is),
       record {
         elector = t.1;
@@ -30,9 +31,9 @@ returns-in-Fails-clause-counts c doc q h k call s now wall room is =
     )
 
 pub returns-in-Asks-clause-counts : goal.returns-in-Asks-clause-counts
-returns-in-Asks-clause-counts c doc q h k call s now wall room is =
+returns-in-Asks-clause-counts c doc q h k call s waits_are now wall room is =
     let g = with_reply k q call c.args.reply.now h in
-    let t = c.in-Some.ensures.counts doc q h k call s.elector s.leads now wall is in
+    let t = c.in-Some.ensures.counts doc q h k call s.elector s.leads waits_are now wall is in
     let asks : reacted doc k q call c.args.reply.now h ≡ send doc k 3 q Plain c.in-Asks.request g = ap (λ f. react doc k q (leads q h) f g) (sym t.0 ∙ ap follow_of c.in-Asks.is) in
     let a : Asked doc k 3 q g (reacted doc k q call c.args.reply.now h) (λ x. ElectorStands doc q x c.ask.new.self) c.ask.result = c.ask.ensures.history doc q g _ k 3 t.1 now room asks in
     record {
@@ -47,13 +48,13 @@ returns-in-Asks-clause-counts c doc q h k call s now wall room is =
     }
 
 pub returns-in-Succeeds-clause-counts : goal.returns-in-Succeeds-clause-counts
-returns-in-Succeeds-clause-counts c doc q h k call s now wall room is =
+returns-in-Succeeds-clause-counts c doc q h k call s waits_are now wall room is =
     let g = with_reply k q call c.args.reply.now h in
     let version = c.in-Succeeds.field-0 in
-    let t = c.in-Some.ensures.counts doc q h k call s.elector s.leads now wall is in
+    let t = c.in-Some.ensures.counts doc q h k call s.elector s.leads waits_are now wall is in
     let next : reacted doc k q call c.args.reply.now h ≡ entry k 3 q (Leads version) ∷ g =
     ap (λ f. react doc k q (leads q h) f g) (sym t.0 ∙ ap follow_of c.in-Succeeds.is) ∙ ap (λ b. (if b then g else entry k 3 q (Leads version) ∷ g)) s.leads in
-    (version, next, record { elector = subst (λ e. ElectorStands doc q g e) (sym c.win.ensures.0) t.1; now = ap (λ (x : Local). x.0) c.win.ensures.1 ∙ now })
+    (version, next, record { elector = subst (λ e. ElectorStands doc q g e) (sym c.win.ensures.0) t.1; idle = call_in-with_reply q h k call c.args.reply.now; now = ap (λ (x : Local). x.0) c.win.ensures.1 ∙ now })
 
 pub returns-in_default-clause-takes : goal.returns-in_default-clause-takes
 returns-in_default-clause-takes c w counts waits = absurd (answered-never c.receive.result c.in_default.is (c.receive.ensures.held w counts waits))
@@ -67,7 +68,7 @@ returns-in-Asks-clause-takes c w counts waits =
 
 pub returns-in-Succeeds-clause-takes : goal.returns-in-Succeeds-clause-takes
 returns-in-Succeeds-clause-takes c w counts waits = (
-  subst (λ e. TakesReply false c.args.self.now.elector (moment_of c.args.self.now.elector c.args.now.0 c.args.wall.0) w c.args.reply.now e true None) (sym c.win.ensures.0)
+  subst (λ e. TakesReply c.args.waits.now false c.args.self.now.elector (moment_of c.args.self.now.elector c.args.now.0 c.args.wall.0) w c.args.reply.now e true None) (sym c.win.ensures.0)
       (takes-silent c.in-Some.follow (Succeeds c.in-Succeeds.field-0) (ap follow_of c.in-Succeeds.is) refl (c.in-Some.ensures.held w counts waits)),
   ap (λ (x : Local). x.0) c.win.ensures.1,
 )

@@ -14,8 +14,8 @@ pub returns-in-Wins-clause-uncounted : goal.returns-in-Wins-clause-uncounted
 returns-in-Wins-clause-uncounted c doc q h k s now up none call = let no = (c.in-Wins.ensures.uncounted doc q h k s now up none call).0 in cc
 
 pub returns-in-Wins-clause-counts : goal.returns-in-Wins-clause-counts
-returns-in-Wins-clause-counts c doc q h k call s now wall room is =
-    let t = c.in-Wins.ensures.counts doc q h k call s now wall room is in
+returns-in-Wins-clause-counts c doc q h k call s waits_are now wall room is =
+    let t = c.in-Wins.ensures.counts doc q h k call s waits_are now wall room is in
     (t.0, t.1, subst (λ x. LeadingStands doc q x c.lead.result) (sym t.1) (c.lead.ensures.stands doc q (with_reply k q call c.args.reply h) k 3 t.0 t.2))
 
 pub returns-in-Wins-clause-follows : goal.returns-in-Wins-clause-follows

@@ -1,6 +1,10 @@
-use Rattle.std.proofs.Common.{◌∙◌, ◌+◌, Some, sym, ap}
+use Rattle.std.proofs.Common.{◌∙◌, ◌+◌, ◌∷◌, Some, sym, ap, subst}
 use Rattle.kube_objects.proofs.OwnCalls.{call_in-sent}
-use Rattle.leader_elector.specs.Stands.{kind_of, waiting_in}
+use Rattle.kube_objects.specs.Entry.{Sends, entry}
+use Rattle.kube_objects.specs.Wire.{next_call}
+use Rattle.leader_elector.specs.Attempts.{attempts_of}
+use Rattle.leader_elector.specs.Stands.{AttemptsStand, kind_of, waiting_in}
+use Rattle.leader_elector.proofs.Failing.{attempts-sent, trying-sent}
 use Rattle.leader_elector.proofs.Own.{waits-kind}
 use Rattle.leader_elector.proofs.elector.Elector.ask.Goals as goal
 
@@ -19,5 +23,8 @@ returns-clause-history c doc q h next k step s now room is =
         shown = s.shown;
         observed = s.observed;
         timer = s.timer;
+        attempts =
+            subst (AttemptsStand doc q (entry k step q (Sends (next_call q k (kind_of c.args.fast) c.args.request h) arrives) ∷ h)) (sym c.begin.ensures) (attempts-sent doc q h k step (next_call q k (kind_of c.args.fast) c.args.request h) arrives (attempts_of c.args.self.now.attempts) c.args.now.0 now s.attempts);
+        tries = λ waits. trying-sent doc q h k step (next_call q k (kind_of c.args.fast) c.args.request h) arrives;
       };
     }

@@ -5,7 +5,7 @@ use Rattle.kube_objects.specs.Newest.{has}
 use Rattle.kube_objects.specs.Process.{call_in}
 use Rattle.leader_elector.specs.Moves.{Asked}
 use Rattle.leader_elector.specs.Stands.{ElectorStands}
-use Rattle.leader_elector.proofs.Attempts.{due, try-due, try-fast}
+use Rattle.leader_elector.proofs.Beginning.{due, try-due, try-fast}
 use Rattle.leader_elector.proofs.elector.Elector.attempt.Goals as goal
 
 pub returns-then-expired-clause-history : goal.returns-then-expired-clause-history

@@ -7,7 +7,7 @@ use Rattle.kube_objects.specs.Stored.{election}
 use Rattle.kube_objects.specs.Wire.{send}
 use Rattle.leader_elector.specs.Moves.{Asked}
 use Rattle.leader_elector.specs.Stands.{ElectorStands}
-use Rattle.leader_elector.proofs.Attempts.{attempt-fast, attempt-slow, attempt-candidate}
+use Rattle.leader_elector.proofs.Beginning.{attempt-fast, attempt-slow, attempt-candidate}
 use Rattle.leader_elector.proofs.elector.Elector.begin.Goals.{else-self-via-then-self+else-led, else-self-via-else-self}
 use Rattle.leader_elector.proofs.elector.Elector.begin.Goals as goal
 

@@ -9,7 +9,7 @@ use Rattle.kube_objects.specs.Entry.{Fast, Plain}
 use Rattle.kube_objects.specs.Stored.{election}
 use Rattle.kube_objects.specs.Wire.{send}
 use Rattle.leader_elector.specs.Stands.{observed_of, shown_of}
-use Rattle.leader_elector.proofs.Attempts.{attempt_from-seen}
+use Rattle.leader_elector.proofs.Beginning.{attempt_from-seen}
 use Rattle.leader_elector.proofs.elector.Elector.renew.Goals as goal
 
 pub returns-in_default-clause-history : goal.returns-in_default-clause-history

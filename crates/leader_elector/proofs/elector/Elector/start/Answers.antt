@@ -1,5 +1,8 @@
-use Rattle.std.proofs.Common.{◌∙◌, sym, ap}
-use Rattle.leader_elector.specs.Stands.{waiting_in}
+use Rattle.std.proofs.Common.{◌∙◌, ◌∷◌, sym, ap, subst}
+use Rattle.kube_objects.specs.Entry.{Starts, entry}
+use Rattle.kube_objects.specs.Newest.{has}
+use Rattle.leader_elector.specs.Stands.{AttemptsStand, waiting_in}
+use Rattle.leader_elector.proofs.Failing.{attempts-started}
 use Rattle.leader_elector.proofs.Own.{timer-started}
 use Rattle.leader_elector.proofs.elector.Elector.start.Goals as goal
 
@@ -15,4 +18,6 @@ returns-clause-history c doc q h k step me incarnation timing now new =
       shown = sym new.shown;
       observed = sym new.observed;
       timer = now ∙ sym (timer-started doc q h k step);
+      attempts = subst (AttemptsStand doc q (entry k step q Starts ∷ h)) (sym c.new-2.ensures) (attempts-started doc q h k step new);
+      tries = λ waits. absurd (cc (ap has new.call, waits));
     }

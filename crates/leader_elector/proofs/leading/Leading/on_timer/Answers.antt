@@ -11,7 +11,7 @@ use Rattle.kube_objects.proofs.Own.{end_term-own}
 use Rattle.kube_objects.proofs.OwnCalls.{begun-expiry}
 use Rattle.leader_elector.specs.Moves.{Asked}
 use Rattle.leader_elector.specs.Stands.{ElectorStands}
-use Rattle.leader_elector.proofs.Attempts.{before, reached}
+use Rattle.leader_elector.proofs.Beginning.{before, reached}
 use Rattle.leader_elector.proofs.Expiry.{deadline-expiry, leads-expiry}
 use Rattle.leader_elector.proofs.Own.{settled-own}
 use Rattle.leader_elector.proofs.leading.Leading.on_timer.Goals as goal
@@ -19,7 +19,7 @@ use Rattle.leader_elector.proofs.leading.Leading.on_timer.Goals as goal
 pub returns-then-now-self-clause-turns : goal.returns-then-now-self-clause-turns
 returns-then-now-self-clause-turns c doc q h k s now wall room =
     let e = expired doc k q h in
-    let after = c.expire-expired.ensures.stands doc q h k s.elector now in
+    let after = c.expire-expired.ensures.stands doc q h k s.elector s.leads tt now in
     let over : nat_lt (local doc q.process k) c.args.self.deadline.0 ≡ false = ap (λ x. nat_lt x c.args.self.deadline.0) (sym now) ∙ reached c.args.now.0 c.args.self.deadline.0 c.if-now-self.true in
     let at : deadline doc q e ≡ Some c.args.self.deadline.0 = deadline-expiry doc k q h (call_in q h) ∙ sym s.deadline in
     (ap (λ x. end_term doc k q x e) at ∙ ap (λ b. (if b then e else end_as doc.settings.rules.release doc k q e)) over ∙ end_term-own doc s.elector.timing.own k q e, c.end.ensures ∙ (λ i. identity (after.process i) (after.incarnation i)))
@@ -32,7 +32,7 @@ returns-in-Some-clause-turns c doc q h k s now wall room =
     let led : leads q e ≡ true = leads-expiry doc k q h (call_in q h) ∙ s.leads in
     let room_now : begun q e + 1 < 2 ^ 64 = subst (λ n. n + 1 < 2 ^ 64) (sym (begun-expiry doc k q h (call_in q h))) room in
     let a : Asked doc k 4 q e (try doc k q e) (λ x. ElectorStands doc q x c.attempt.new.self) c.in-Some.ask =
-    c.in-Some.ensures.history doc q e k (c.expire-expired.ensures.stands doc q h k s.elector now) led (c.expire-expired.ensures.fast doc q h k s.elector s.settled now) now wall room_now in (
+    c.in-Some.ensures.history doc q e k (c.expire-expired.ensures.stands doc q h k s.elector s.leads tt now) led (c.expire-expired.ensures.fast doc q h k s.elector s.settled now) now wall room_now in (
       ap (λ x. end_term doc k q x e) at ∙ ap (λ b. (if b then e else end_as doc.settings.rules.release doc k q e)) early,
       record {
         kind = a.kind;
@@ -54,7 +54,7 @@ returns-in-None-clause-turns c doc q h k s now wall room =
     let at : deadline doc q e ≡ Some c.args.self.deadline.0 = deadline-expiry doc k q h (call_in q h) ∙ sym s.deadline in
     let led : leads q e ≡ true = leads-expiry doc k q h (call_in q h) ∙ s.leads in
     let room_now : begun q e + 1 < 2 ^ 64 = subst (λ n. n + 1 < 2 ^ 64) (sym (begun-expiry doc k q h (call_in q h))) room in
-    let t = c.in-None.ensures.history doc q e k (c.expire-expired.ensures.stands doc q h k s.elector now) led (c.expire-expired.ensures.fast doc q h k s.elector s.settled now) now wall room_now in (
+    let t = c.in-None.ensures.history doc q e k (c.expire-expired.ensures.stands doc q h k s.elector s.leads tt now) led (c.expire-expired.ensures.fast doc q h k s.elector s.settled now) now wall room_now in (
       ap (λ x. end_term doc k q x e) at ∙ ap (λ b. (if b then e else end_as doc.settings.rules.release doc k q e)) early,
       t.1,
       record {

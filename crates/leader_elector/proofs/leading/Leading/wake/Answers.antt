@@ -3,7 +3,7 @@ use Rattle.kube_objects.specs.Clocks.{local}
 use Rattle.kube_objects.specs.Elector.{timer}
 use Rattle.kube_objects.specs.Process.{call_in}
 use Rattle.leader_elector.specs.Moves.{IsLeast, leading_turn, wake_before, wake_from}
-use Rattle.leader_elector.proofs.Attempts.{before, reached}
+use Rattle.leader_elector.proofs.Beginning.{before, reached}
 use Rattle.leader_elector.proofs.Wakes.{leading-least}
 use Rattle.leader_elector.proofs.leading.Leading.wake.Goals as goal
 

@@ -52,7 +52,7 @@ returns-clause-stands c = record {
           (put-wire doc (processes doc) doc.objects [] c.in_ok-wire.wire (subst (λ n. WireStands n 0 [] [] [] c.in_ok-wire.wire) (c.len.ensures ∙ c.in_ok-processes.processes.ok.0 ∙ count) (c.in_ok-wire.ensures 0 [] refl))));
       in_force = put-in_force doc doc.objects [] c.in_ok-in_force.in_force (c.in_ok-in_force.ensures doc refl refl);
     };
-    processes = put-each doc doc.objects [] c.in_ok-processes.processes.items (c.in_ok-processes.ensures.stands doc (record { settings = refl; controllers = refl; kubelets = refl; events = sym c.as_slice.ensures; own = own }));
+    processes = put-each doc doc.objects [] c.in_ok-processes.processes.items (c.in_ok-processes.ensures.stands doc (record { settings = refl; controllers = refl; kubelets = refl; waits = refl; events = sym c.as_slice.ensures; own = own }));
   };
   placed = record { earlier = λ i e less is. absurd (omega (arith, less)); later = c.requires.lawful.events };
   unticked = first_unticked doc;

@@ -1,7 +1,8 @@
 use Rattle.std.proofs.Common.{◌≡◌, ◌+◌, ◌<◌, ◌++◌, true, false, [], length, slice_get, sym, ap, ◌∙◌, subst, arith}
 use Rattle.std.proofs.lemmas.Bool.{le-leb}
 use Rattle.std.proofs.lemmas.Option.{slice_get-get_or}
-use Rattle.kube_objects.specs.Document.{is_controller}
+use Rattle.kube_objects.specs.Document.{is_controller, waits_or}
+use Rattle.kube_objects.specs.Rules.{own_waits}
 use Rattle.world_process.specs.Processes.{IsKept, ProcessStands, clock_of}
 use Rattle.world_core.specs.Worlds.{AreKept, EachStands, GoOnTo}
 use Rattle.world_core.proofs.Lists.{every-end, length-end, slice_get-back, slice_get-front}
@@ -26,10 +27,11 @@ loop-process-preserved c =
           let length_is = ap (λ ys. length ys) given in
           let less : n < length doc.controllers = omega (arith, within, count, length_is) in
           let controls : is_controller doc n ≡ true = le-leb _ _ less in
+          let place : c.len-place.result ≡ n = c.len-place.ensures ∙ c.loop-process.processes.ok.0 in
           let here = ap (λ ys. slice_get ys n) given ∙ ap (λ i. slice_get ps i) count ∙ slice_get-get_or ps c.loop-process.process-index _ within in
           subst (EachStands doc []) (sym c.in_ok-push.ensures.items)
           (every-end (λ i x. ProcessStands doc i [] x) xs new (inv.stands doc made)
-          (c.keep_turn_beat.ensures.stands doc n [] (c.in_ok-controller.ensures.stands doc n (record { me = c.len.ensures ∙ c.loop-process.processes.ok.0; settings = made.settings; process = slice_get-front doc.controllers doc.kubelets n _ here; events = made.events; own = made.own }) controls)));
+          (c.keep_turn_beat.ensures.stands doc n [] (c.in_ok-controller.ensures.stands doc n (record { me = place; settings = made.settings; process = slice_get-front doc.controllers doc.kubelets n _ here; events = made.events; own = made.own }) controls (sym (ap (waits_or own_waits) (ap (λ ws. slice_get ws n) made.waits ∙ ap (slice_get c.args.waits.now) (sym place) ∙ c.waits_at-own.ensures.found))))));
     }
 
 pub loop-process-2-preserved : goal.loop-process-2-preserved
@@ -53,5 +55,5 @@ loop-process-2-preserved c =
           ∙ slice_get-get_or ps c.loop-process-2.process-index _ within in
           subst (EachStands doc []) (sym c.in_ok-push-2.ensures.items)
           (every-end (λ i x. ProcessStands doc i [] x) xs new (inv.stands doc made)
-          (c.keep_turn_beat-in-loop-process-2.ensures.stands doc n [] (c.in_ok-kubelet.ensures.stands doc n (record { me = c.len-in-loop-process-2.ensures ∙ c.loop-process-2.processes.ok.0; settings = made.settings; process = process; events = made.events; own = made.own }) other)));
+          (c.keep_turn_beat-in-loop-process-2.ensures.stands doc n [] (c.in_ok-kubelet.ensures.stands doc n (record { me = c.len.ensures ∙ c.loop-process-2.processes.ok.0; settings = made.settings; process = process; events = made.events; own = made.own }) other)));
     }

@@ -9,7 +9,7 @@ invariant-loop-process l =
       count : length l.processes.items ≡ l.process-index;
       clocks : GoOnTo l.settings.end_beat.0 l.processes.items;
       kept : AreKept l.processes.items;
-      stands : (doc : Doc) → AreMadeOf doc l.settings l.controllers l.kubelets l.events → EachStands doc [] l.processes.items;
+      stands : (doc : Doc) → AreMadeOf doc l.settings l.controllers l.kubelets l.waits l.events → EachStands doc [] l.processes.items;
     }
 
 abbrev pub invariant-loop-process-2 : goal.invariant-loop-process-2
@@ -18,5 +18,5 @@ invariant-loop-process-2 l =
       count : length l.processes.items ≡ length l.controllers + l.process-index;
       clocks : GoOnTo l.settings.end_beat.0 l.processes.items;
       kept : AreKept l.processes.items;
-      stands : (doc : Doc) → AreMadeOf doc l.settings l.controllers l.kubelets l.events → EachStands doc [] l.processes.items;
+      stands : (doc : Doc) → AreMadeOf doc l.settings l.controllers l.kubelets l.waits l.events → EachStands doc [] l.processes.items;
     }

@@ -1,4 +1,4 @@
-use Rattle.std.proofs.Common.{false, [], refl, sym, ap, ◌∙◌, subst}
+use Rattle.std.proofs.Common.{◌≤◌, false, [], length, refl, sym, ap, ◌∙◌, subst}
 use Rattle.kube_objects.specs.Document.{field, of_millis}
 use Rattle.kube_objects.specs.Identities.{identity}
 use Rattle.history_laws.proofs.Plainly.{none_is}
@@ -6,7 +6,7 @@ use Rattle.world_process.specs.OwnTerm.{OwnsTerm}
 use Rattle.world_process.proofs.controller.Controller.new.Goals as goal
 
 pub returns-clause-stands : goal.returns-clause-stands
-returns-clause-stands c doc p made sort =
+returns-clause-stands c doc p made sort waits =
     let process = made.process in
     record {
       sort = sort;
@@ -18,8 +18,11 @@ returns-clause-stands c doc p made sort =
         retry = c.picoseconds-2.ensures.value ∙ ap (λ y. of_millis (field (λ x. x.retry_millis) 0 y)) (sym process);
         timeout = c.picoseconds-3.ensures.value ∙ ap (λ y. of_millis (field (λ x. x.timeout_millis) 0 y)) (sym process);
         fast = ap (λ y. y.fast_renew) (sym made.settings);
+        retries = ap (λ y. y.rules.retries) (sym made.settings);
+        respect = ap (λ y. y.rules.respect) (sym made.settings);
         own = made.own;
       };
+      waits = record { are = c.in_ok-copy.ensures ∙ waits; some = subst (λ ws. 1 ≤ length ws) (sym c.in_ok-copy.ensures) c.requires.waits.some };
       clock = c.in_ok-clock.ensures.clock doc p made;
       pauses = c.in_ok-clock.ensures.pauses doc p made;
       up_first = ap (λ y. field (λ x. x.up) false y) (sym process);

@@ -1,6 +1,7 @@
 use Rattle.std.proofs.Common.{◌≡◌, sym, ◌∙◌, subst}
 use Rattle.kube_objects.specs.Clocks.{wall}
 use Rattle.kube_objects.specs.Identities.{identity}
+use Rattle.leader_elector.specs.Stands.{AreWaitsOf}
 use Rattle.world_process.specs.declared.controller.Role.TheVariants as role
 use Rattle.world_process.specs.Controllers.{Timed}
 use Rattle.world_process.proofs.Readings.{wall-when}
@@ -14,7 +15,7 @@ returns-in-Candidate-clause-stands c doc k p h s now delay few =
     let q = identity p self.incarnation in
     let wall_is : c.wall_at-wall.result.0 ≡ wall doc p k = c.wall_at-wall.ensures.value ∙ wall-when doc p k c.args.now.0 self.clock s.clock now in
     let was = role-at doc p h self (role.Candidate c.in-Candidate.candidate) s c.in-Candidate.is in
-    let t = c.turn.ensures.turns doc q h k was.1 now wall_is (few.calls q) in
+    let t = c.turn.ensures.turns doc q h k was.1 (subst (AreWaitsOf doc p) (sym c.as_slice.ensures.each) s.waits) now wall_is (few.calls q) in
     subst (λ r. Timed doc k p h (record self { role = role.Candidate c.turn.new.self }) r.ended r.ask) (sym c.turn_with-in-Candidate.ensures) (candidate-turned doc k p h self c.turn.new.self c.turn.result s was.0 t)
 
 pub returns-in-Leading-clause-stands : goal.returns-in-Leading-clause-stands

@@ -1,7 +1,7 @@
 use Rattle.std.proofs.Common.{None, sym, ap, ◌∙◌, subst}
 use Rattle.kube_objects.specs.Identities.{identity}
 use Rattle.kube_objects.specs.Turns.{with_reply}
-use Rattle.leader_elector.specs.Stands.{CandidateStands, LeadingStands}
+use Rattle.leader_elector.specs.Stands.{AreWaitsOf, CandidateStands, LeadingStands}
 use Rattle.world_process.specs.declared.controller.Role.TheVariants as role
 use Rattle.world_process.specs.Controllers.{Replied}
 use Rattle.world_process.proofs.Answering.{is-back, answers-stays, answers-asks, answers-leads, replied-other, replied-down}
@@ -28,7 +28,7 @@ returns-in-Stays-clause-stands c doc k p b h s at who number reply few =
     let back = is-back b p c.args.incarnation self.incarnation c.args.number c.args.reply.now who c.if-incarnation-self.false number reply in
     subst (λ r. Replied doc k p b h (record self { role = role.Candidate c.hear.new.self }) r) (sym c.stays-in-Stays.ensures) (answers-stays doc k p b c.args.number c.args.reply.now h self (role.Candidate c.hear.new.self) (λ g. CandidateStands doc q g c.hear.new.self) s back was.0 (λ g up stands. (up, stands))
     (λ off call. (c.in-Stays.ensures.uncounted doc q h k was.1 reads.now was.0 off call).1)
-    (λ call some. c.in-Stays.ensures.counts doc q h k call was.1 reads.now reads.wall (few.calls q) some))
+    (λ call some. c.in-Stays.ensures.counts doc q h k call was.1 (subst (AreWaitsOf doc p) (sym c.as_slice-waits.ensures.each) s.waits) reads.now reads.wall (few.calls q) some))
 
 pub returns-in-Asks-clause-stands : goal.returns-in-Asks-clause-stands
 returns-in-Asks-clause-stands c doc k p b h s at who number reply few =
@@ -39,7 +39,7 @@ returns-in-Asks-clause-stands c doc k p b h s at who number reply few =
     let back = is-back b p c.args.incarnation self.incarnation c.args.number c.args.reply.now who c.if-incarnation-self.false number reply in
     subst (λ r. Replied doc k p b h (record self { role = role.Candidate c.hear.new.self }) r) (sym c.asks.ensures) (answers-asks doc k p b c.args.number c.args.reply.now h self (role.Candidate c.hear.new.self) c.in-Asks.ask (λ g. CandidateStands doc q g c.hear.new.self) s back was.0 (λ g up stands. (up, stands))
     (λ off. let no = (c.in-Asks.ensures.uncounted doc q h k was.1 reads.now was.0 off b.call).0 in cc)
-    (λ call some. c.in-Asks.ensures.counts doc q h k call was.1 reads.now reads.wall (few.calls q) some))
+    (λ call some. c.in-Asks.ensures.counts doc q h k call was.1 (subst (AreWaitsOf doc p) (sym c.as_slice-waits.ensures.each) s.waits) reads.now reads.wall (few.calls q) some))
 
 pub returns-in-Wins-clause-stands : goal.returns-in-Wins-clause-stands
 returns-in-Wins-clause-stands c doc k p b h s at who number reply few =
@@ -53,7 +53,7 @@ returns-in-Wins-clause-stands c doc k p b h s at who number reply few =
     (answers-leads doc k p b c.args.number c.args.reply.now h self led c.leads.result.lead (λ g. LeadingStands doc q g c.lead.result) s back was.0 (λ g up stands. (up, stands)) c.leads.ensures.lead
     (λ off. let no = (c.in-Wins.ensures.uncounted doc q h k was.1 reads.now was.0 off b.call).0 in cc)
     (λ call some.
-    let t = c.in-Wins.ensures.counts doc q h k call was.1 reads.now reads.wall (few.calls q) some in
+    let t = c.in-Wins.ensures.counts doc q h k call was.1 (subst (AreWaitsOf doc p) (sym c.as_slice-waits.ensures.each) s.waits) reads.now reads.wall (few.calls q) some in
     (t.0, t.1, subst (λ g. LeadingStands doc q g c.lead.result) (sym t.1) (c.lead.ensures.stands doc q (with_reply k q call c.args.reply.now h) k 3 t.0 t.2))))
 
 pub returns-in-Leading-clause-stands : goal.returns-in-Leading-clause-stands

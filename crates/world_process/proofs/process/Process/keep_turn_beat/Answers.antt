@@ -14,6 +14,7 @@ returns-in-Controller-clause-stands c doc p h s =
       me = own.me;
       incarnation = own.incarnation;
       timing = own.timing;
+      waits = own.waits;
       clock = own.clock;
       up_first = own.up_first;
       role = own.role;
@@ -29,7 +30,7 @@ returns-in-Controller-clause-kept c timed =
       timed = c.keep.ensures.kept own;
       first = λ doc p h at s is.
           let stood : ControllerStands doc p h c.in-Controller.controller =
-          record { sort = s.sort; me = s.me; incarnation = s.incarnation; timing = s.timing; clock = s.clock; up_first = s.up_first; role = s.role; term = s.term; pauses = s.pauses; waking = own } in
+          record { sort = s.sort; me = s.me; incarnation = s.incarnation; timing = s.timing; waits = s.waits; clock = s.clock; up_first = s.up_first; role = s.role; term = s.term; pauses = s.pauses; waking = own } in
           beat-same c.in-Controller.controller.clock c.keep.new.self.until c.wake-wake.result at (c.wake-wake.ensures doc p h (subst (ProcessStands doc p h) (sym c.in-Controller.is) stood) ∙ sym is) (c.keep.ensures.found own);
     }
 
