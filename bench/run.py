@@ -1,16 +1,18 @@
 #!/usr/bin/env python3
 """Measures the built program, and a reference beside it where one is given, on the same documents.
 
-    python3 bench/run.py [--program COMMAND] [--reference COMMAND] [--only NAME] [--runs N] [--divide N] [--keep FOLDER]
+    python3 bench/run.py [--program COMMAND] [--reference COMMAND] [--json COMMAND] [--only NAME ..] [--runs N] [--divide N] [--keep FOLDER]
 
 COMMAND is a program that takes the words `replay` or `check` and the document on standard input, and `generate` with its four
 numbers; the first one is by default crates/kube_replay/out/kube_replay, which `cd crates/kube_replay && rt run` builds. Each is
 run N times (1), the least time counts. --divide makes the beats and the objects fewer by that factor, for a reference that is
-slow. --keep leaves the documents in a folder. The table has wall-clock seconds, the greatest resident memory, and how many times the
-reference's time is the program's. The exit status is 1 where the two write different bytes or end differently, or the program
-doesn't end with 0.
+slow. --keep leaves the documents in a folder. The table has wall-clock seconds, those of the processor, the greatest resident memory, and how
+many times the reference's time is the program's. With --json COMMAND each row of `check` has the processor seconds and the memory of a program
+that does nothing but read the same JSON, as bench/read_json does by serde_json (`cd bench/read_json && cargo build --release`). The exit status
+is 1 where program and reference write different bytes or end differently, or the program doesn't end with 0.
 """
 import argparse
+import collections
 import hashlib
 import json
 import os
@@ -87,6 +89,14 @@ def kubelets(count, beat_millis, skew):
     return document
 
 
+def large_cluster(nodes, pods, beats, kill_zone):
+    """A cluster that tools/make-cluster makes, whose pods are said by sets; in some a zone dies at minute ten. Its end doesn't move."""
+    def document(divide):
+        words = [str(nodes // divide), str(pods // divide), '--beats', str(beats), *['--kill-zone'] * kill_zone]
+        return json.loads(subprocess.run([sys.executable, os.path.join(TOP, 'tools', 'make-cluster'), *words], stdout=subprocess.PIPE, check=True).stdout)
+    return document
+
+
 def nothing(_):
     """`generate` reads no document."""
     return None
@@ -96,7 +106,10 @@ CASES = [('one-controller', 'replay', one_controller), ('skewed-clocks', 'replay
          ('large-document', 'check', large_document),
          ('1000-kubelets-10ms', 'replay', kubelets(1_000, 10, False)), ('1000-skewed-kubelets-10ms', 'replay', kubelets(1_000, 10, True)),
          ('1000-skewed-kubelets-1ms', 'replay', kubelets(1_000, 1, True)), ('100-skewed-kubelets-10ms', 'replay', kubelets(100, 10, True)),
-         ('generated', 'generate', nothing)]
+         ('generated', 'generate', nothing),
+         ('1000-nodes-zone-dies', 'replay', large_cluster(1_000, 30_000, 3_600, True)), ('5000-nodes-zone-dies', 'replay', large_cluster(5_000, 150_000, 3_600, True)),
+         ('15000-nodes', 'replay', large_cluster(15_000, 450_000, 600, False)),
+         ('5000-nodes', 'check', large_cluster(5_000, 150_000, 3_600, True))]
 
 
 def text_of(value):
@@ -110,72 +123,88 @@ def words_of(word, divide):
     return [word, '7', *(str(many // divide) for many in (1_000, 30_000, 1_200))]
 
 
+Run = collections.namedtuple('Run', 'seconds processor mebibytes status digest')
+
+
 def measured(command, path):
-    """Runs once: seconds, peak memory in MiB, exit status, and a digest of what was written."""
-    with open(path, 'rb') as given, tempfile.TemporaryFile() as written, tempfile.NamedTemporaryFile('r') as peak:
+    """Runs once: seconds, those of the processor, peak memory in MiB, exit status, and a digest of what was written."""
+    with open(path, 'rb') as given, tempfile.TemporaryFile() as written, tempfile.NamedTemporaryFile('r') as told:
         start = time.monotonic()
-        status = subprocess.run(['/usr/bin/time', '-q', '-f', '%M', '-o', peak.name, *command],
+        status = subprocess.run(['/usr/bin/time', '-q', '-f', '%U %S %M', '-o', told.name, *command],
                                 stdin=given, stdout=written).returncode
         seconds = time.monotonic() - start
-        mebibytes = int(peak.read().split()[-1]) / 1024
+        user, system, kibibytes = map(float, told.read().split()[-3:])
         written.seek(0)
         digest = hashlib.sha256()
         size = 0
         for piece in iter(lambda: written.read(1 << 20), b''):
             digest.update(piece)
             size += len(piece)
-    return seconds, mebibytes, status, (size, digest.hexdigest())
+    return Run(seconds, user + system, kibibytes / 1024, status, (size, digest.hexdigest()))
 
 
 def best(command, path, runs):
-    """Of several runs the one with the least time, and the greatest memory of all."""
+    """Of several runs the least times, and the greatest memory of all."""
     every = [measured(command, path) for _ in range(runs)]
-    seconds, _, status, digest = min(every)
-    return seconds, max(memory for _, memory, _, _ in every), status, digest
+    return min(every)._replace(processor=min(run.processor for run in every), mebibytes=max(run.mebibytes for run in every))
 
 
-def main():
+def options():
     parser = argparse.ArgumentParser(description=__doc__, formatter_class=argparse.RawDescriptionHelpFormatter)
     parser.add_argument('--program', default=shlex.quote(PROGRAM))
     parser.add_argument('--reference')
-    parser.add_argument('--only', choices=[name for name, _, _ in CASES])
+    parser.add_argument('--json')
+    parser.add_argument('--only', nargs='+', choices=[name for name, _, _ in CASES])
     parser.add_argument('--runs', type=int, default=1)
     parser.add_argument('--divide', type=int, default=1)
     parser.add_argument('--keep')
     given = parser.parse_args()
     if given.runs < 1 or given.divide < 1:
         parser.error('--runs and --divide are at least 1')
-    program = shlex.split(given.program)
-    reference = shlex.split(given.reference) if given.reference else None
-    if program == [PROGRAM] and not os.access(PROGRAM, os.X_OK):
+    if shlex.split(given.program) == [PROGRAM] and not os.access(PROGRAM, os.X_OK):
         parser.error("no built program: run 'cd crates/kube_replay && rt run -- replay < ../../examples/one-controller.json' first, or give --program")
+    return given
+
+
+ROW = '%-25s %-8s %10s %10s %9s %9s %9s %11s %9s %7s  %s'
+HEAD = ('document', 'command', 'bytes in', 'bytes out', 'seconds', 'processor', 'MiB', 'ref. sec.', 'ref. MiB', 'ratio', 'output')
+
+
+def compared(given, name, word, path):
+    """Prints the row of a document, and says whether all is well."""
+    words = words_of(word, given.divide)
+    run = best(shlex.split(given.program) + words, path, given.runs)
+    cells = [name, word, os.path.getsize(path), run.digest[0], '%.3f' % run.seconds, '%.2f' % run.processor, '%.1f' % run.mebibytes, '', '', '', '']
+    is_well = run.status == 0
+    if not is_well:
+        cells[-1] = 'status %d' % run.status
+    if given.reference:
+        theirs = best(shlex.split(given.reference) + words, path, given.runs)
+        cells[7:10] = '%.3f' % theirs.seconds, '%.1f' % theirs.mebibytes, '%.1f' % (theirs.seconds / max(run.seconds, 1e-6))
+        if is_well:
+            is_well = (theirs.status, theirs.digest) == (run.status, run.digest)
+            cells[-1] = 'same' if is_well else 'DIFFERS'
+    print(ROW % tuple(cells), flush=True)
+    if given.json and word == 'check':
+        read = best(shlex.split(given.json), path, given.runs)
+        print(ROW % ('', 'its JSON', '', '', '%.3f' % read.seconds, '%.2f' % read.processor, '%.1f' % read.mebibytes, '', '', '', ''), flush=True)
+    return is_well
+
+
+def main():
+    given = options()
     wrong = 0
-    row = '%-16s %-7s %10s %10s %9s %9s %11s %9s %7s  %s'
-    print(row % ('document', 'command', 'bytes in', 'bytes out', 'seconds', 'MiB', 'ref. sec.', 'ref. MiB', 'ratio', 'output'))
+    print(ROW % HEAD)
     with tempfile.TemporaryDirectory() as room:
         folder = given.keep or room
         os.makedirs(folder, exist_ok=True)
         for name, word, make in CASES:
-            if given.only not in (None, name):
+            if given.only and name not in given.only:
                 continue
-            text = text_of(make(given.divide))
             path = os.path.join(folder, name + '.json')
             with open(path, 'wb') as file:
-                file.write(text)
-            words = words_of(word, given.divide)
-            seconds, memory, status, digest = best(program + words, path, given.runs)
-            cells = [name, word, len(text), digest[0], '%.3f' % seconds, '%.1f' % memory, '', '', '', '']
-            if status != 0:
-                cells[-1] = 'status %d' % status
-                wrong = 1
-            if reference:
-                theirs = best(reference + words, path, given.runs)
-                cells[6:9] = '%.3f' % theirs[0], '%.1f' % theirs[1], '%.1f' % (theirs[0] / max(seconds, 1e-6))
-                if status == 0:
-                    is_same = theirs[2:] == (status, digest)
-                    cells[-1] = 'same' if is_same else 'DIFFERS'
-                    wrong = wrong or not is_same
-            print(row % tuple(cells), flush=True)
+                file.write(text_of(make(given.divide)))
+            wrong += not compared(given, name, word, path)
     return 1 if wrong else 0
 
 

@@ -6,10 +6,12 @@ import subprocess
 
 import network
 import programs
-from lists import Unread
+from lists import PODS, Unread
 from words import cluster_words
 
 MOST_BYTES = 16_777_216
+# So many pods keep their names; more are said by sets, since a document has no room for them.
+MOST_NAMED = 30_000
 # How the answers on the settings end where they say no; `safe` is the last of both.
 NO = {'margin': rb'(unsafe|"safe":false})\s*$', 'bounds': rb'(may-end|"stays":false,"safe":(true|false)})\s*$'}
 
@@ -23,8 +25,8 @@ class Answers:
     def document(self, cluster):
         """The document of the cluster with what happens to it, as bytes."""
         text = json.dumps({'kind': 'List', 'items': cluster.items}).encode()
-        done = programs.run([*programs.tool('tools', 'from-cluster'), *self.manifest(cluster.manager), *cluster_words(self.given)], text, cwd=self.folder)
-        said = done.stderr.decode(errors='replace').replace('from-cluster: ', '')
+        done = programs.run([*programs.tool('tools', 'from-cluster'), *self.manifest(cluster.manager), self.form(cluster), *cluster_words(self.given)], text, cwd=self.folder)
+        said = done.stderr.decode(errors='replace').replace('from-cluster: ', '').replace('; --written-out keeps their names', '')
         if done.returncode:
             raise Unread(said.strip() or 'from-cluster ended with %d' % done.returncode)
         made = done.stdout
@@ -32,6 +34,11 @@ class Answers:
             made = json.dumps(network.slow(json.loads(made), self.given.of, self.given.at or '60s'), separators=(',', ':')).encode() + b'\n'
         self.say(said)
         return made
+
+    def form(self, cluster):
+        """Whether pods are written out, under their names, or said by sets."""
+        pods = sum(item['kind'] == PODS.kind for item in cluster.items)
+        return '--sets' if self.given.sets or pods > MOST_NAMED else '--written-out'
 
     def manifest(self, manager):
         """--from-manifest with the user's file, or with the words of the leader's pod."""

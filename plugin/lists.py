@@ -5,13 +5,16 @@ import re
 import subprocess
 import urllib.parse
 
+import cluster_stream
+
 Resource = collections.namedtuple('Resource', 'name folder version kind')
 NODES = Resource('nodes', '/api/v1', 'v1', 'Node')
 PODS = Resource('pods', '/api/v1', 'v1', 'Pod')
 LEASES = Resource('leases', '/apis/coordination.k8s.io/v1', 'coordination.k8s.io/v1', 'Lease')
 TIMEOUT = re.compile(r'deadline exceeded|Client\.Timeout|request canceled|timed out|i/o timeout|handshake timeout')
-# What of an item no command reads, and makes most of its bytes. The containers of the control plane's own pods have its flags.
-UNREAD = {'metadata': ('managedFields', 'annotations', 'ownerReferences'), 'spec': ('volumes', 'initContainers'), 'status': ('containerStatuses', 'images')}
+# What of an item no command reads, and makes most of its bytes. The containers of the control plane's own pods have its flags; of other pods no more is
+# kept than tools/from-cluster reads.
+UNREAD = {'metadata': ('managedFields', 'annotations'), 'spec': ('volumes', 'initContainers'), 'status': ('containerStatuses', 'images')}
 SYSTEM = 'kube-system'
 
 
@@ -33,12 +36,12 @@ def path_of(resource, namespace, piece, token):
     return '%s/%s%s' % (resource.folder, place, '?' + urllib.parse.urlencode(query) if query else '')
 
 
-def lighter(item):
+def lighter(item, shared):
+    if item['kind'] == PODS.kind and item['metadata'].get('namespace') != SYSTEM:
+        return cluster_stream.slim(item, shared)
     for part, keys in UNREAD.items():
         for key in keys:
             (item.get(part) or {}).pop(key, None)
-    if item['metadata'].get('namespace') != SYSTEM:
-        (item.get('spec') or {}).pop('containers', None)
     return item
 
 
@@ -66,12 +69,12 @@ class Lists:
             return list(self.items(resource, namespace, 0))
 
     def items(self, resource, namespace, piece):
-        token, earlier = None, set()
+        token, earlier, shared = None, set(), {}
         while token not in earlier:
             earlier.add(token)
             items, token = self.part(resource, self.server_path() + path_of(resource, namespace, piece, token))
             for item in items:
-                yield lighter({**item, 'apiVersion': resource.version, 'kind': resource.kind})
+                yield lighter({**item, 'apiVersion': resource.version, 'kind': resource.kind}, shared)
             if not token:
                 return
         raise Unread('the list of %s never ends: the same piece comes again' % resource.name)

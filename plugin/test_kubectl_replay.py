@@ -35,7 +35,8 @@ LISTS = re.compile(r'/api/v1/(namespaces/[a-z-]+/)?(nodes|pods)(\?|$)|/apis/coor
 # Each command with the words of tools/from-cluster for the pipeline, where these can say it.
 COMMANDS = {('margin',): [], ('bounds',): [], ('kill-leader',): ['--kill-leader', '@60s'], ('kill-node', 'worker-002', '--at', '90s'): ['--kill', 'worker-002@90s'],
             ('kill-zone', 'eu-1b'): ['--kill-zone', 'eu-1b@60s'], ('freeze-leader', '45s', '--for', '5m'): ['--stall', '@60s+45s', '--for', '5m'],
-            ('slow-network', '2s', '--clock', 'cp-1=1.02'): ['--clock', 'cp-1=1.02']}
+            ('slow-network', '2s', '--clock', 'cp-1=1.02'): ['--clock', 'cp-1=1.02'],
+            ('kill-zone', 'eu-1b', '--sets'): ['--kill-zone', 'eu-1b@60s', '--sets']}
 
 
 OF_SETTINGS = (('margin',), ('bounds',))
@@ -93,7 +94,8 @@ class Pipeline(Replay):
         with open(manifest, 'w', encoding='utf-8') as file:
             file.write(MANIFEST)
         listed = run(['kubectl', 'get', 'nodes,pods,leases', '-A', '-o', 'json'], env=self.place)
-        made = json.loads(run([os.path.join(TOP, 'tools', 'from-cluster'), '--from-manifest', manifest, *words], listed))
+        form = [] if '--sets' in words else ['--written-out']
+        made = json.loads(run([os.path.join(TOP, 'tools', 'from-cluster'), '--from-manifest', manifest, *form, *words], listed))
         if command[0] == 'slow-network':
             names = [each['name'] for each in made['controllers']] + ['kubelet/' + each['metadata']['name'] for each in json.loads(listed)['items'] if each['kind'] == 'Node']
             made['events'] = [{'beat': 600, 'type': 'delay', 'process': name, 'requestBeats': 20, 'replyBeats': 20} for name in names]
@@ -461,6 +463,29 @@ class Large(unittest.TestCase):
         answers.MOST_BYTES = len(document) + len(trace) - 1
         self.assertEqual(asked.summary(document, trace), run(lens, trace))
         self.assertEqual(said, ['document and trace have more than %d bytes: how late each pod goes is not told' % answers.MOST_BYTES])
+
+
+class Sets(Replay):
+    """More pods than a document has room for by name are said by sets, and the answer is the same but for names."""
+
+    def test_sets(self):
+        named = json.loads(self.answer('kill-zone', 'eu-1b', '--document'))
+        sets = json.loads(self.answer('kill-zone', 'eu-1b', '--document', '--sets'))
+        self.assertEqual((named['version'], 'podSets' in named, sets['version']), (1, False, 4))
+        self.assertEqual({key: sets[key] for key in named if key not in ('version', 'objects')}, {key: named[key] for key in named if key not in ('version', 'objects')})
+        in_sets = sum(member['pods'] for each in sets['podSets'] for member in each['on'])
+        pods = [sum(item['kind'] == 'Pod' for item in made['objects']['items']) for made in (named, sets)]
+        self.assertEqual((pods[0], pods[1] + in_sets), (self.pods, self.pods))
+        tables = [self.summary('kill-zone', 'eu-1b', *words) for words in ((), ('--sets',))]
+        self.assertEqual(tables[0]['nodes'], tables[1]['nodes'])
+        gone = [sorted((each['pod'].partition('/')[0], each['due'], each['evicted'], each['by']) for each in table['evictions']) for table in tables]
+        self.assertEqual(gone[0], gone[1])
+        self.assertTrue(gone[0])
+
+    def test_many(self):
+        asked = answers.Answers(argparse.Namespace(sets=False), None, None)
+        for count, wanted in ((answers.MOST_NAMED, '--written-out'), (answers.MOST_NAMED + 1, '--sets')):
+            self.assertEqual(asked.form(argparse.Namespace(items=[{'kind': 'Node'}, *[{'kind': 'Pod'}] * count])), wanted)
 
 
 class Krew(Replay):

@@ -35,8 +35,9 @@ def toleration(kind, seconds):
     return {'key': 'node.kubernetes.io/' + kind, 'operator': 'Exists', 'effect': 'NoExecute', 'tolerationSeconds': seconds}
 
 
-def pod(namespace, name, host, seconds=300):
-    return {'metadata': meta(name, namespace, {'app': 'web'}),
+def pod(namespace, name, host, seconds=300, owner=None):
+    owners = {'ownerReferences': [{'apiVersion': 'apps/v1', 'kind': 'ReplicaSet', 'name': owner, 'controller': True}]} if owner else {}
+    return {'metadata': {**meta(name, namespace, {'app': 'web'}), **owners},
             'spec': {'nodeName': host, 'containers': [{'name': 'web', 'image': 'web:1', 'env': [{'name': 'TOKEN', 'value': 'not for others'}]}],
                      'tolerations': [toleration('not-ready', seconds), toleration('unreachable', seconds)]},
             'status': {'phase': 'Running', 'containerStatuses': [{'name': 'web', 'ready': True}]}}
@@ -51,7 +52,8 @@ def manager(host, words):
 
 
 def cluster(nodes, pods, words=None, seed=7):
-    """Three hosts of a control plane, of which cp-2 leads, and workers in three zones; lists by the name of their resource."""
+    """Three hosts of a control plane, of which cp-2 leads, and workers in three zones; pods of ten owners in each namespace. Lists by the name of their
+    resource."""
     draws, words = random.Random(seed), words or MANAGER
     hosts = ['cp-%d' % number for number in (1, 2, 3)] + ['worker-%03d' % number for number in range(1, nodes - 2)]
     made = {'nodes': [node(name, 'eu-1' + 'abc'[place % 3], draws.randrange(1, 9), place < 3) for place, name in enumerate(hosts)], 'pods': [], 'leases': []}
@@ -61,5 +63,5 @@ def cluster(nodes, pods, words=None, seed=7):
     made['leases'].append(lease('kube-system', 'kube-scheduler', 'cp-1_77', 1, 15))
     made['pods'] = [manager(name, words) for name in hosts[:3]]
     for number in range(pods - 3):
-        made['pods'].append(pod('shop' if number % 2 else 'default', 'web-%04d' % number, draws.choice(hosts[3:]), draws.choice((0, 30, 300))))
+        made['pods'].append(pod('shop' if number % 2 else 'default', 'web-%04d' % number, draws.choice(hosts[3:]), draws.choice((0, 30, 300)), 'web-%d' % (number // 2 % 10)))
     return made

@@ -54,6 +54,7 @@ def parser():
     made.add_argument('--json', action='store_true', help='the answer as one JSON object')
     made.add_argument('--explain', action='store_true', help='on standard error each value that was taken, and how it is known')
     made.add_argument('--redact', action='store_true', help='numbers in place of all names')
+    made.add_argument('--sets', action='store_true', help='alike pods are said by sets and have no names of their own; so it is anyway with more than 30,000')
     add_kubectl(made.add_argument_group('flags of kubectl'))
     add_facts(made.add_argument_group('what the lists do not tell'))
     return made

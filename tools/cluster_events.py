@@ -1,4 +1,4 @@
-"""What happens to the cluster: kubelets and controllers that die, or that are frozen for a while."""
+"""What happens to the cluster: kubelets and controllers that die, or that are frozen for a while, and a store that stands still."""
 from cluster_flags import Wrong, millis
 from cluster_told import few
 
@@ -54,22 +54,45 @@ def tell_going_on(events, controllers, told):
 
 
 def stalls_of(given, found, controllers, beat):
+    """The controllers and kubelets that are frozen."""
     events = []
     for text in given.stall:
-        start, plus, length = text.rpartition('+')
-        if not plus:
-            raise Wrong('--stall %s: it is NAME@60s+45s, from when on and for how long' % text)
-        name, at = split_at(start, '--stall', 'NAME@60s+45s, or @60s+45s')
-        beats = millis(length, '--stall %s' % text) // beat
-        if beats == 0:
-            raise Wrong('--stall %s: that is shorter than a beat' % text)
-        events.append({'beat': at // beat, 'type': 'pause', 'process': stalled_by(name, text, found, controllers), 'beats': beats})
+        name, at, beats = span_at(text, '--stall', 'NAME@60s+45s, or @60s+45s', beat)
+        events.append({'beat': at, 'type': 'pause', 'process': stalled_by(name, text, found, controllers), 'beats': beats})
+    return apart(events, lambda event: '--stall: %s is frozen at beat %d still, or has just gone on' % (event['process'], event['beat']))
+
+
+def store_stalls_of(given, beat):
+    """The store that stands still."""
+    events = []
+    for text in given.stall_store:
+        name, at, beats = span_at('@' * ('@' not in text) + text, '--stall-store', '@60s+12s', beat)
+        if name:
+            raise Wrong('--stall-store %s: there is one store; it takes a time alone, as --stall-store @60s+12s' % text)
+        events.append({'beat': at, 'type': 'stall', 'beats': beats})
+    return apart(events, lambda event: '--stall-store: the store stands still at beat %d still, or has just gone on' % event['beat'])
+
+
+def span_at(text, option, form, beat):
+    """NAME@TIME+TIME as the name, the beat at which it begins, and how many beats it takes."""
+    start, plus, length = text.rpartition('+')
+    if not plus:
+        raise Wrong('%s %s: it is %s, from when on and for how long' % (option, text, form))
+    name, at = split_at(start, option, form)
+    beats = millis(length, '%s %s' % (option, text)) // beat
+    if beats == 0:
+        raise Wrong('%s %s: that is shorter than a beat' % (option, text))
+    return name, at // beat, beats
+
+
+def apart(events, told):
+    """The events in order, where each begins after the ones before it of the same process are over."""
     events.sort(key=lambda event: event['beat'])
     over = {}
     for event in events:
-        if event['beat'] <= over.get(event['process'], -1):
-            raise Wrong('--stall: %s is frozen at beat %d still, or has just gone on' % (event['process'], event['beat']))
-        over[event['process']] = event['beat'] + event['beats']
+        if event['beat'] <= over.get(event.get('process'), -1):
+            raise Wrong(told(event))
+        over[event.get('process')] = event['beat'] + event['beats']
     return events
 
 
@@ -86,5 +109,5 @@ def stalled_by(name, text, found, controllers):
 def see_end(events, end):
     late = [event for event in events if event['beat'] > end]
     if late:
-        word = {'crash': 'killed', 'pause': 'frozen'}[late[0]['type']]
-        raise Wrong('what is %s at beat %d is after the end; let it run longer: --for' % (word, late[0]['beat']))
+        word = {'crash': 'what is killed', 'pause': 'what is frozen', 'stall': 'a store that stands still'}[late[0]['type']]
+        raise Wrong('%s at beat %d is after the end; let it run longer: --for' % (word, late[0]['beat']))

@@ -53,6 +53,11 @@ class Found:
     def pods(self):
         return [item for item in self.items if item.get('kind') == 'Pod']
 
+    def counts(self):
+        """How many Nodes, Pods and Leases a document of the list has."""
+        leases = [item for item in self.items if is_lease(item, NODE_LEASES) or is_election(item)]
+        return {'Node': len(self.nodes), 'Pod': len(self.pods()), 'Lease': len(leases)}
+
     def pod_sets(self):
         """The sets of pods, and the pods that are in none, with the fields that are read."""
         return sets_of((kept_pod(pod), owner_of(pod)) for pod in self.pods())

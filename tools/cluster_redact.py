@@ -24,9 +24,14 @@ def redacted(document):
     for each in document.get('podSets', []):
         hide_set(each, numbers)
     for event in document['events']:
-        node = event['process'].removeprefix('kubelet/')
-        event['process'] = 'kubelet/' + numbers.of('node', node) if node != event['process'] else numbers.of('controller', node)
+        if 'process' in event:
+            hide_process(event, numbers)
     return document
+
+
+def hide_process(event, numbers):
+    node = event['process'].removeprefix('kubelet/')
+    event['process'] = 'kubelet/' + numbers.of('node', node) if node != event['process'] else numbers.of('controller', node)
 
 
 def hide_node(item, numbers):

@@ -106,7 +106,7 @@ def slim_pod(item, shared):
     meta, tolerations = only(item['metadata'], 'namespace', 'name'), part(item, 'spec', 'tolerations') or []
     owner = next((each for each in item['metadata'].get('ownerReferences') or [] if each.get('controller')), None)
     if owner:
-        meta['ownerReferences'] = shared.setdefault((owner.get('kind'), owner.get('name')), [only(owner, 'kind', 'name')])
+        meta['ownerReferences'] = shared.setdefault((owner.get('kind'), owner.get('name')), [only(owner, 'kind', 'name', 'controller')])
     spec = {key: shared.setdefault(value, value) for key, value in only(item['spec'], 'nodeName').items()}
     spec['tolerations'] = shared.setdefault((json.dumps(tolerations),), tolerations)
     return {'kind': 'Pod', 'metadata': meta, 'spec': spec}

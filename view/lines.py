@@ -1,7 +1,7 @@
 """What the lines of a trace say of lanes, marks and states, counted apart from the page and in another way: beat by beat."""
 from collections import Counter
 
-TAKEN = ('start', 'crash', 'stop', 'end', 'pause', 'lead', 'zone', 'mode', 'put', 'remove')
+TAKEN = ('start', 'crash', 'stop', 'end', 'pause', 'stall', 'lead', 'zone', 'mode', 'put', 'remove')
 
 
 def read(path):
@@ -56,7 +56,7 @@ def marks(rows):
     count, left = Counter(), {}
     for number, beat, actor, words in rows:
         count[(*subject(actor, words), number, mark(words))] += 1
-        if actor == 'script' and not words[1].startswith('lease/'):
+        if actor == 'script' and words[0] != 'stall' and not words[1].startswith('lease/'):
             sort, _, name = words[1].partition('/')
             count[(sort, name, number, words[0])] += 1
         if actor == 'script':

@@ -215,10 +215,10 @@ def terminated_pods():
     return text_of({'now': '2024-01-02T00:00:00Z', 'threshold': 1, 'missing': missing, 'objects': as_list([node('n%d' % i) for i in range(1_000)] + pods)})
 
 
-def tolerating_pods():
-    """Each pod tolerates each of a node's hundred taints by the last of its tolerations."""
-    tolerations = [{'key': 'x%d' % i} for i in range(97)] + [{'operator': 'Exists'}]
-    pods = [pod('p%d' % i, '', tolerations) for i in range(7_000)]
+def tolerating_pods(differ=False):
+    """Each pod tolerates each of a node's hundred taints by the last of its tolerations. All have the same, or one is another pod by pod."""
+    tolerations = lambda i: [{'key': 'x%d' % j} for j in range(96)] + [{'key': 'y%d' % i if differ else 'x96'}, {'operator': 'Exists'}]
+    pods = [pod('p%d' % i, '', tolerations(i)) for i in range(7_000)]
     return text_of({'objects': as_list(tainted_nodes(1_000, 100, 'NoSchedule') + pods)})
 
 
@@ -294,4 +294,5 @@ CASES = {
     'acting lines': ('audit', acting_lines),
     '30,000 terminated pods': ('collect', terminated_pods),
     'tolerations and taints': ('place', tolerating_pods),
+    'tolerations that differ, and taints': ('place', lambda: tolerating_pods(differ=True)),
 }

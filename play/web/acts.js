@@ -14,9 +14,12 @@ const millisField = (key, label) => ({
 
 const switchField = (key, label) => ({ key, label, isSwitch: true, get: event => event[key], set: (event, value) => ({ ...event, [key]: value }) });
 
+const lastingField = { key: 'beats', label: 'for', unit: 's', least: 0.001, step: 'any',
+  get: (event, document) => event.beats * beatMillis(document) / 1000, set: (event, value, document) => ({ ...event, beats: beatsOf(document, value * 1000) }) };
+
 export const FIELDS = {
-  pause: [{ key: 'beats', label: 'for', unit: 's', least: 0.001, step: 'any',
-    get: (event, document) => event.beats * beatMillis(document) / 1000, set: (event, value, document) => ({ ...event, beats: beatsOf(document, value * 1000) }) }],
+  pause: [lastingField],
+  stall: [lastingField],
   rate: [{ key: 'ratePpm', label: 'off by', unit: '%', least: -50, most: 100, step: 'any',
     get: event => (event.ratePpm - 1e6) / 1e4, set: (event, value) => ({ ...event, ratePpm: Math.round(1e6 + value * 1e4) }) }],
   delay: [millisField('requestBeats', 'requests take'), millisField('replyBeats', 'replies take')],
@@ -27,11 +30,12 @@ export const FIELDS = {
 
 // How each type of event is shown: a sign, and words by its values.
 const ms = (beats, document) => short(beats * beatMillis(document)) + ' ms';
-export const SIGNS = { crash: '✕', start: '▶', stop: '■', pause: '‖', rate: '◷', delay: '⇄', loss: '⌿', watch: '◉', ready: '♥', put: '+', remove: '−' };
+export const SIGNS = { crash: '✕', start: '▶', stop: '■', pause: '‖', stall: '≡', rate: '◷', delay: '⇄', loss: '⌿', watch: '◉', ready: '♥', put: '+', remove: '−' };
 
 export const TOLD = {
   crash: () => 'crashes', start: () => 'starts', stop: () => 'stops in good order',
   pause: (event, document) => 'is paused for ' + short(event.beats * beatMillis(document) / 1000) + ' s',
+  stall: (event, document) => 'stands still for ' + short(event.beats * beatMillis(document) / 1000) + ' s',
   rate: ({ ratePpm: rate }) => (rate === 1e6 ? 'its clock goes right' : 'its clock is ' + short(Math.abs(rate - 1e6) / 1e4) + ' % ' + (rate > 1e6 ? 'fast' : 'slow')),
   delay: (event, document) => 'requests take ' + ms(event.requestBeats, document) + ', replies ' + ms(event.replyBeats, document),
   loss: event => ([event.requests && 'requests', event.replies && 'replies'].filter(Boolean).join(' and ') || 'no messages') + ' are lost',
@@ -40,10 +44,12 @@ export const TOLD = {
   put: event => 'is stored', remove: () => 'is removed',
 };
 
+export const STORE = 'the store';
 const nameOf = object => object.kind + ' ' + (object.metadata ? object.metadata.name : object.name);
 
 export function subject(event) {
   if (event.process) return event.process.replace('kubelet/', 'kubelet of ');
+  if (event.type === 'stall') return STORE;
   return nameOf(event.type === 'put' ? event.object || {} : event);
 }
 
@@ -70,9 +76,11 @@ export const ACTS = [
   { words: 'posts Ready False', of: ['node'], events: (process, beat) => [{ beat, type: 'ready', process, status: 'False' }] },
 ];
 
-// What can happen to the store, and so to every process of the document.
-export const STORE_ACTS = ACTS.filter(act => act.words === 'slow network' || act.words === 'messages lost')
-  .map(act => ({ ...act, words: act.words === 'slow network' ? 'API server or etcd slow' : 'API server unreachable' }));
+// What can happen to the store, and so to every process of the document; the last one is one event of no process.
+export const STORE_ACTS = [...ACTS.filter(act => act.words === 'slow network' || act.words === 'messages lost')
+  .map(act => ({ ...act, words: act.words === 'slow network' ? 'API server or etcd slow' : 'API server unreachable' })),
+  { words: 'API server or etcd stands still', asks: [seconds('for', 12)], isOfStore: true,
+    events: (_, beat, [length], document) => [{ beat, type: 'stall', beats: beatsOf(document, length * 1000) }] }];
 
 const delayOf = (document, millis) => Math.min(MOST_DELAY, beatsOf(document, millis));
 const until = (beat, length, document) => (length > 0 ? beat + beatsOf(document, length * 1000) : Infinity);

@@ -1,6 +1,6 @@
 // Documents, which are never changed: each change gives another one, which shares with the old one what stays.
 
-const VERSION_OF_TIMINGS = 2, VERSION_OF_PAUSES = 3, LONG_NUMBER = /[0-9]{16}/;
+const VERSION_OF_TIMINGS = 2, VERSION_OF_PAUSES = 3, VERSION_OF_STALLS = 4, LONG_NUMBER = /[0-9]{16}/;
 const OWN_TIMINGS = ['leaseDurationSeconds', 'renewDeadlineMillis', 'retryPeriodMillis', 'callTimeoutMillis'];
 
 // Numbers that a double can't hold are kept as they are written.
@@ -76,7 +76,8 @@ export function withEvent(document, place, event) {
 
 function put(document, events, event) {
   const changed = { ...document, events };
-  return event && event.type === 'pause' ? atLeastVersion(changed, VERSION_OF_PAUSES) : changed;
+  const least = event && { pause: VERSION_OF_PAUSES, stall: VERSION_OF_STALLS }[event.type];
+  return least ? atLeastVersion(changed, least) : changed;
 }
 
 export function withEvents(document, events) {

@@ -1,6 +1,6 @@
 // The events of the document as a list, in which each is changed and taken away, and a further one is added: all by keyboard.
 
-import { FIELDS, SIGNS, TOLD, processes, subject } from './acts.js';
+import { FIELDS, SIGNS, STORE, TOLD, processes, subject } from './acts.js';
 import { beatMillis, eventsOf, withEvent } from './draft.js';
 import { fieldInput } from './fields.js';
 import { count, make, short } from './words.js';
@@ -8,6 +8,7 @@ import { count, make, short } from './words.js';
 const MOST_ROWS = 100;
 const NEW = { crash: {}, start: {}, stop: {}, pause: { beats: 100 }, rate: { ratePpm: 1020000 }, delay: { requestBeats: 10, replyBeats: 10 },
   loss: { requests: true, replies: true }, watch: { on: false }, ready: { status: 'False' } };
+const NEW_OF_STORE = { stall: { beats: 120 } };
 const OF_CONTROLLERS = ['stop', 'watch'], OF_KUBELETS = ['ready'];
 
 export class EventList {
@@ -63,7 +64,7 @@ export class EventList {
   }
 
   fillForm(document) {
-    const names = processes(document), kept = this.process.value;
+    const names = [...processes(document), STORE], kept = this.process.value;
     if (names.join() === this.names) return;
     this.names = names.join();
     this.process.replaceChildren(...names.map(name => make('option', { value: name }, name)));
@@ -73,13 +74,15 @@ export class EventList {
 
   fillTypes() {
     const isKubelet = this.process.value.startsWith('kubelet/');
-    const types = Object.keys(NEW).filter(type => !(isKubelet ? OF_CONTROLLERS : OF_KUBELETS).includes(type));
+    const types = this.isOfStore() ? Object.keys(NEW_OF_STORE) : Object.keys(NEW).filter(type => !(isKubelet ? OF_CONTROLLERS : OF_KUBELETS).includes(type));
     this.type.replaceChildren(...types.map(type => make('option', { value: type }, type)));
   }
 
+  isOfStore() { return this.process.value === STORE; }
+
   add() {
-    const { document } = this.host, beat = Math.round(Number(this.at.value) * 1000 / beatMillis(document));
-    const event = { beat, type: this.type.value, process: this.process.value, ...NEW[this.type.value] };
+    const { document } = this.host, beat = Math.round(Number(this.at.value) * 1000 / beatMillis(document)), type = this.type.value;
+    const event = this.isOfStore() ? { beat, type, ...NEW_OF_STORE[type] } : { beat, type, process: this.process.value, ...NEW[type] };
     this.host.change(withEvent(document, null, event)[0], 'an event added');
   }
 

@@ -1,6 +1,6 @@
 // The box that opens at a moment of a lane, or at an event: what can be done there. Keys go through it, Escape closes it.
 
-import { ACTS, FIELDS, STORE_ACTS, TOLD, eventsOfAct, processes, subject } from './acts.js';
+import { ACTS, FIELDS, STORE, STORE_ACTS, TOLD, eventsOfAct, processes, subject } from './acts.js';
 import { beatMillis, eventsOf, hasProcess, nodesOf, withEvent, withEvents, withKubelet } from './draft.js';
 import { fieldInput } from './fields.js';
 import { make, time } from './words.js';
@@ -30,7 +30,7 @@ export class Menu {
     if (name !== 'who leads') return ACTS.filter(act => act.of.includes('controller')).map(act => this.actRow(act, [name], beat));
     const leaders = this.host.leadersAt(beat), words = each => ({ ...each, words: leaders.join(', ') + ': ' + each.words });
     const own = leaders.length > 0 ? ACTS.filter(act => /^(crash|stop|pause)/.test(act.words)).map(act => this.actRow(words(act), leaders, beat)) : [];
-    return [...own, ...STORE_ACTS.map(act => this.actRow(act, processes(this.host.document), beat))];
+    return [...own, ...STORE_ACTS.map(act => this.actRow(act, act.isOfStore ? [STORE] : processes(this.host.document), beat))];
   }
 
   nodeRows(name, beat) {

@@ -53,6 +53,7 @@ from kube_replay.lines import (
     Pause,
     Put,
     Remove,
+    Stall,
     Start,
     Stop,
     Swap,
@@ -70,6 +71,6 @@ __all__ = [
     'Answer', 'Audited', 'BadCommand', 'BadWords', 'Checked', 'Collected', 'Crash', 'CreateElection', 'CreateNodeLease', 'Document',
     'End', 'Eviction', 'Generated', 'InputFault', 'KubeReplayError', 'Lead', 'Line', 'MarkUnknown', 'Mode', 'NoEngine', 'NodeLine',
     'NodeStatus', 'NotATrace', 'OutOfMemory', 'Outcome', 'OutputFault', 'Pause', 'Placed', 'ProgramFault', 'Put', 'REFUSALS', 'Refused',
-    'Remove', 'Span', 'Start', 'Stop', 'Swap', 'Taint', 'Term', 'Trace', 'Untaint', 'UpdateElection', 'UpdateNodeLease', 'ZoneChange',
+    'Remove', 'Span', 'Stall', 'Start', 'Stop', 'Swap', 'Taint', 'Term', 'Trace', 'Untaint', 'UpdateElection', 'UpdateNodeLease', 'ZoneChange',
     'audit', 'check', 'collect', 'generate', 'place', 'read_line', 'replay', 'state',
 ]  # fmt: skip

@@ -107,6 +107,17 @@ class Pause(Line):
 
 
 @dataclass(frozen=True)
+class Stall(Line):
+    """The store stands still from this beat on, for so many beats."""
+
+    kind = 'stall'
+    beats: int
+
+    def words(self) -> str:
+        return f'stall beats={self.beats}'
+
+
+@dataclass(frozen=True)
 class Lead(Line):
     """A candidate hears that its write of this version was taken, and leads from this beat on."""
 
@@ -315,9 +326,12 @@ def _simple(kind: type[Line]) -> Callable[[Place, list[str]], Line]:
     return read
 
 
-def _pause(place: Place, words: list[str]) -> Line:
-    (beats,) = words
-    return Pause(*place, _number(beats, 'beats='))
+def _beats(kind: type[Pause] | type[Stall]) -> Callable[[Place, list[str]], Line]:
+    def read(place: Place, words: list[str]) -> Line:
+        (beats,) = words
+        return kind(*place, _number(beats, 'beats='))
+
+    return read
 
 
 def _lead(place: Place, words: list[str]) -> Line:
@@ -391,7 +405,7 @@ READERS: dict[str, Callable[[Place, list[str]], Line]] = {
     **{kind.kind: _put(kind) for kind in (Put, Remove)},
     **{kind.kind: _node(kind) for kind in (CreateNodeLease, UpdateNodeLease, Untaint)},
     **{kind.kind: _taint(kind) for kind in (Taint, Swap)},
-    'pause': _pause,
+    **{kind.kind: _beats(kind) for kind in (Pause, Stall)},
     'lead': _lead,
     'status': _status,
     'unknown': _unknown,

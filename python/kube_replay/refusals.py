@@ -8,7 +8,7 @@ REFUSALS: dict[int, str] = {
     4: 'a required key is missing',
     5: 'the wrong JSON type, or no whole number',
     6: 'out of its range, or no such word',
-    7: 'a rule between timings, between the two rates, or between two pauses of a process',
+    7: 'a rule between timings, between the two rates, between two pauses of a process, or between two stalls',
     8: 'an event names no process of the document, or one of the wrong sort',
     9: 'an event is before an earlier one, or after `endBeat`',
     10: 'in a manifest: the wrong JSON type',
@@ -32,7 +32,7 @@ REFUSALS: dict[int, str] = {
     41: 'two identities that lead at one beat: the line is the later `lead`',
     42: "an acting line of an identity that doesn't lead",
     43: 'a `taint` line too soon',
-    99: 'a key, or a type of event, of version 4 that is known and not built yet',
+    99: 'a key of version 4 that is known and not built yet',
 }
 
 

@@ -22,7 +22,7 @@ def test_lines_are_their_text(path: Path) -> None:
 def test_every_kind_of_line_is_among_the_stored_ones() -> None:
     kinds = {line.kind for path in STORED for line in kube_replay.Trace(path.read_bytes())}
     named = {kind.kind for kind in vars(kube_replay).values() if isinstance(kind, type) and issubclass(kind, kube_replay.Line)} - {''}
-    assert named - kinds <= {'pause'}
+    assert named - kinds <= {'pause', 'stall'}
 
 
 def test_fields() -> None:
@@ -36,6 +36,9 @@ def test_fields() -> None:
     pause = read_line('20 kubelet/worker-1_2 pause beats=180', 50)
     assert isinstance(pause, kube_replay.Pause)
     assert (pause.seconds, pause.process, pause.incarnation, pause.beats) == (1.0, 'kubelet/worker-1', 2, 180)
+    stall = read_line('40 script stall beats=120', 100)
+    assert isinstance(stall, kube_replay.Stall)
+    assert (stall.seconds, stall.beats, stall.words()) == (4.0, 120, 'stall beats=120')
 
 
 def test_an_eviction_has_its_due_as_a_time() -> None:

@@ -8,9 +8,12 @@ makes a document of a list of 150,000 pods of 6 KB each too, which takes minutes
 anything differs.
 """
 import argparse
+import collections
 import io
+import itertools
 import json
 import os
+import random
 import re
 import shlex
 import subprocess
@@ -256,6 +259,20 @@ def test_stalls():
          ['controller-2', 'kubelet/node-4'])
 
 
+def test_store_stalls(program):
+    """A store that stands still: a document of version 4, in which it begins in the order of its beats."""
+    words = ('--stall-store', '@60s+12s', '--stall', 'cp-1@61s+2s', '--stall-store', '10s+5s', '--kill-leader', '@3m')
+    made = document(*words)
+    same('a store that stands still', [(event['beat'], event['type'], event.get('process'), event.get('beats')) for event in made['events']],
+         [(100, 'stall', None, 50), (600, 'stall', None, 120), (610, 'pause', 'cp-1', 20), (1_800, 'crash', 'cp-2', None)])
+    same('version of it', made['version'], 4)
+    same('two of it, with a beat between', [event['beat'] for event in document('--stall-store', '@2s+1s', '--stall-store', '@3.1s+1s')['events']], [20, 31])
+    same('names are hidden where there are some', [event.get('process') for event in document(*words, '--redact')['events']], [None, None, 'controller-2', 'controller-1'])
+    trace = lines(program, 'replay', made)
+    same('told in the trace', [line for line in trace if ' stall ' in line], ['100 script stall beats=50', '600 script stall beats=120'])
+    same('none renews in it', [line for line in trace if line.split()[1:4:2] == ['cp-2_1', 'election'] and 600 <= int(line.split()[0]) < 720], [])
+
+
 def test_redacted(program):
     """No name is left, and the trace is the same but for names."""
     words = ('--kill', 'worker-1@60s', '--clock', 'cp-1=1.02')
@@ -298,8 +315,9 @@ def pods(count, word):
 
 def test_limits():
     """What a document can't have is told, and nothing is written."""
-    same('a thousand nodes', make('--controller', 'a', given=nodes(1_000)).returncode, 0)
-    for given, wanted in ((nodes(1_001), '1001 Nodes'), (pods(2_000, 'x' * 80), 'bytes')):
+    for count, version in ((1_000, 1), (1_001, 4), (15_000, 4)):
+        same('%d nodes' % count, document('--controller', 'a', given=nodes(count)).get('version'), version)
+    for given, wanted in ((nodes(15_001), '15001 Nodes'), (pods(2_000, 'x' * 80), 'say pods by sets')):
         done = make('--controller', 'a', given=given)
         same('over the limit: ' + wanted, (done.returncode, done.stdout, wanted in done.stderr), (1, '', True))
     many = make(*[word for i in range(20) for word in ('--controller', 'c%d' % i)])
@@ -313,6 +331,14 @@ def names_of(made):
     return single, {'%s/%s' % (each['namespace'], each['name']): {member['node']: member['pods'] for member in each['on']} for each in made.get('podSets', [])}
 
 
+def nameless(program, made):
+    """The trace of a document without the names of pods. Those that go in one tick go in the order of their names, so here they are sorted anew."""
+    told = [re.sub(r' evict (\S+)/\S+ ', r' evict \1/_ ', line).partition(' v=') for line in lines(program, 'replay', made)]
+    ticks = itertools.groupby((line[0] for line in told), lambda line: line.split(' ')[:3])
+    placed = [line for key, tick in ticks for line in (sorted(tick) if key[2] == 'evict' else tick)]
+    return [line + ''.join(version[1:]) for line, version in zip(placed, told)]
+
+
 def test_sets(program):
     """Pods of one owner are a set; the document that says each of its pods has the same trace as the one with their own names, but for names."""
     words = ('--kill', 'worker-1@60s', '--for', '20m')
@@ -322,16 +348,15 @@ def test_sets(program):
     same('sets', sets, {'default/web-7d4b9c6f5': {'worker-1': 1, 'worker-2': 1, 'worker-4': 1}, 'kube-system/proxy-cp': {'cp-1': 1, 'cp-2': 1, 'cp-3': 1},
                         'kube-system/proxy-worker': {'worker-1': 1, 'worker-2': 1, 'worker-3': 1, 'worker-4': 1}})
     same('versions', (made['version'], plain['version']), (4, 1))
-    out = cluster_sets.written_out(made)
-    same('all else is the same', [out[key] for key in out if key not in ('version', 'objects')], [plain[key] for key in plain if key not in ('version', 'objects')])
-    nameless = lambda each: [re.sub(r' evict (\S+)/\S+ ', r' evict \1/_ ', line) for line in lines(program, 'replay', each)]
-    same('the same trace but for names', nameless(out), nameless(plain))
-    same('which evicts', sum(' evict ' in line for line in nameless(out)) >= 4, True)
+    same('all else is the same', [made[key] for key in plain if key not in ('version', 'objects')], [plain[key] for key in plain if key not in ('version', 'objects')])
+    same('the same trace as written out', lines(program, 'replay', made), lines(program, 'replay', cluster_sets.written_out(made)))
+    same('the same trace but for names', nameless(program, made), nameless(program, plain))
+    same('which evicts', sum(' evict ' in line for line in nameless(program, made)) >= 4, True)
     has('told', make('--sets', *words).stderr, '14 pods (10 in 3 sets)')
     hidden = document('--sets', '--redact', *words)
     same('names that are hidden', sorted(names_of(hidden)[1]), ['namespace-1/pods-1', 'namespace-2/pods-2', 'namespace-2/pods-3'])
-    same('the same trace but for names, which are hidden', [len(nameless(cluster_sets.written_out(hidden))), nameless(cluster_sets.written_out(hidden))[-1].split()[0]],
-         [len(nameless(plain)), nameless(plain)[-1].split()[0]])
+    same('the same trace but for names, which are hidden', [len(nameless(program, hidden)), nameless(program, hidden)[-1].split()[0]],
+         [len(nameless(program, plain)), nameless(program, plain)[-1].split()[0]])
 
 
 def owned(name, owner=None, node='n0', **more):
@@ -354,11 +379,35 @@ def test_names_of_sets():
     same('each once', (len(keys), len(set(keys)), max(map(len, keys)) <= 253), (15, 15, True))
 
 
+def zoned(count):
+    """So many nodes, Ready, in three zones."""
+    ready = {'type': 'Ready', 'status': 'True', 'reason': 'KubeletReady'}
+    return [{'apiVersion': 'v1', 'kind': 'Node', 'metadata': {'name': 'n%d' % number, 'labels': {'topology.kubernetes.io/zone': 'z%d' % (number % 3)}},
+             'status': {'conditions': [ready]}} for number in range(count)]
+
+
+def test_both_ways(program):
+    """A cluster of 60 nodes and 2,400 pods, a zone of which dies: the trace is the same both ways but for names, and the same pods' owners lose as many."""
+    tolerations = [[{'key': 'node.kubernetes.io/unreachable', 'operator': 'Exists', 'effect': 'NoExecute', 'tolerationSeconds': seconds}] for seconds in (300, 30)]
+    draws = random.Random(60)
+    found = [owned('app%d-%05x' % (number % 40, draws.getrandbits(20) * 2_400 + number), ('ReplicaSet', 'app%d' % (number % 40)), 'n%d' % draws.randrange(60),
+                   tolerations=tolerations[number % 40 % 7 == 0]) for number in range(2_390)] + [owned('alone%d' % number, None, 'n%d' % number) for number in range(10)]
+    text = json.dumps({'kind': 'List', 'items': [*zoned(60), *found]})
+    words = ('--controller', 'a', '--controller', 'b', '--epoch', '2026-11-28T11:00:00Z', '--kill-zone', 'z1@60s', '--kill-leader', '@200s', '--for', '20m')
+    sets, plain = document(*words, given=text), document('--written-out', *words, given=text)
+    same('both ways', [(made['version'], *map(len, names_of(made))) for made in (sets, plain)], [(4, 10, 40), (1, 2_400, 0)])
+    same('counted', lines(program, 'check', sets), lines(program, 'check', plain))
+    same('the same trace but for names', nameless(program, sets), nameless(program, plain))
+    gone = [collections.Counter(re.sub(r'-\w+$', '', line.split()[3]) for line in lines(program, 'replay', made) if ' evict ' in line) for made in (sets, plain)]
+    same('as many of each owner', gone[0], gone[1])
+    same('which are many', gone[0].total() > 700, True)
+
+
 def test_many_pods():
-    """Pods are said by sets where that is asked for, else each of them."""
+    """More than 2,000 pods are said by sets, and fewer where that is asked for; or each of them, where that is."""
     few, many = [json.dumps({'kind': 'List', 'items': [*json.loads(nodes(3))['items'], *[owned('p%d' % number, ('Job', 'j%d' % (number % 7)), 'n%d' % (number % 3)) for number in range(count)]]})
                  for count in (2_000, 2_001)]
-    for given, words, wanted in ((few, (), (1, 2_000, 0)), (many, (), (1, 2_001, 0)), (few, ('--sets',), (4, 0, 7)), (many, ('--sets',), (4, 0, 7))):
+    for given, words, wanted in ((few, (), (1, 2_000, 0)), (many, (), (4, 0, 7)), (few, ('--sets',), (4, 0, 7)), (many, ('--written-out',), (1, 2_001, 0))):
         made = document('--controller', 'a', *words, given=given)
         same('many pods %s' % (words,), (made['version'], *map(len, names_of(made))), wanted)
 
@@ -386,7 +435,7 @@ MEASURED = 'import resource, runpy, sys\nsys.argv = sys.argv[1:]\nrunpy.run_path
 
 def test_memory(count, most):
     """A list of so many pods, each of 6 KB, is read within so many MB, and all of them are in the document."""
-    command = [sys.executable, '-c', MEASURED, os.path.join(TOOLS, 'from-cluster'), '--controller', 'a', '--for', '1m', '--sets']
+    command = [sys.executable, '-c', MEASURED, os.path.join(TOOLS, 'from-cluster'), '--controller', 'a', '--for', '1m']
     process = subprocess.Popen(command, stdin=subprocess.PIPE, stdout=subprocess.DEVNULL, stderr=subprocess.PIPE, text=True)
     rest = {'annotations': {'note': 'y' * 5_500}}
     tolerations = [{'key': 'node.kubernetes.io/' + word, 'operator': 'Exists', 'effect': 'NoExecute', 'tolerationSeconds': 300} for word in ('not-ready', 'unreachable')]
@@ -412,6 +461,9 @@ def test_refused():
              (('--kill', 'worker-1@soon'), None, '--kill worker-1@soon: soon is no duration'), (('--stall', 'worker-9@60s+1s'), None, 'no controller and no node'),
              (('--stall', 'cp-1@60s'), None, 'for how long'), (('--stall', 'cp-1@60s+50ms'), None, 'shorter than a beat'),
              (('--stall', 'cp-1@16m+1s'), None, 'what is frozen at beat 9600'), (('--kubernetes', 'newest'), None, 'a version such as 1.36'),
+             (('--stall-store', '@60s'), None, 'for how long'), (('--stall-store', 'cp-1@60s+1s'), None, 'there is one store'),
+             (('--stall-store', '@60s+50ms'), None, 'shorter than a beat'), (('--stall-store', '@16m+1s'), None, 'a store that stands still at beat 9600'),
+             (('--stall-store', '@2s+1s', '--stall-store', '@3s+1s'), None, 'the store stands still at beat 30 still'),
              (('--stall', 'cp-1@2s+1s', '--stall', 'cp-1@3s+1s'), None, 'frozen at beat 30 still'), ((), '{"kind":"NodeList","items":[]}', 'no List'), ((), 'no', 'no JSON'),
              ((), '{"kind":"List","items":[]}', 'name them: --controller'), (('--node-eviction-rate=0.00001',), None, 'finer than'),
              (('--controller', 'A_b'), None, 'no name that a controller'), (('--epoch', 'noon'), None, '--epoch noon: it is a time such as')]
@@ -523,7 +575,7 @@ def main():
     test_memory(10_000, 100)
     if given.large:
         test_memory(150_000, 500)
-    for test in (test_moment, test_comparisons, test_sets, test_redacted, test_run, test_rules):
+    for test in (test_moment, test_comparisons, test_sets, test_both_ways, test_redacted, test_store_stalls, test_run, test_rules):
         test(given.program)
     with tempfile.TemporaryDirectory() as folder:
         test_manifests(folder)

@@ -6,7 +6,8 @@
 The documents are those of examples/, of the rows of check_tables, the FILEs, and as many from a seed as wanted: examples with faults of many
 sorts. Where `check` refuses one, the first line of `explain` has to be its line; the next one has to tell a line and a column at which the
 text shown stands. That is the place of the value at the refusal's path, or of the last value on the way to it that is there; for an unknown
-key that of a key of that object, and of the planted one where one was planted. Where `check` takes the document, `explain` has to tell its
+key that of a key of that object, and of the planted one where one was planted. Of an input that isn't JSON, Python's reader has to take what stands
+before the place, with an end, and not what stands up to behind the text, word or bracket there. Where `check` takes the document, `explain` has to tell its
 counts, of each key that an object has twice both places, of each timing that is likely meant in the other unit its warning, and whether there are
 Nodes and no kubelets. PROGRAM is by default the built kube_lens. The exit status is 1 where anything
 differs. Nothing here is a proof.
@@ -87,6 +88,43 @@ class Places:
         while path not in self.values:
             path = path.rpartition('/')[0]
         return self.values[path]
+
+
+TOKEN = re.compile(rb'"(?:[^"\\]|\\.)*"|[{}\[\],:]|[^\s{}\[\],:"]+', re.DOTALL)
+ENDS = ('0', '', ':0', '"":0')
+
+
+def no_constant(word):
+    raise ValueError(word)
+
+
+def is_taken(text):
+    """Whether Python's reader takes a text as JSON."""
+    try:
+        json.loads(text.decode(), parse_constant=no_constant)
+        return True
+    except ValueError:
+        return False
+
+
+def can_end(front):
+    """Whether a beginning of a text is JSON with a value, nothing, the value of a key or a member, and what is open closed; by Python's reader."""
+    closing = ''
+    for token in TOKEN.findall(front):
+        if token in (b'{', b'['):
+            closing = ('}' if token == b'{' else ']') + closing
+        elif token in (b'}', b']'):
+            closing = closing[1:]
+    return any(is_taken(front + (end + closing).encode()) for end in ENDS)
+
+
+def stops(text, place):
+    """Whether a text stops to be JSON at a place."""
+    token = TOKEN.match(text, place)
+    is_last = place == len(text) or (token.end() == len(text) if token else text[place] == ord('"'))
+    # Python's reader knows no limit of depth or of a number's size.
+    is_last = is_last or is_taken(text)
+    return can_end(text[:place]) and (is_last or (token is not None and not can_end(text[:token.end()])))
 
 
 def spots(value, path=()):
@@ -251,7 +289,7 @@ def fault(text, checked, explained):
         return f'{told} of {said}'
     code, path = first.decode().split(' ')[1:]
     if code == '1':
-        return None
+        return None if stops(text, place) else f'{told} tells {place}, where it does not stop to be JSON'
     places = Places(text)
     wanted = [places.nearest(path)]
     if code == '3' and path.rstrip('/') in places.keys:

@@ -16,6 +16,7 @@ use Rattle.kube_objects.specs.declared.pod.Due.TheVariants.{Never, At}
 use Rattle.kube_objects.specs.declared.pod.Pod.{Pod}
 use Rattle.kube_objects.specs.Clocks.{local, wall}
 use Rattle.kube_objects.specs.Document.{Doc, of_millis}
+use Rattle.kube_objects.specs.Elector.{led_at}
 use Rattle.kube_objects.specs.Entry.{Entry, Identity, Place, Pass, Sync, Mode, Zone}
 use Rattle.kube_objects.specs.Health.{mark_of, last_pass, is_after_pass, is_pass_due}
 use Rattle.kube_objects.specs.Modes.{nodes, places, mode, state_in, rate_in, all_full}
@@ -23,7 +24,7 @@ use Rattle.kube_objects.specs.Newest.{only_if, has}
 use Rattle.kube_objects.specs.Seen.{seen_node, seen_pod, is_synced, is_stale, node_names, pod_keys}
 use Rattle.kube_objects.specs.Stored.{node_key}
 use Rattle.kube_objects.specs.Tainting.{Wants, Nothing, Wanted, Whatever, wants, has_condition, is_opposite, lacks_in, waits, Queued, queued, queued_as, first, head_of}
-use Rattle.kube_objects.specs.Tick.{add, sync, is_stripped, mark_as, mark_seen, mark, marks, is_same_mode, set_mode, zone, set_zones, pass, clean_as, clean_seen, clean, taint_as, taint_head, taint, evict_due, evict_on, evict_seen, evict, tick, whole_pass, add_untaint, add_swap, taint_first, add_delete}
+use Rattle.kube_objects.specs.Tick.{add, has_settled, sync, is_stripped, mark_as, mark_seen, mark, marks, is_same_mode, set_mode, zone, set_zones, pass, clean_as, clean_seen, clean, taint_as, taint_head, taint, evict_due, evict_on, evict_seen, evict, tick, whole_pass, add_untaint, add_swap, taint_first, add_delete}
 use Rattle.kube_objects.specs.Tokens.{Rated, rated, is_rated, base, token_size, is_grown, has_token}
 use Rattle.kube_objects.specs.Tolerations.{due}
 use Rattle.history_laws.specs.Tails.{IsTail}
@@ -31,13 +32,13 @@ use Rattle.history_laws.proofs.Plainly.{true_is, false_is, some_is, none_is}
 use Rattle.history_laws.proofs.Tailed.{tail_all, tail_trans}
 use Rattle.agenda_laws.specs.Parts.{IsStillSynced}
 use Rattle.agenda_laws.specs.Standing.{Among}
-use Rattle.agenda_laws.specs.Ticking.{is_sync_due, SyncsWake, is_unclean, is_unclean_seen, is_clean_due, CleansWake, pass_after, pass_at, PassesWake, token_after, token_at, head_at, HeadsWake, heads_at, time_of, due_on, due_seen, due_at, DeletesWake, dues_at, IsEarlyTick, TicksWake}
+use Rattle.agenda_laws.specs.Ticking.{is_sync_due, is_sync_at_once, sync_at, IsEarlySync, SyncsWake, synced_reading, is_unclean, is_unclean_seen, is_clean_due, CleansWake, pass_after, pass_at, PassesWake, token_after, token_at, head_at, HeadsWake, heads_at, time_of, due_on, due_seen, due_at, DeletesWake, dues_at, IsEarlyTick, TicksWake}
 use Rattle.agenda_laws.specs.Times.{is_early, sooner}
 use Rattle.agenda_laws.proofs.Between.{longer, grew, each_adds, each_still, still_each, or_none, none_or, and_none, none_and, sooner_both, both_sooner}
 use Rattle.agenda_laws.proofs.Parts.{ticks_add_by_parts}
 use Rattle.agenda_laws.proofs.Times.{Waits, never}
 use Rattle.kube_objects.specs.Own.{IsOwn}
-use Rattle.kube_objects.proofs.Own.{has_settled-own, pass_period-own, cleaned-own, tainted-own, has_token-own, evict-own, evicted-own}
+use Rattle.kube_objects.proofs.Own.{pass_period-own, cleaned-own, tainted-own, has_token-own, evict-own, evicted-own}
 
 -- what adds nothing exactly where a test fails
 abbrev Needs : List Entry → List Entry → Bool → Type 0
@@ -133,17 +134,38 @@ module _ (doc : Doc) (q : Identity) where
 
 -- ---- the parts
 
-module _ (doc : Doc) (own : IsOwn doc) (k : ℕ) (q : Identity) where
+due_is : (at reads : ℕ) → nat_le at reads ≡ false ↔ nat_lt reads at ≡ true
+due_is at reads = (λ late. grind (arith, nat_tests), λ early. grind (arith, nat_tests))
+
+module _ (doc : Doc) (k : ℕ) (q : Identity) where
   -- the sync
 
   sync_needs : (b : Bool) (h : List Entry) → Needs (if b then add k q Sync h else h) h b
   sync_needs true h = busy _ h
   sync_needs false h = idle h
 
-  sync_waits : (h : List Entry) → Needs (sync doc k q h) h (is_sync_due doc q h)
-  sync_waits h =
-      subst (λ b. Needs (if (b && is_sync_due doc q h) then add k q Sync h else h) h (is_sync_due doc q h)) (sym (has_settled-own doc own k q h)) (sync_needs (is_sync_due doc q h) h)
+  -- none is due exactly where none is at once, and the reading is before that of one
+  sync_is : (at reads : ℕ) (none due : Bool)
+      → ((none || nat_le at reads) && due) ≡ false ↔ (((none && due) ≡ false) × (is_early reads (only_if due (cond none None (Some at))) ≡ true))
+  sync_is at reads true true = (λ is. absurd (true_is is), λ s. s.0)
+  sync_is at reads true false = (λ is. (refl, refl), λ s. refl)
+  sync_is at reads false due = by_test (nat_le at reads) refl due
+    where
+      by_test : (b : Bool) → nat_le at reads ≡ b → (due : Bool) → (b && due) ≡ false ↔ (((false && due) ≡ false) × (is_early reads (only_if due (Some at)) ≡ true))
+      by_test true is true = (λ no. absurd (true_is no), λ s. sym is ∙ (due_is at reads).1 s.1)
+      by_test true is false = (λ no. (refl, refl), λ s. refl)
+      by_test false is true = (λ no. (refl, (due_is at reads).0 is), λ s. refl)
+      by_test false is false = (λ no. (refl, refl), λ s. refl)
 
+  sync_waits : (h : List Entry) → sync doc k q h ≡ h ↔ IsEarlySync doc k q h
+  sync_waits h =
+      let needs = sync_needs (has_settled doc k q h && is_sync_due doc q h) h in
+      let tells = sync_is (local doc q.process (led_at q h) + of_millis doc.settings.rules.first_sync_millis) (local doc q.process k) (doc.settings.rules.first_sync_millis == 0) (is_sync_due doc q h) in (
+        λ is. let s = tells.0 (needs.0 is) in record { at_once = s.0; reading = s.1 },
+        λ s. needs.1 (tells.1 (s.at_once, s.reading)),
+      )
+
+module _ (doc : Doc) (own : IsOwn doc) (k : ℕ) (q : Identity) where
   -- the pass
 
   mark_as_adds : (name : ℕ) (given : Version) (o : Option Node) (h : List Entry) → IsTail h (mark_as k q name given o h)
@@ -328,9 +350,6 @@ module _ (doc : Doc) (own : IsOwn doc) (k : ℕ) (q : Identity) where
   delete_none pod given node node_given at true h = busy _ h
   delete_none pod given node node_given at false h = idle h
 
-  due_is : (at reads : ℕ) → nat_le at reads ≡ false ↔ nat_lt reads at ≡ true
-  due_is at reads = (λ late. grind (arith, nat_tests), λ early. grind (arith, nat_tests))
-
   evict_due_waits : (pod : Key) (given : Version) (node : ℕ) (node_given : Version) (o : Due) (h : List Entry) → Waits (evict_due doc k q pod given node node_given o h) h (is_early (wall doc q.process k) (time_of o))
   evict_due_waits pod given node node_given Never h = never h
   evict_due_waits pod given node node_given (At at) h =
@@ -421,26 +440,28 @@ module _ (doc : Doc) (own : IsOwn doc) (k : ℕ) (q : Identity) where
       let s = (ticks_add_by_parts doc k q h).0 is in
       let early : is_synced q h ≡ true → Early h = λ yet. still_early h (s.synced yet) in
       record {
-        at_once = none_or (is_sync_due doc q h) (is_synced q h && list_any (is_clean_due q h) (node_names h)) ((sync_waits h).0 s.syncs)
+        at_once = none_or (is_sync_at_once doc q h) (is_synced q h && list_any (is_clean_due q h) (node_names h)) ((sync_waits doc k q h).0 s.syncs).at_once
             (none_and (is_synced q h) (list_any (is_clean_due q h) (node_names h)) (λ yet. (early yet).clean));
-        reading = only_early (local doc q.process k) (is_synced q h) (sooner (pass_at doc q h) (heads_at doc q (places (nodes q h)) h)) (λ yet. (early yet).reading);
+        reading = both_sooner (local doc q.process k) (sync_at doc q h) (synced_reading doc q h) ((sync_waits doc k q h).0 s.syncs).reading
+            (only_early (local doc q.process k) (is_synced q h) (sooner (pass_at doc q h) (heads_at doc q (places (nodes q h)) h)) (λ yet. (early yet).reading));
         time = only_early (wall doc q.process k) (is_synced q h) (dues_at q (pod_keys h) h) (λ yet. (early yet).time);
       }
 
   early_tick : (h : List Entry) → IsEarlyTick doc k q h → tick doc k q h ≡ h
   early_tick h s =
-      let parts = or_none (is_sync_due doc q h) (is_synced q h && list_any (is_clean_due q h) (node_names h)) s.at_once in
+      let parts = or_none (is_sync_at_once doc q h) (is_synced q h && list_any (is_clean_due q h) (node_names h)) s.at_once in
+      let readings = sooner_both (local doc q.process k) (sync_at doc q h) (synced_reading doc q h) s.reading in
       (ticks_add_by_parts doc k q h).1 (record {
-        syncs = (sync_waits h).1 parts.0;
+        syncs = (sync_waits doc k q h).1 (record { at_once = parts.0; reading = readings.0 });
         synced = λ yet. early_still h (record {
           clean = and_none (is_synced q h) (list_any (is_clean_due q h) (node_names h)) parts.1 yet;
-          reading = early_only (local doc q.process k) (is_synced q h) (sooner (pass_at doc q h) (heads_at doc q (places (nodes q h)) h)) s.reading yet;
+          reading = early_only (local doc q.process k) (is_synced q h) (sooner (pass_at doc q h) (heads_at doc q (places (nodes q h)) h)) readings.1 yet;
           time = early_only (wall doc q.process k) (is_synced q h) (dues_at q (pod_keys h) h) s.time yet;
         });
       })
 
 pub syncs_wake : SyncsWake
-syncs_wake doc own k q h = sync_waits doc own k q h
+syncs_wake doc k q h = sync_waits doc k q h
 
 pub passes_wake : PassesWake
 passes_wake doc own k q h = pass_waits doc own k q h

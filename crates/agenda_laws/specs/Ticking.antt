@@ -19,20 +19,33 @@ use Rattle.kube_objects.specs.Newest.{only_if, has}
 use Rattle.kube_objects.specs.Seen.{seen_node, seen_pod, is_fresh, is_synced, is_stale, node_names, pod_keys}
 use Rattle.kube_objects.specs.Stored.{node_key}
 use Rattle.kube_objects.specs.Tainting.{Wants, Nothing, Wanted, Whatever, wants, has_condition, is_opposite, head_of}
-use Rattle.kube_objects.specs.Tick.{sync, pass, clean, taint, evict, tick}
+use Rattle.kube_objects.specs.Tick.{settles_at, sync, pass, clean, taint, evict, tick}
 use Rattle.kube_objects.specs.Tokens.{Rated, rated, base, token_size}
 use Rattle.kube_objects.specs.Tolerations.{due}
 use Rattle.agenda_laws.specs.Times.{is_early, sooner}
 use Rattle.kube_objects.specs.Own.{IsOwn}
 
--- ---- at once: a sync, an untaint, a swap
+-- ---- a sync: at once, or from the reading on from which the term has settled, where that takes time
 
 -- the watch is on and the cache isn't up to date
 abbrev pub is_sync_due : Doc → Identity → List Entry → Bool
 is_sync_due doc q h = watches doc q.process h && not (is_fresh q h)
 
+abbrev pub is_sync_at_once : Doc → Identity → List Entry → Bool
+is_sync_at_once doc q h = (doc.settings.rules.first_sync_millis == 0) && is_sync_due doc q h
+
+abbrev pub sync_at : Doc → Identity → List Entry → Option ℕ
+sync_at doc q h = only_if (is_sync_due doc q h) (settles_at doc q h)
+
+-- no sync is due at beat k
+pub record IsEarlySync (doc : Doc) (k : ℕ) (q : Identity) (h : List Entry) : Type 0 where
+  pub at_once : is_sync_at_once doc q h ≡ false
+  pub reading : is_early (local doc q.process k) (sync_at doc q h) ≡ true
+
 abbrev pub SyncsWake : Type 0
-SyncsWake = (doc : Doc) → IsOwn doc → (k : ℕ) (q : Identity) (h : List Entry) → sync doc k q h ≡ h ↔ is_sync_due doc q h ≡ false
+SyncsWake = (doc : Doc) (k : ℕ) (q : Identity) (h : List Entry) → sync doc k q h ≡ h ↔ IsEarlySync doc k q h
+
+-- ---- at once: an untaint, a swap
 
 -- a condition taint that isn't wanted, or the opposite of the one that is
 abbrev pub is_unclean : Node → Wants → Bool
@@ -53,9 +66,9 @@ is_clean_due q h name = is_unclean_seen (mode q h) (is_stale q (node_key name) h
 abbrev pub CleansWake : Type 0
 CleansWake = (doc : Doc) → IsOwn doc → (k : ℕ) (q : Identity) (name : ℕ) (h : List Entry) → clean doc k q name h ≡ h ↔ is_clean_due q h name ≡ false
 
--- a tick, were it to have no pass, has a sync, an untaint or a swap
+-- a tick, were it to have no pass, has a sync, an untaint or a swap, whatever the time
 abbrev pub is_due_at_once : Doc → Identity → List Entry → Bool
-is_due_at_once doc q h = is_sync_due doc q h || (is_synced q h && list_any (is_clean_due q h) (node_names h))
+is_due_at_once doc q h = is_sync_at_once doc q h || (is_synced q h && list_any (is_clean_due q h) (node_names h))
 
 -- ---- from a reading: the pass, and a token of a zone in which a node waits
 
@@ -126,8 +139,11 @@ dues_at q (pod ∷ pods) h = sooner (due_at q pod h) (dues_at q pods h)
 -- ---- the tick
 
 -- before its first sync a term waits for that alone
+abbrev pub synced_reading : Doc → Identity → List Entry → Option ℕ
+synced_reading doc q h = only_if (is_synced q h) (sooner (pass_at doc q h) (heads_at doc q (places (nodes q h)) h))
+
 abbrev pub term_reading : Doc → Identity → List Entry → Option ℕ
-term_reading doc q h = only_if (is_synced q h) (sooner (pass_at doc q h) (heads_at doc q (places (nodes q h)) h))
+term_reading doc q h = sooner (sync_at doc q h) (synced_reading doc q h)
 
 abbrev pub term_time : Identity → List Entry → Option ℕ
 term_time q h = only_if (is_synced q h) (dues_at q (pod_keys h) h)

@@ -1,5 +1,6 @@
 //! When a beat adds an entry to the history: laws of every document, kubelets and a leader's ticks included; when it waits, of those
-//! that go by the project's own rules but for those of elections. Each is the contract of a function with an empty body.
+//! that go by the project's own rules but for those of elections and of a term's first sync. Each is the contract of a function with an
+//! empty body.
 #![tactic(auto)]
 
 ghost use Rattle.agenda_laws.specs.Ahead.{NoTurnsAreFirst, TurnsAreAdded, TheSoonestIsNext};

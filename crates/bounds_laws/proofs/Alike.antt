@@ -1,6 +1,5 @@
 -- The numbers go by the longest and the shortest wait alone.
-use Rattle.std.proofs.Common.{◌≡◌, ℕ, ◌+◌, ◌-◌, ◌*◌, ◌/◌, ◌==◌, max, Bool, List, [], ◌∷◌, All, Option, None, Some, refl, sym, ap, ◌∙◌, arith}
-use Rattle.std.specs.Int.{div_ceil}
+use Rattle.std.proofs.Common.{◌≡◌, ℕ, ◌+◌, ◌-◌, ◌*◌, ◌/◌, ◌==◌, max, List, [], ◌∷◌, All, Option, None, Some, refl, ap, ◌∙◌, arith}
 use Rattle.std.proofs.Math.Nat.{mul_right_comm}
 use Rattle.std.proofs.lemmas.List.Elements.{All-head, All-tail}
 use Rattle.kube_objects.specs.declared.script.Proc.{Proc}

@@ -9,7 +9,7 @@ use Rattle.kube_objects.specs.Identities.{of_process}
 use Rattle.kube_objects.specs.Newest.{when, has, or_else}
 use Rattle.kube_objects.specs.Pauses.{pause_end, is_paused, resume, held_up}
 use Rattle.kube_objects.specs.Wire.{back_of, arrival, request_arrival, reply_arrival, request_delay, reply_delay, loses_requests, loses_replies}
-use Rattle.kube_objects.proofs.Own.{request_arrival-own}
+use Rattle.kube_objects.proofs.Stalls.{arrives_now}
 use Rattle.history.specs.History.{history}
 use Rattle.history_laws.specs.Tails.{IsTail}
 use Rattle.history_laws.proofs.Order.{entries_are_earlier}
@@ -136,14 +136,14 @@ released doc lawful b e q role g = record {
     low : IsTail place.before (history doc (suc b))
     low = tail_trans place.before (x ∷ place.before) (history doc (suc b)) (inr (tail_all place.before)) place.position
 
+    way : (1 ≤ request_delay q.process place.before) × (request_delay q.process place.before ≤ far_of doc)
+    way = request_within doc lawful q.process role (suc b) place.before low
+
     arrives : Some g.at ≡ arrival (loses_requests q.process place.before) b (request_delay q.process place.before)
     arrives =
         (subst (λ o. IfSome o (λ s. (s.call.sent ≡ b) × (s.arrives ≡ request_arrival doc s.who.process b place.before))) (sent_is x q g.call (Some g.at) refl refl)
         (messages_travel doc (sound-document doc lawful).2 (suc b) x place.before place.position).0).1
-        ∙ request_arrival-own doc (sound-document doc lawful).2 q.process b place.before
-
-    way : (1 ≤ request_delay q.process place.before) × (request_delay q.process place.before ≤ far_of doc)
-    way = request_within doc lawful q.process role (suc b) place.before low
+        ∙ arrives_now doc q.process b place.before (g.goes (b + request_delay q.process place.before) (omega arith) (omega (arith, way.1)))
 
     by_loss : (lost : Bool) → Some g.at ≡ arrival lost b (request_delay q.process place.before) → (b + 1 ≤ g.at) × (g.at ≤ b + far_of doc)
     by_loss true is = absurd (none_is g.at (sym is))

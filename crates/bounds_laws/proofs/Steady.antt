@@ -132,6 +132,7 @@ module _ (doc : Doc) (lawful : IsLawfulDoc doc) (p : ℕ) (role : is_controller 
         reply_least = back.0;
         reply_most = back.1;
         awake = s.awake;
+        goes = s.goes;
       }
 
   pub steady : (a e : ℕ) → IsUndisturbed doc a e p → IsSteady doc 1 (far_of doc) a e p
@@ -147,7 +148,7 @@ module _ (doc : Doc) (lawful : IsLawfulDoc doc) (p : ℕ) (role : is_controller 
 
 pub undisturbed : (doc : Doc) (a e p : ℕ) → IsSteady doc 1 (far_of doc) a e p → IsUndisturbed doc a e p
 undisturbed doc a e p s = record {
-  heard = λ k from to. let t = s.passes k from to in record { requests = t.requests; replies = t.replies; awake = t.awake };
+  heard = λ k from to. let t = s.passes k from to in record { requests = t.requests; replies = t.replies; awake = t.awake; goes = t.goes };
   crashes = s.crashes;
   stops = s.stops;
   ends = s.ends;

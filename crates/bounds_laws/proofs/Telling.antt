@@ -1,23 +1,16 @@
 -- What the numbers of a document's bounds on a leader are in beats, in the words of the laws.
-use Rattle.std.proofs.Common.{◌≡◌, ◌≤◌, ℕ, ◌*◌, ◌/◌, max, Bool, true, false, Option, Some, None, refl, sym, ap, ◌∙◌, ⊎_elim, arith}
-use Rattle.std.specs.Int.{div_ceil}
+use Rattle.std.proofs.Common.{◌≡◌, ◌≤◌, ℕ, ◌*◌, Bool, true, false, Option, Some, None, refl, sym, ap, ⊎_elim, arith}
 use Rattle.std.proofs.Math.Nat.{mul-le-mul_right}
 use Rattle.std.proofs.lemmas.Bool.{cases_lt}
 use Rattle.kube_objects.specs.declared.script.Proc.{Proc}
-use Rattle.kube_objects.specs.Document.{Doc, field, process_at, of_millis, of_seconds, lease_duration}
+use Rattle.kube_objects.specs.Document.{Doc}
 use Rattle.history_laws.proofs.Plainly.{some_is, none_is}
-use Rattle.calm_laws.specs.Bounds.{takeover_beats, takeover_bound}
-use Rattle.settle_laws.specs.Settles.{settle_beats, settle_bound}
-use Rattle.silence_laws.specs.Least.{takes_beats, takes_least}
-use Rattle.succession_laws.specs.Successions.{succession_beats, succession_bound, last_ways}
-use Rattle.release_laws.specs.Releases.{release_beats, release_bound}
 use Rattle.lens_bounds.specs.declared.calm.Calm.{Calm}
 use Rattle.lens_bounds.specs.declared.elections.Handover.{Handover}
 use Rattle.lens_bounds.specs.declared.elections.Span.{Span}
 use Rattle.lens_bounds.specs.Documents.{calm_of}
-use Rattle.lens_bounds.specs.Elections.{least_looks, crash_most, stop_least, stop_most, acts_on, own_term, leads, stays_from, others, followers, number_if, span_if, crash_of, stop_of, lead, stay, election_of}
+use Rattle.lens_bounds.specs.Elections.{stop_least, acts_on, own_term, others, followers, number_if, span_if, crash_of, stop_of, lead, stay, election_of}
 use Rattle.bounds_laws.specs.Elections.{millis, bounds_of}
-use Rattle.bounds_laws.specs.Undisturbed.{far_of}
 
 -- ---- which numbers are there
 

@@ -1,7 +1,5 @@
 -- The waits of a document's controllers are within those that are read from it, and for how long one respects another's record.
-use Rattle.std.proofs.Common.{◌≡◌, ◌<◌, ◌≤◌, ℕ, zero, suc, ◌*◌, ◌/◌, true, List, [], ◌∷◌, length, All, slice_get, min, max, Some, refl, sym, ap, ◌∙◌, subst, arith}
-use Rattle.std.specs.Int.{div_ceil}
-use Rattle.std.proofs.Math.Nat.{mul-le-mul_left}
+use Rattle.std.proofs.Common.{◌≡◌, ◌<◌, ◌≤◌, ℕ, zero, suc, ◌*◌, ◌/◌, true, List, [], ◌∷◌, length, All, slice_get, min, max, Some, sym, ap, subst, arith}
 use Rattle.std.proofs.lemmas.Bool.{ltb-true}
 use Rattle.std.proofs.lemmas.List.Elements.{All-head, All-tail}
 use Rattle.kube_objects.specs.declared.rules.RespectRule.{RespectRule}
@@ -13,10 +11,10 @@ use Rattle.span_laws.specs.Spans.{IsEnough, IsNeeded}
 use Rattle.span_laws.proofs.Quotients.{rounded_is}
 use Rattle.takeover_laws.specs.Waits.{greatest_from, greatest_of, least_from, least_of, longest_wait, shortest_wait, blocked_under, blocked_for}
 use Rattle.takeover_laws.proofs.Waits.{greatest_rises, least_falls, shares}
-use Rattle.script_reader.specs.Lawful.{AreWaits, IsLawful, IsLawfulDoc}
+use Rattle.script_reader.specs.Lawful.{AreWaits, IsLawfulDoc}
 use Rattle.lens_bounds.specs.Documents.{least_in, greatest_in, calm_of}
 use Rattle.lens_bounds.specs.Elections.{share, wait, least_wait, as_respected}
-use Rattle.bounds_laws.proofs.Reaching.{Standing, at_place}
+use Rattle.bounds_laws.proofs.Reaching.{at_place}
 
 -- ---- the greatest and the least of all lists
 

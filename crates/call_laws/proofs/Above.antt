@@ -1,6 +1,6 @@
 -- Positions with what is known of each entry above.
 use Rattle.history_laws.proofs.Tailed.{tail_all, tail_trans}
-use Rattle.std.proofs.Common.{◌≡◌, ◌⊎◌, List, [], ◌∷◌, refl, sym, subst, inl, inr, length, ap, arith, ◌≤◌, ◌+◌, ℕ}
+use Rattle.std.proofs.Common.{◌≡◌, ◌⊎◌, List, [], ◌∷◌, refl, sym, subst, inl, inr, length, ap, arith, ◌≤◌}
 use Rattle.kube_objects.specs.Entry.{Entry}
 use Rattle.history_laws.specs.Tails.{In, IsTail}
 

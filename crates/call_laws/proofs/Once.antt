@@ -12,7 +12,7 @@ use Rattle.kube_objects.specs.Wire.{Sent, Back, sent_of, back_of, sent_as, back_
 use Rattle.kube_objects.specs.Own.{IsOwn}
 use Rattle.history.specs.History.{history}
 use Rattle.history.specs.Steps.{answer_all, answered}
-use Rattle.history_laws.specs.Tails.{In, IsTail}
+use Rattle.history_laws.specs.Tails.{IsTail}
 use Rattle.history_laws.proofs.Numbers.{numbers_count, numbers_differ}
 use Rattle.history_laws.proofs.Plainly.{some_is, none_is, and_left, and_right, and_both, same_is, same_self, added_more}
 use Rattle.history_laws.proofs.Tailed.{tail_all, tail_trans, tails_meet, same_head, count_tail}

@@ -1,24 +1,22 @@
 -- A process's turn adds entries of its own alone, and a start only where it is down.
 use Rattle.kube_objects.specs.Own.{IsOwn}
 use Rattle.kube_objects.proofs.Own.{expire_as-own, end_term-own}
-use Rattle.history.proofs.Own.{ticks-own}
+use Rattle.history.proofs.Ticks.{ticks_keep}
 use Rattle.history_laws.proofs.Plainly.{not_true, and_right, true_is}
-use Rattle.std.proofs.Common.{◌≡◌, ℕ, zero, suc, ◌==◌, ◌&&◌, not, nat_lt, Bool, true, false, List, [], ◌∷◌, Option, Some, None, refl, sym, subst, ◌⊎◌, inl, inr, ◌∙◌}
+use Rattle.std.proofs.Common.{◌≡◌, ℕ, ◌&&◌, not, nat_lt, Bool, true, false, List, ◌∷◌, Option, Some, None, refl, sym, subst, ◌⊎◌, inl, inr, ◌∙◌}
 use Rattle.std.specs.Prelude.{if◌then◌else◌}
-use Rattle.kube_objects.specs.declared.call.Request.TheVariants.{Get}
 use Rattle.kube_objects.specs.Clocks.{local}
 use Rattle.kube_objects.specs.Document.{Doc, is_controller}
 use Rattle.kube_objects.specs.Elector.{deadline, attempt, timer, acts}
-use Rattle.kube_objects.specs.Entry.{Entry, Identity, Call, Plain, Expires, Ends, Sends, Ticks, actor_of, entry, Fact}
+use Rattle.kube_objects.specs.Entry.{Entry, Identity, Call, Expires, Ends, Sends, Ticks, actor_of, entry, Fact}
 use Rattle.kube_objects.specs.Identities.{identity}
-use Rattle.kube_objects.specs.Kubelet.{node_of, post, is_post_call, round_if, is_round_due, round}
+use Rattle.kube_objects.specs.Kubelet.{is_post_call, round_if, is_round_due, round}
 use Rattle.kube_objects.specs.Newest.{has}
 use Rattle.kube_objects.specs.Pauses.{is_paused}
 use Rattle.kube_objects.specs.Process.{alive, is_start, call_in, is_late, ended, is_restart_due, release_begun}
-use Rattle.kube_objects.specs.Stored.{election, node_lease}
 use Rattle.kube_objects.specs.Tick.{tick}
 use Rattle.kube_objects.specs.Turns.{expire_call, expire_as, expired, end_term, end_as, just_expired, is_fast_call, attempt_if, try}
-use Rattle.history.specs.Steps.{start, if_up, restart_if, restart, expire, finish, attempts, ticks, elector_turn, controller_turn, rounds, kubelet_turn, unpaused_turn, turn}
+use Rattle.history.specs.Steps.{start, if_up, restart_if, restart, expire, finish, attempts, controller_turn, kubelet_turn, unpaused_turn, turn}
 use Rattle.history_laws.proofs.Ticks.{walk_tick}
 
 -- a request in a controller's turn is sent after the expiry of an update without a Get, or as an attempt that is due
@@ -87,7 +85,7 @@ module _ (doc : Doc) (own : IsOwn doc) (k p : ℕ) (P : List Entry → Type 0) (
       let s3 : P h3 = own_up (λ q T. end_term doc k q (deadline doc q T) T) (λ i T s. own_end i (deadline doc (identity p i) T) T s) (alive p h2) h2 s2 in
       let h4 = attempts doc k p h3 in
       let s4 : P h4 = own_up (try doc k) (λ i T s. own_attempt i (is_fast_call (just_expired (identity p i) k T)) (not (has (call_in (identity p i) T)) && not (nat_lt (local doc p k) (timer doc (identity p i) T))) T refl refl s) (alive p h3) h3 s3 in
-      subst P (sym (ticks-own doc own k p h4)) (own_up (λ q T. if acts doc q k T then tick doc k q T else T) (λ i T s. own_tick i (acts doc (identity p i) k T) T s) (alive p h4) h4 s4)
+      ticks_keep doc k p h4 P s4 (own_up (λ q T. if acts doc q k T then tick doc k q T else T) (λ i T s. own_tick i (acts doc (identity p i) k T) T s) (alive p h4) h4 s4)
 
   own_kubelet : is_controller doc p ≡ false → (h : List Entry) → P h → P (kubelet_turn doc k p h)
   own_kubelet role h s =

@@ -20,8 +20,8 @@ ForcesStand = (doc : Doc) → IsOwn doc → (m : ℕ) (e : Entry) (before : List
     → ((f : What → Option ℕ) → in_force f before ≡ in_force f (with_events doc e.beat))
     × ((f : What → Option Bool) → in_force f before ≡ in_force f (with_events doc e.beat))
 
--- a request arrives, and a reply comes, after the delay in force as it is sent or given; what is being lost comes nowhere, and a reply
--- waits for the end of its receiver's pause
+-- a request arrives, and a reply comes, after the delay in force as it is sent or given; what is being lost comes nowhere, a request
+-- waits for the end of the store's stall, and a reply for that of its receiver's pause
 abbrev pub MessagesTravel : Type 0
 MessagesTravel = (doc : Doc) → IsOwn doc → (m : ℕ) (e : Entry) (before : List Entry) → IsTail (e ∷ before) (history doc m)
     → IfSome (sent_of e.actor e.fact) (λ s. (s.call.sent ≡ e.beat) × (s.arrives ≡ request_arrival doc s.who.process e.beat before))

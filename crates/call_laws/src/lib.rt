@@ -1,5 +1,5 @@
-//! Laws of calls, of every history: what arrives is answered and delivered; and under the project's own rules but for those of elections when it
-//! arrives, and what waits. Each is the contract of a function with an empty body.
+//! Laws of calls, of every history: what arrives is answered and delivered; and under the project's own rules but for those of elections and of a
+//! term's first sync when it arrives, and what waits. Each is the contract of a function with an empty body.
 #![tactic(auto)]
 
 ghost use Rattle.call_laws.specs.Answering.{RequestsAreAnswered, RepliesAreDelivered};
@@ -13,8 +13,8 @@ pub fn messages_arrive()
     ensures delivered { RepliesAreDelivered }
 {}
 
-/// A request and a reply arrive after the delay in force, or are lost, as what their beat's events left in force says; a reply waits for
-/// the end of its receiver's pause.
+/// A request and a reply arrive after the delay in force, or are lost, as what their beat's events left in force says; a request waits for
+/// the end of the store's stall, a reply for that of its receiver's pause.
 pub fn messages_travel_in_force()
     ensures beats { EntriesStandInBeats }
     ensures forces { ForcesStand }

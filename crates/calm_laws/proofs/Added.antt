@@ -1,9 +1,9 @@
 -- How each request, each lead and each stop came about: for callers.
-use Rattle.std.proofs.Common.{◌≡◌, ℕ, true, false, List, [], ◌∷◌, refl, sym, ap, ◌∙◌, subst, inl, inr, arith, ◌≤◌, Option, Some, ⊎_elim, ◌&&◌, ◌⊎◌}
+use Rattle.std.proofs.Common.{◌≡◌, ℕ, true, false, List, [], ◌∷◌, refl, sym, ap, ◌∙◌, subst, inl, inr, Option, Some, ◌⊎◌}
 use Rattle.kube_base.specs.declared.numbers.Version.{Version}
 use Rattle.kube_objects.specs.Clocks.{store_wall, whole_second}
 use Rattle.kube_objects.specs.Document.{Doc, is_controller}
-use Rattle.kube_objects.specs.Elector.{leads, Succeeds, follow_on, attempt, release}
+use Rattle.kube_objects.specs.Elector.{Succeeds, follow_on, attempt, release}
 use Rattle.kube_objects.specs.Entry.{Release, Entry, Identity, Fact, First, Sends, actor_of, script_entry, Call, Stops, Delivers, Leads, entry, Plain}
 use Rattle.kube_objects.specs.Identities.{identity}
 use Rattle.kube_objects.specs.Process.{alive}

@@ -5,8 +5,8 @@ use Rattle.kube_base.specs.declared.numbers.Version.{Version}
 use Rattle.kube_objects.proofs.Clocks.{local_up}
 use Rattle.kube_objects.specs.Answers.{lease_in, versioned, as_kind, answer_get, answer}
 use Rattle.kube_objects.specs.Clocks.{local}
-use Rattle.kube_objects.specs.Document.{Doc, is_controller, lease_seconds}
-use Rattle.kube_objects.specs.Elector.{Moment, moment, Follow, Fails, Asks, Succeeds, is_blocked, is_valid, updated, created, follow_get, follow, follow_on, leads, Shown, told, shows, shown, is_known, newly, found_shows, observed, observed_at, done_shows, respected}
+use Rattle.kube_objects.specs.Document.{Doc, is_controller}
+use Rattle.kube_objects.specs.Elector.{Moment, moment, Follow, Fails, Asks, Succeeds, is_blocked, updated, created, follow_get, follow, follow_on, leads, Shown, told, shows, shown, is_known, newly, found_shows, observed, observed_at, done_shows, respected}
 use Rattle.kube_objects.specs.Entry.{Entry, Identity, Call, Plain, Sends, Delivers, actor_of, entry, Fact, First, Event, Starts, Stops, Answers, Expires, Leads, Ends, Crashes, Stalls, Ticks, StepsDown, ReleaseBegins, ReleaseEnds, ReleaseStops}
 use Rattle.kube_objects.specs.Identities.{is_other, is_by}
 use Rattle.kube_objects.specs.Newest.{only_if, or_zero}

@@ -2,7 +2,7 @@
 use crate::writable::are_writable;
 use kube_base::{Names, NoMemory};
 use kube_objects::{Holder, Object};
-use manifest_json::{Objects, Path, ReadFault, read_list, read_object, write_list};
+use manifest_json::{Objects, Path, ReadFault, Scale, read_list, read_object, write_list};
 use serde_json::Value;
 use std::alloc::Global;
 
@@ -48,7 +48,14 @@ pub(crate) fn list_in(alloc: Global, text: &str) -> Result<Option<String>, NoMem
     };
     let mut names = Names::new(alloc)?;
     let known = names.number(CONTROLLER)?;
-    match read_list(alloc, &mut names, &[known], &value, &Path::new(alloc)) {
+    match read_list(
+        alloc,
+        Scale::Usual,
+        &mut names,
+        &[known],
+        &value,
+        &Path::new(alloc),
+    ) {
         Ok(objects) => list_text(alloc, &names, known, &objects),
         Err(ReadFault::Refused(_)) => Ok(None),
         Err(ReadFault::NoMemory) => Err(NoMemory),

@@ -6,6 +6,7 @@ pub mod Cleaning
 pub mod Tainting
 pub mod Evicting
 pub mod Between
+pub mod FirstSync
 pub mod Others
 pub mod Readying
 pub mod Starting

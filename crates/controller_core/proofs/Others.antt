@@ -1,6 +1,8 @@
 -- Entries of others leave what a term stands for.
-use Rattle.std.proofs.Common.{◌≡◌, ◌∙◌, false, List, ◌∷◌, refl, sym}
+use Rattle.std.proofs.Common.{◌≡◌, ◌∙◌, false, List, ◌∷◌, Option, None, refl, sym}
+use Rattle.kube_base.specs.declared.numbers.Local.{Local}
 use Rattle.kube_objects.specs.Document.{Doc}
+use Rattle.kube_objects.specs.Elector.{lead_says}
 use Rattle.kube_objects.specs.Entry.{Entry, Identity, Fact, Ticks}
 use Rattle.kube_objects.specs.Identities.{is_by}
 use Rattle.node_health.specs.Stands.{is_of_health}
@@ -12,7 +14,9 @@ use Rattle.tick_laws.proofs.Phases.{foreign_limits}
 use Rattle.watch_cache.specs.Stands.{is_tick_by}
 use Rattle.controller_core.specs.declared.term.Term.{Term}
 use Rattle.controller_core.specs.TermStands.{TermStands}
+use Rattle.controller_core.specs.FirstSync.{SettlesStand}
 use Rattle.controller_core.proofs.Between.{last_stands, limits_stand}
+use Rattle.controller_core.proofs.FirstSync.{settles_beside}
 
 others_health : (q : Identity) (h : List Entry) (e : Entry) → is_tick_by q e.actor e.fact ≡ false → SaysSame q h (e ∷ h)
 others_health q h e other = by_fact e.fact other (unheard-kind q h e) (unheard-foreign q h e)
@@ -21,9 +25,10 @@ others_health q h e other = by_fact e.fact other (unheard-kind q h e) (unheard-f
     by_fact (Ticks t) is kind foreign = foreign is
     by_fact d is kind foreign = kind refl
 
--- an entry that is no tick of the term's own
-pub others_kept : (doc : Doc) (q : Identity) (h : List Entry) (e : Entry) (t : Term) → is_tick_by q e.actor e.fact ≡ false → TermStands doc q h t → TermStands doc q (e ∷ h) t
-others_kept doc q h e t other s = record {
+-- an entry that is no tick of the term's own, and the reading from which it may sync
+pub others_with : (doc : Doc) (q : Identity) (h : List Entry) (e : Entry) (t : Term) (at : Option Local) → is_tick_by q e.actor e.fact ≡ false → SettlesStand doc q (e ∷ h) at → TermStands doc q h t
+    → TermStands doc q (e ∷ h) (record t { settles = at })
+others_with doc q h e t at other settles s = record {
   cluster = same_aside q h (e ∷ h) no_node no_pod t.cluster (foreign_change q h e other) s.cluster;
   reached = foreign_reached q h e other s.reached;
   health = health-same doc q h (e ∷ h) t.health (others_health q h e other) s.health;
@@ -31,5 +36,10 @@ others_kept doc q h e t other s = record {
   queues = λ place n. s.queues place n ∙ sym (foreign_since q h e other place n);
   last = last_stands doc q h (e ∷ h) t.last (foreign_limits q h e other).passed s.last;
   range = s.range;
+  settles = settles;
   settings = s.settings;
 }
+
+-- nor its lead
+pub others_kept : (doc : Doc) (q : Identity) (h : List Entry) (e : Entry) (t : Term) → is_tick_by q e.actor e.fact ≡ false → lead_says q e.actor e.fact ≡ None → TermStands doc q h t → TermStands doc q (e ∷ h) t
+others_kept doc q h e t other unled s = others_with doc q h e t t.settles other (settles_beside doc q h e t.settles unled s.settles) s

@@ -2,6 +2,7 @@ pub mod Attempts
 pub mod Cleaning
 pub mod Costs
 pub mod Deleting
+pub mod FirstSync
 pub mod Heading
 pub mod Left
 pub mod Passing

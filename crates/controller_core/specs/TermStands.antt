@@ -10,6 +10,7 @@ use Rattle.node_health.specs.Stands.{HealthStands}
 use Rattle.object_store.specs.Stands.{StoreStands}
 use Rattle.object_store.specs.declared.store.Store.{Store}
 use Rattle.taint_zones.specs.Limits.{LimitsStand}
+use Rattle.controller_core.specs.FirstSync.{SettlesStand}
 use Rattle.controller_core.specs.Passing.{IsLastInRange, LastStands}
 use Rattle.term_state.specs.declared.told.Told.{Told}
 use Rattle.term_state.specs.ClusterStands.{ClusterStands}
@@ -29,6 +30,7 @@ pub record TermStands (doc : Doc) (q : Identity) (h : List Entry) (t : Term) : T
   pub queues : QueuesStand q h t.zones.queues
   pub last : LastStands doc q h t.last
   pub range : IsLastInRange t.last
+  pub settles : SettlesStand doc q h t.settles
   pub settings : AreSettings doc t.settings
 
 -- after a tick: the term and the store stand for the history with the tick, and the deeds are those that are printed for it
@@ -48,6 +50,7 @@ pub record Begun (doc : Doc) (k : ℕ) (q : Identity) (before : List Deed) (h : 
   pub heads : no_heads q k h ≡ true
   pub last : LastStands doc q h t.last
   pub range : IsLastInRange t.last
+  pub settles : SettlesStand doc q h t.settles
   pub settings : AreSettings doc t.settings
 
 -- after the evictions
@@ -58,6 +61,7 @@ pub record Acted (doc : Doc) (k : ℕ) (q : Identity) (before : List Deed) (h : 
   pub queues : QueuesStand q h t.zones.queues
   pub last : LastStands doc q h t.last
   pub range : IsLastInRange t.last
+  pub settles : SettlesStand doc q h t.settles
   pub settings : AreSettings doc t.settings
 
 -- at the end

@@ -1,7 +1,8 @@
 // The phases of a tick.
-ghost use Rattle.std.specs.Prelude.{◌≡◌, ◌≤◌, ◌<◌, ◌+◌, ℕ, List, length, OnOk};
+ghost use Rattle.std.specs.Prelude.{◌≡◌, ◌≤◌, ◌<◌, ◌+◌, ℕ, true, List, length, OnOk};
 ghost use Rattle.kube_base.specs.Bounds.{most_local};
 ghost use Rattle.kube_objects.specs.Document.{Doc};
+ghost use Rattle.kube_objects.specs.Elector.{leads};
 ghost use Rattle.kube_objects.specs.Entry.{Entry, Identity};
 ghost use Rattle.kube_objects.specs.Modes.{nodes};
 ghost use Rattle.kube_objects.specs.Tainting.{before_tick};
@@ -37,12 +38,12 @@ impl Term {
     ) -> Result<(), NoMemory>
         requires { view.now.now.0 ≤ most_local }
         ensures { (doc : Doc) (k : ℕ) (q : Identity) (before : List Deed) (h : List Entry) → TermStands doc q h self.old
-            → StoreStands h store.old → IsTold q k before h told.old → IsView doc k q h view.entry.now → before_tick q k h ≡ h
+            → StoreStands h store.old → IsTold q k before h told.old → IsView doc k q h view.entry.now → leads q h ≡ true → before_tick q k h ≡ h
             → length (nodes q (model.sync doc k q h)) < 4294967296
             → OnOk result (Went doc k q before (model.tick doc k q h) self.new store.new told.new
             × (steps.new ≤ steps.old + (1 + tick_cost q k (model.tick doc k q h)))) }
     {
-        sync(&mut self.cluster, store, view, steps)?;
+        sync(&mut self.cluster, self.settles, store, view, steps)?;
         if !self.cluster.is_synced() {
             return Ok(());
         }

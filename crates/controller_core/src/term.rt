@@ -1,9 +1,12 @@
 // A term of a leader.
-ghost use Rattle.std.specs.Prelude.{◌≡◌, ◌≤◌, ◌<◌, ◌+◌, ℕ, List, length, IfOk};
+ghost use Rattle.std.specs.Prelude.{◌≡◌, ◌≤◌, ◌<◌, ◌+◌, ℕ, true, false, List, ◌∷◌, length, IfOk};
 ghost use Rattle.kube_base.specs.Bounds.{most_local};
+ghost use Rattle.kube_base.specs.declared.numbers.Version.{Version};
 ghost use Rattle.history.specs.Printed.{printed};
+ghost use Rattle.kube_objects.specs.Clocks.{local};
 ghost use Rattle.kube_objects.specs.Document.{Doc};
-ghost use Rattle.kube_objects.specs.Entry.{Entry, Identity};
+ghost use Rattle.kube_objects.specs.Elector.{leads};
+ghost use Rattle.kube_objects.specs.Entry.{Entry, Identity, Leads, entry};
 ghost use Rattle.kube_objects.specs.Modes.{nodes};
 ghost use Rattle.kube_objects.specs.Tainting.{before_tick};
 ghost use Rattle.kube_objects.specs.Tick as model;
@@ -14,6 +17,7 @@ ghost use Rattle.tick_laws.specs.Steps.{tick_cost};
 ghost use Rattle.watch_cache.specs.Stands.{ticks};
 ghost use Rattle.zone_counts.specs.Settings.{AreSettings};
 
+use crate::sync::settles_after;
 use kube_base::{Local, NoMemory, Steps};
 use kube_objects::{Actor, Deeds, TickSettings};
 use leader_elector::Acting;
@@ -36,16 +40,19 @@ pub struct Term {
     pub(crate) health: Health,
     pub(crate) zones: Zones,
     pub(crate) last: Option<Local>,
+    // The reading from which it may sync, where it waits for one.
+    pub(crate) settles: Option<Local>,
     ghost ordered: { settings.secondary_rate ≤ settings.primary_rate },
 }
 
 impl Term {
     ghost use Rattle.controller_core.specs.TermStands.{TermStands, Ticked};
 
-    /// A term that begins. It has seen nothing.
+    /// A term that begins. It has seen nothing, and doesn't lead yet.
     pub fn new(alloc: Global, settings: &TickSettings) -> Term
         requires { settings.now.secondary_rate ≤ settings.now.primary_rate }
-        ensures { (doc : Doc) (q : Identity) (h : List Entry) → ticks q h ≡ 0 → AreSettings doc settings.now → TermStands doc q h result }
+        ensures { (doc : Doc) (q : Identity) (h : List Entry) → ticks q h ≡ 0 → leads q h ≡ false → AreSettings doc settings.now
+            → TermStands doc q h result }
     {
         Term {
             alloc,
@@ -54,17 +61,28 @@ impl Term {
             health: Health::new(alloc),
             zones: Zones::new(alloc),
             last: None,
+            settles: None,
         }
     }
 
     /// Forgets what it has seen, as where another term begins.
     pub fn renew(&mut self)
-        ensures { (doc : Doc) (q : Identity) (h : List Entry) → ticks q h ≡ 0 → AreSettings doc self.old.settings → TermStands doc q h self.new }
+        ensures { (doc : Doc) (q : Identity) (h : List Entry) → ticks q h ≡ 0 → leads q h ≡ false → AreSettings doc self.old.settings
+            → TermStands doc q h self.new }
     {
         *self = Term::new(self.alloc, &self.settings);
     }
 
-    /// One tick: a sync, and once there was one a pass where it is due, untaints and swaps, queued taints, and evictions.
+    /// Begins to lead at a reading: it syncs no sooner than so long after it as the settings say.
+    pub fn lead(&mut self, now: Local)
+        requires { now.0 ≤ most_local }
+        ensures { (doc : Doc) (k step : ℕ) (q : Identity) (version : Version) (h : List Entry) → TermStands doc q h self.old
+            → now.0 ≡ local doc q.process k → TermStands doc q (entry k step q (Leads version) ∷ h) self.new }
+    {
+        self.settles = settles_after(now, self.settings.first_sync_millis);
+    }
+
+    /// One tick of a term that leads: a sync, once it has settled, and after the first one a pass where it is due, untaints and swaps, queued taints, and evictions.
     /// Answers the printed deeds in order. It counts at most one step more than the cost of the tick.
     pub fn tick<L>(
         &mut self,
@@ -76,7 +94,7 @@ impl Term {
     ) -> Result<Deeds, NoMemory>
         requires { view.now.now.0 ≤ most_local }
         ensures { (doc : Doc) (k : ℕ) (q : Identity) (h : List Entry) → TermStands doc q h self.old → StoreStands h store.old
-            → IsView doc k q h view.entry.now → acting_identity acting.now ≡ q → before_tick q k h ≡ h
+            → IsView doc k q h view.entry.now → acting_identity acting.now ≡ q → leads q h ≡ true → before_tick q k h ≡ h
             → length (nodes q (model.sync doc k q h)) < 4294967296
             → IfOk result (λ deeds. Ticked doc k q h deeds self.new store.new
             × (steps.new ≤ steps.old + (1 + tick_cost q k (model.tick doc k q h)))) }

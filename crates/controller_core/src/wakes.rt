@@ -1,15 +1,20 @@
 // When a tick is wanted.
-ghost use Rattle.std.specs.Prelude.{◌≡◌, ◌≤◌, ◌&&◌, ◌⊎◌, not, ℕ, true, false, List, IfSome, IfNone};
+ghost use Rattle.std.specs.Prelude.{◌≡◌, ◌≤◌, ◌==◌, ◌&&◌, ◌⊎◌, not, ℕ, true, false, List, IfSome, IfNone};
 ghost use Rattle.kube_objects.specs.Document.{Doc};
+ghost use Rattle.kube_objects.specs.Elector.{leads};
 ghost use Rattle.kube_objects.specs.Entry.{Entry, Identity};
 ghost use Rattle.kube_objects.specs.InForce.{watches};
+ghost use Rattle.kube_objects.specs.Newest.{only_if};
 ghost use Rattle.kube_objects.specs.Seen.{is_fresh};
+ghost use Rattle.kube_objects.specs.Tick.{settles_at};
 ghost use Rattle.kube_objects.specs.declared.pod.Due.TheVariants.{Never, At};
 ghost use Rattle.object_store.specs.Stands.{StoreStands};
 ghost use Rattle.tick_laws.specs.Judged.{is_dirty, seen_due};
+ghost use Rattle.controller_core.specs.Passing.{reading_of};
 
 use crate::Term;
-use crate::sync::syncs;
+use crate::sync::{syncs, syncs_at_once};
+use kube_base::Local;
 use object_store::Store;
 
 impl Term {
@@ -29,18 +34,30 @@ impl Term {
         self.cluster.least_due()
     }
 
-    /// Whether a tick now would have a sync, an untaint or a swap, whatever the time.
+    /// Whether a tick now would have a sync, an untaint or a swap, whatever the time: a sync only where a term settles at its lead.
     pub fn at_once(&self, store: &Store, watch: bool) -> bool
         ensures quiet { (doc : Doc) (q : Identity) (h : List Entry) → TermStands doc q h self.now → StoreStands h store.now
             → watch ≡ watches doc q.process h → result ≡ false
-            → ((watches doc q.process h && not (is_fresh q h)) ≡ false) × ((n : ℕ) → is_dirty q n h ≡ false) }
+            → (((doc.settings.rules.first_sync_millis == 0) && (watches doc q.process h && not (is_fresh q h))) ≡ false) × ((n : ℕ) → is_dirty q n h ≡ false) }
         ensures busy { (doc : Doc) (q : Identity) (h : List Entry) → TermStands doc q h self.now → StoreStands h store.now
             → watch ≡ watches doc q.process h → result ≡ true
-            → ((watches doc q.process h && not (is_fresh q h)) ≡ true) ⊎ ((n : ℕ) × (is_dirty q n h ≡ true)) }
+            → (((doc.settings.rules.first_sync_millis == 0) && (watches doc q.process h && not (is_fresh q h))) ≡ true) ⊎ ((n : ℕ) × (is_dirty q n h ≡ true)) }
     {
-        if syncs(&self.cluster, store, watch) {
+        if syncs_at_once(self.settings.first_sync_millis, &self.cluster, store, watch) {
             return true;
         }
         self.cluster.is_unclean()
+    }
+
+    /// The reading from which on a tick has a sync, where one is due and a term that leads takes time to settle. None where there is none.
+    pub fn sync_wake(&self, store: &Store, watch: bool) -> Option<Local>
+        ensures { (doc : Doc) (q : Identity) (h : List Entry) → TermStands doc q h self.now → StoreStands h store.now
+            → watch ≡ watches doc q.process h → leads q h ≡ true
+            → reading_of result ≡ only_if (watches doc q.process h && not (is_fresh q h)) (settles_at doc q h) }
+    {
+        if !syncs(&self.cluster, store, watch) {
+            return None;
+        }
+        self.settles
     }
 }

@@ -38,6 +38,7 @@ use Rattle.script_reader.specs.declared.table.Table.TheVariants as tables
 use Rattle.script_reader.specs.Fields.{under, object_at, needed_whole, needed_text, needed_flag}
 use Rattle.kube_objects.specs.Kinds.{IsOfKind}
 use Rattle.script_reader.specs.Lawful.{IsPosted, IsSpaceNumber, IsReadableWhat, IsLawfulWhat, AreLawfulFrom}
+use Rattle.script_reader.specs.Limits.{scale_of, event_limit}
 use Rattle.script_reader.specs.Tables.{known_in}
 use Rattle.script_reader.specs.Walk.{Cast, controller_named, kubelet_named, process_named, proc_id, behind, or_else, process_at, rate_at, delay_at, loss_at, crash_at, start_at, stop_at, watch_at, ready_at, pause_at, stall_at, put_at, kind_at, space_of, remove_at, beside, what_at, type_at, edits_election, is_too_soon, if_event, event_at, events_from, events_in}
 use Rattle.document_laws.proofs.FieldRanges.{IsIn, of_required, needed_whole-in, needed_posted-in, array-few}
@@ -146,7 +147,7 @@ module _ (cast : Cast) where
   IsKnown (whats.Watch id on) = IsController id
   IsKnown (whats.Ready id status) = IsKubelet id × IsPosted status
   IsKnown (whats.Pause id beats) = IsProcess id × (1 ≤ beats) × (beats ≤ 604800000)
-  IsKnown (whats.Stall beats) = ⊥
+  IsKnown (whats.Stall beats) = (1 ≤ beats) × (beats ≤ 604800000)
   IsKnown (whats.Put key object) = IsOfKind key object
   IsKnown (whats.Remove key) = Unit {0}
 
@@ -204,7 +205,7 @@ module _ (cast : Cast) where
 
     stall-in : Gets IsPlain (stall_at path d)
     unfolding stall_at
-    stall-in = skip (needed_whole 1 604800000 path (codes "beats") d) (λ beats. refused _)
+    stall-in = and_then (needed_whole-in 1 604800000 path (codes "beats") d) (λ beats r. done _ (λ ns. ((r.0, r.1), tt)))
 
     put-reads : AreHeld names cast.controllers → Reads names IsNamed (put_at cast names path d)
     unfolding put_at
@@ -337,18 +338,18 @@ module _ (cast : Cast) where
         },
       )))
 
-  -- at most 100,000 events, from beat 0 on
-  pub record AreAll (end : ℕ) (names : Texts) (es : List Event) : Type 0 where
+  -- at most so many events, from beat 0 on
+  pub record AreAll (most end : ℕ) (names : Texts) (es : List Event) : Type 0 where
     pub lawful : (doc : Doc) → IsOf end doc → AreLawfulFrom doc 0 es
     pub apart : AreApart es
-    pub few : length es ≤ 100000
+    pub few : length es ≤ most
     pub readable : All (λ e. IsReadableWhat names cast.controllers e.what) es
 
-  pub AreAll-none : (end : ℕ) (names : Texts) → AreAll end names []
-  AreAll-none end names = record { lawful = λ doc of. tt; apart = tt; few = omega arith; readable = All-nil (λ e. IsReadableWhat names cast.controllers e.what) }
+  pub AreAll-none : (most end : ℕ) (names : Texts) → AreAll most end names []
+  AreAll-none most end names = record { lawful = λ doc of. tt; apart = tt; few = omega arith; readable = All-nil (λ e. IsReadableWhat names cast.controllers e.what) }
 
-  pub events-reads : (scope : Scope) (names : Texts) (d : Data) → AreHeld names cast.controllers → Reads names (AreAll scope.end.0) (events_in scope cast names d)
+  pub events-reads : (scope : Scope) (names : Texts) (d : Data) → AreHeld names cast.controllers → Reads names (AreAll (event_limit (scale_of scope.version)) scope.end.0) (events_in scope cast names d)
   unfolding events_in
   events-reads scope names d held =
-      and_then (array-few 100000 (codes "/events") d) (λ all few.
+      and_then (array-few (event_limit (scale_of scope.version)) (codes "/events") d) (λ all few.
       weaker (events_from-reads scope names 0 0 [] all held) (λ r h. (h.0, record { lawful = h.1.lawful; apart = h.1.apart; few = omega (arith, h.1.count, few); readable = h.1.readable })))

@@ -1,4 +1,4 @@
-pub mod EarlierElections
+pub mod EarlierDocuments
 mod EventRanges
 mod FieldRanges
 pub mod LawfulWalk
@@ -6,4 +6,8 @@ mod PausesApart
 mod OwnRules
 mod ProcessRanges
 mod WaitRanges
+mod Scales
+mod SetNames
+mod SetsReadable
+mod SetsSaid
 pub mod SoundDocuments

@@ -1,9 +1,9 @@
--- A document that is read has the project's own rules, but for those of its elections: where a key says another one, or the same, it is
--- refused as not built.
+-- A document that is read has the project's own rules, but for those of its elections and of a term's first sync: where a key says another
+-- one, or the same, it is refused as not built.
 use Rattle.std.proofs.Common.{◌≡◌, ℕ, codes, List, Option, Some, None, Result, Ok, refl}
 use Rattle.serde_json.specs.Data.{Data}
 use Rattle.serde_json.specs.Find.{get}
-use Rattle.kube_objects.specs.Own.{own_but_elections}
+use Rattle.kube_objects.specs.Own.{own_but_built}
 use Rattle.kube_objects.specs.Rules.{own_rules}
 use Rattle.kube_objects.specs.declared.rules.Rules.{Rules}
 use Rattle.manifest_json.specs.declared.fault.Refusal.{Refusal}
@@ -12,7 +12,7 @@ use Rattle.script_reader.specs.declared.choice.Preset.{Preset}
 use Rattle.script_reader.specs.declared.choice.Preset.TheVariants as presets
 use Rattle.script_reader.specs.Built.{if_none, unless_there, if_own, judging_built, tainting_built, ending_built, rules_built}
 use Rattle.script_reader.specs.Choices.{choice_at, retries_of, respect_of}
-use Rattle.script_reader.specs.Fields.{under}
+use Rattle.script_reader.specs.Fields.{under, whole_at}
 use Rattle.script_reader.specs.Rules.{judging_at, tainting_at, ending_at, rules_at}
 
 -- a walk's value is what it gives
@@ -27,7 +27,6 @@ unless-none path key d = by (get key d) refl
     by (Some x) e = refused _
 
 pub record NoJudging (d : Data) : Type 0 where
-  pub first_sync : get (codes "firstSyncMillis") d ≡ None
   pub probe : get (codes "probe") d ≡ None
   pub judge : get (codes "judge") d ≡ None
   pub first_sight : get (codes "firstSight") d ≡ None
@@ -35,23 +34,23 @@ pub record NoJudging (d : Data) : Type 0 where
 judging-none : (path : List ℕ) (d : Data) → Gets (λ e. NoJudging d) (judging_built path d)
 unfolding judging_built
 judging-none path d =
-    and_then (unless-none path (codes "firstSyncMillis") d) (λ x0 first_sync.
-    and_then (unless-none path (codes "probe") d) (λ x1 probe.
-    and_then (unless-none path (codes "judge") d) (λ x2 judge.
-    weaker (unless-none path (codes "firstSight") d) (λ e first_sight. record { first_sync = first_sync; probe = probe; judge = judge; first_sight = first_sight }))))
+    and_then (unless-none path (codes "probe") d) (λ x0 probe.
+    and_then (unless-none path (codes "judge") d) (λ x1 judge.
+    weaker (unless-none path (codes "firstSight") d) (λ e first_sight. record { probe = probe; judge = judge; first_sight = first_sight })))
 
--- the rules are the project's own, but for those of elections
-abbrev pub IsOwnButElections : Rules → Type 0
-IsOwnButElections rules = rules ≡ own_but_elections rules
+-- the rules are the project's own, but for those that run
+abbrev pub IsOwnButBuilt : Rules → Type 0
+IsOwnButBuilt rules = rules ≡ own_but_built rules
 
--- how an election goes is read; how nodes are judged is the project's own
-judging-own : (path : List ℕ) (d : Data) → NoJudging d → Gets IsOwnButElections (judging_at own_rules path d)
+-- how an election goes, and when a term first syncs, is read; how nodes are judged is the project's own
+judging-own : (path : List ℕ) (d : Data) → NoJudging d → Gets IsOwnButBuilt (judging_at own_rules path d)
 unfolding judging_at
 judging-own path d h =
-    rw (h.first_sync, h.probe, h.judge, h.first_sight)
+    rw (h.probe, h.judge, h.first_sight)
     (skip (choice_at retries_of own_rules.retries path (codes "retries") d) (λ retries.
     skip (choice_at respect_of own_rules.respect path (codes "respect") d) (λ respect.
-    done _ refl)))
+    skip (whole_at own_rules.first_sync_millis 0 604800000 path (codes "firstSyncMillis") d) (λ wait.
+    done _ refl))))
 
 pub record NoTainting (d : Data) : Type 0 where
   pub queue : get (codes "queue") d ≡ None
@@ -111,11 +110,11 @@ rules-none preset path d =
     and_then (tainting-none path d) (λ c tainting.
     weaker (ending-none path d) (λ e ending. record { own = own; judging = judging; tainting = tainting; ending = ending }))))
 
-pub rules-own : (preset : Preset) (path : List ℕ) (d : Data) → AreOwn preset d → Gets IsOwnButElections (rules_at preset path d)
+pub rules-own : (preset : Preset) (path : List ℕ) (d : Data) → AreOwn preset d → Gets IsOwnButBuilt (rules_at preset path d)
 unfolding rules_at
 rules-own preset path d h = by preset h.own
   where
-    by : (preset : Preset) → preset ≡ presets.Own → Gets IsOwnButElections (rules_at preset path d)
+    by : (preset : Preset) → preset ≡ presets.Own → Gets IsOwnButBuilt (rules_at preset path d)
     by presets.Own e =
         and_then (judging-own path d h.judging) (λ judging own.
         rw (tainting-default judging path d h.tainting, ending-default judging path d h.ending) (done judging own))

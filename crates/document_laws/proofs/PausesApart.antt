@@ -1,4 +1,4 @@
--- Of two pauses of a process the later one begins after the end of the earlier one, and a beat more.
+-- Of two pauses of a process the later one begins after the end of the earlier one, and a beat more; so it is of two stalls of the store.
 use Rattle.std.proofs.Common.{◌≡◌, ℕ, ◌+◌, ◌==◌, ◌||◌, Bool, true, false, List, [], ◌∷◌, ◌++◌, Option, Some, None, refl, subst}
 use Rattle.std.proofs.lemmas.Bool.{leb-false, eqb-true}
 use Rattle.kube_objects.specs.declared.script.Event.{Event}
@@ -6,8 +6,9 @@ use Rattle.kube_objects.specs.declared.script.What.{What}
 use Rattle.kube_objects.specs.declared.script.What.TheVariants as whats
 use Rattle.kube_objects.specs.Newest.{when}
 use Rattle.kube_objects.specs.Pauses.{pause_of}
+use Rattle.kube_objects.specs.Stalls.{stall_of}
 use Rattle.history.specs.Sound.{IsApart, AreApartFrom}
-use Rattle.script_reader.specs.Walk.{reaches, pauses_up_to, is_paused_up_to, is_too_soon}
+use Rattle.script_reader.specs.Walk.{reaches, pauses_up_to, is_paused_up_to, stalls_up_to, is_stalled_up_to, is_too_soon}
 
 -- these events are apart from each of the earlier ones
 abbrev pub AreBehind : List Event → List Event → Type 0
@@ -35,29 +36,35 @@ ends-before at k beats None over = tt
 ends-before at k beats (Some n) over = leb-false k (at + n) over
 
 -- an event that isn't too soon is apart from the first of the earlier ones, and not too soon after the others
-apart-first : (x : Event) (earlier : List Event) (k : ℕ) (what : What) → is_too_soon (x ∷ earlier) k what ≡ false
-    → ((p : ℕ) → IsApart x.beat.0 (pause_of p x.what) k (pause_of p what)) × (is_too_soon earlier k what ≡ false)
+record IsNotSoon (x : Event) (earlier : List Event) (k : ℕ) (what : What) : Type 0 where
+  pub pauses : (p : ℕ) → IsApart x.beat.0 (pause_of p x.what) k (pause_of p what)
+  pub stalls : IsApart x.beat.0 (stall_of x.what) k (stall_of what)
+  pub rest : is_too_soon earlier k what ≡ false
+
+apart-first : (x : Event) (earlier : List Event) (k : ℕ) (what : What) → is_too_soon (x ∷ earlier) k what ≡ false → IsNotSoon x earlier k what
 apart-first x earlier k (whats.Pause id beats) rests =
     let parts = or_parts (pauses_up_to id.0 k x) (is_paused_up_to id.0 k earlier) rests in
-    (λ p. by_test p (id.0 == p) refl parts.0, parts.1)
+    record { pauses = λ p. by_test p (id.0 == p) refl parts.0; stalls = no_later x.beat.0 k (stall_of x.what); rest = parts.1 }
   where
     by_test : (p : ℕ) (b : Bool) → (id.0 == p) ≡ b → pauses_up_to id.0 k x ≡ false → IsApart x.beat.0 (pause_of p x.what) k (when b beats)
     by_test p true same over = ends-before x.beat.0 k beats (pause_of p x.what) (subst (λ q. pauses_up_to q k x ≡ false) (eqb-true id.0 p same) over)
     by_test p false other over = no_later x.beat.0 k (pause_of p x.what)
-apart-first x earlier k (whats.Rate id ppm) rests = (λ p. no_later x.beat.0 k (pause_of p x.what), refl)
-apart-first x earlier k (whats.Delay id requests replies) rests = (λ p. no_later x.beat.0 k (pause_of p x.what), refl)
-apart-first x earlier k (whats.Loss id requests replies) rests = (λ p. no_later x.beat.0 k (pause_of p x.what), refl)
-apart-first x earlier k (whats.Crash id) rests = (λ p. no_later x.beat.0 k (pause_of p x.what), refl)
-apart-first x earlier k (whats.Start id) rests = (λ p. no_later x.beat.0 k (pause_of p x.what), refl)
-apart-first x earlier k (whats.Stop id) rests = (λ p. no_later x.beat.0 k (pause_of p x.what), refl)
-apart-first x earlier k (whats.Watch id on) rests = (λ p. no_later x.beat.0 k (pause_of p x.what), refl)
-apart-first x earlier k (whats.Ready id status) rests = (λ p. no_later x.beat.0 k (pause_of p x.what), refl)
-apart-first x earlier k (whats.Stall beats) rests = (λ p. no_later x.beat.0 k (pause_of p x.what), refl)
-apart-first x earlier k (whats.Put key object) rests = (λ p. no_later x.beat.0 k (pause_of p x.what), refl)
-apart-first x earlier k (whats.Remove key) rests = (λ p. no_later x.beat.0 k (pause_of p x.what), refl)
+apart-first x earlier k (whats.Rate id ppm) rests = record { pauses = λ p. no_later x.beat.0 k (pause_of p x.what); stalls = no_later x.beat.0 k (stall_of x.what); rest = refl }
+apart-first x earlier k (whats.Delay id requests replies) rests = record { pauses = λ p. no_later x.beat.0 k (pause_of p x.what); stalls = no_later x.beat.0 k (stall_of x.what); rest = refl }
+apart-first x earlier k (whats.Loss id requests replies) rests = record { pauses = λ p. no_later x.beat.0 k (pause_of p x.what); stalls = no_later x.beat.0 k (stall_of x.what); rest = refl }
+apart-first x earlier k (whats.Crash id) rests = record { pauses = λ p. no_later x.beat.0 k (pause_of p x.what); stalls = no_later x.beat.0 k (stall_of x.what); rest = refl }
+apart-first x earlier k (whats.Start id) rests = record { pauses = λ p. no_later x.beat.0 k (pause_of p x.what); stalls = no_later x.beat.0 k (stall_of x.what); rest = refl }
+apart-first x earlier k (whats.Stop id) rests = record { pauses = λ p. no_later x.beat.0 k (pause_of p x.what); stalls = no_later x.beat.0 k (stall_of x.what); rest = refl }
+apart-first x earlier k (whats.Watch id on) rests = record { pauses = λ p. no_later x.beat.0 k (pause_of p x.what); stalls = no_later x.beat.0 k (stall_of x.what); rest = refl }
+apart-first x earlier k (whats.Ready id status) rests = record { pauses = λ p. no_later x.beat.0 k (pause_of p x.what); stalls = no_later x.beat.0 k (stall_of x.what); rest = refl }
+apart-first x earlier k (whats.Stall beats) rests =
+    let parts = or_parts (stalls_up_to k x) (is_stalled_up_to k earlier) rests in
+    record { pauses = λ p. no_later x.beat.0 k (pause_of p x.what); stalls = ends-before x.beat.0 k beats (stall_of x.what) parts.0; rest = parts.1 }
+apart-first x earlier k (whats.Put key object) rests = record { pauses = λ p. no_later x.beat.0 k (pause_of p x.what); stalls = no_later x.beat.0 k (stall_of x.what); rest = refl }
+apart-first x earlier k (whats.Remove key) rests = record { pauses = λ p. no_later x.beat.0 k (pause_of p x.what); stalls = no_later x.beat.0 k (stall_of x.what); rest = refl }
 
 pub behind-next : (earlier : List Event) (e : Event) (es : List Event) → is_too_soon earlier e.beat.0 e.what ≡ false → AreBehind earlier es → AreBehind earlier (e ∷ es)
 behind-next [] e es rests all = tt
 behind-next (x ∷ earlier) e es rests all =
     let first = apart-first x earlier e.beat.0 e.what rests in
-    ((first.0, all.0), behind-next earlier e es first.1 all.1)
+    ((first.pauses, first.stalls, all.0), behind-next earlier e es first.rest all.1)

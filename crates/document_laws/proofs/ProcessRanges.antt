@@ -28,6 +28,7 @@ use Rattle.script_reader.specs.declared.table.Version.{Version}
 use Rattle.script_reader.specs.Fields.{under, text_at, needed_text, if_name, needed_name, name_at, needed_whole, whole_at, flag_at, policy_at, if_epoch, epoch_at}
 use Rattle.script_reader.specs.Choices.{preset_at}
 use Rattle.script_reader.specs.Rules.{rules_at, agree}
+use Rattle.script_reader.specs.Limits.{scale_of, kubelet_limit}
 use Rattle.script_reader.specs.Lawful.{AreLawful, IsPosted, IsLawful, AreNamedApart, AreWaits}
 use Rattle.script_reader.specs.Walk.{Team, if_sound, if_controller, object_in, if_end, beats_at, timings_at, standard, periods_at, rates_at, is_sound, settings_of, settings_at, named_at, clock_at, timings_of, has_name, numbers_of, controller_of, controller_at, controllers_from, controllers_in, kubelet_of, kubelet_at, kubelets_from, kubelets_in}
 use Rattle.document_laws.proofs.OwnRules.{itself, rules-none, rules-own}
@@ -234,7 +235,7 @@ lawful-from c t p clock timings own posted rate offset lease renew retry timeout
 if_name-in : (path text : List ℕ) → Gets (λ t. is_name t ≡ true) (if_name path text)
 if_name-in path text = by_test (is_name text) _ _ (λ e. done text e) (λ e. refused _)
 
-needed_name-in : (path key : List ℕ) (d : Data) → Gets (λ t. is_name t ≡ true) (needed_name path key d)
+pub needed_name-in : (path key : List ℕ) (d : Data) → Gets (λ t. is_name t ≡ true) (needed_name path key d)
 unfolding needed_name
 needed_name-in path key d = skip (needed_text path key d) (λ text. if_name-in (under path key) text)
 
@@ -385,9 +386,9 @@ module _ (settings : Settings) (timings : AreTimings (timings_of settings)) (own
       weaker (kubelets_from-in next.1 (place + 1) (earlier ++ next.0 ∷ []) rest (AreProcs-push n.0 earlier next.0 all n.1))
       (λ r h. (Grows-then n.0 h.0, (h.1.0, omega (arith, h.1.1, length-append earlier (next.0 ∷ []))))))
 
-  -- at most 1,000 kubelets
-  pub kubelets-in : (names : Texts) (d : Data) → Reads names (λ ns ps. AreProcs ns ps × (length ps ≤ 1000)) (kubelets_in settings names d)
+  -- no more kubelets than the version allows
+  pub kubelets-in : (version : Version) (names : Texts) (d : Data) → Reads names (λ ns ps. AreProcs ns ps × (length ps ≤ kubelet_limit (scale_of version))) (kubelets_in version settings names d)
   unfolding kubelets_in
-  kubelets-in names d =
-      and_then (array-few 1000 (codes "/kubelets") d) (λ all few.
+  kubelets-in version names d =
+      and_then (array-few (kubelet_limit (scale_of version)) (codes "/kubelets") d) (λ all few.
       weaker (kubelets_from-in names 0 [] all (AreProcs-none names)) (λ r k. (k.0, (k.1.0, omega (arith, k.1.1, few)))))

@@ -18,7 +18,7 @@ sound-what doc (whats.Stop id) lawful = lawful
 sound-what doc (whats.Watch id on) lawful = tt
 sound-what doc (whats.Ready id status) lawful = tt
 sound-what doc (whats.Pause id beats) lawful = tt
-sound-what doc (whats.Stall beats) lawful = absurd lawful
+sound-what doc (whats.Stall beats) lawful = tt
 sound-what doc (whats.Put key object) lawful = lawful.0
 sound-what doc (whats.Remove key) lawful = lawful
 

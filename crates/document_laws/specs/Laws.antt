@@ -1,13 +1,16 @@
 -- What holds of every document that is read.
-use Rattle.std.specs.Prelude.{◌≡◌, ℕ, false, List, codes, Ok}
+use Rattle.std.specs.Prelude.{◌≡◌, ℕ, false, List, codes, Ok, Option, if◌then◌else◌}
 use Rattle.serde_json.specs.Data.{Data}
 use Rattle.serde_json.specs.Find.{get}
 use Rattle.kube_objects.specs.Document.{Doc}
-use Rattle.kube_objects.specs.Own.{ElectsByOwn}
+use Rattle.kube_objects.specs.Own.{ElectsByOwn, SettlesAtOnce, AreUnstalled}
 use Rattle.history.specs.Sound.{IsSound}
+use Rattle.manifest_json.specs.declared.scale.Scale.{Scale}
+use Rattle.manifest_json.specs.declared.scale.Scale.TheVariants as scales
 use Rattle.script_reader.specs.declared.document.Document.{Document}
 use Rattle.script_reader.specs.Documents.{doc_of}
 use Rattle.script_reader.specs.Lawful.{IsLawfulDoc, IsWellNamed}
+use Rattle.script_reader.specs.Limits.{IsWithin}
 use Rattle.script_reader.specs.Walk.{says_four, data_of, document_walk}
 
 -- whatever the bytes are, a document that the walk gives is lawful
@@ -18,13 +21,27 @@ DocumentsAreLawful = (bytes : List ℕ) (d : Document) → document_walk bytes �
 abbrev pub DocumentsAreWellNamed : Type 0
 DocumentsAreWellNamed = (bytes : List ℕ) (d : Document) → document_walk bytes ≡ Ok d → IsWellNamed d.names (doc_of d)
 
--- a document whose version isn't 4 has the project's own rules of elections too, since it has no key that says another one. Source: profile
-abbrev pub EarlierElectByOwn : Type 0
-EarlierElectByOwn =
+-- how large a cluster the version under this key allows
+abbrev pub scale_under : Option Data → Scale
+scale_under version = if says_four version then scales.Large else scales.Usual
+
+abbrev pub scale_said : Data → Scale
+scale_said value = scale_under (get (codes "version") value)
+
+-- and it passes no limit of the version that it says
+abbrev pub DocumentsAreWithin : Type 0
+DocumentsAreWithin =
+    (bytes : List ℕ) (value : Data) (d : Document) → data_of bytes ≡ Ok value → document_walk bytes ≡ Ok d
+    → IsWithin (scale_said value) (doc_of d)
+
+-- a document whose version isn't 4 has the project's own rules of elections too, its terms sync at once, and its script never stops the
+-- store, since it has no key or type of an event that says otherwise. Source: profile
+abbrev pub EarlierGoByOwn : Type 0
+EarlierGoByOwn =
     (bytes : List ℕ) (value : Data) (d : Document) → data_of bytes ≡ Ok value → says_four (get (codes "version") value) ≡ false
-    → document_walk bytes ≡ Ok d → ElectsByOwn (doc_of d)
+    → document_walk bytes ≡ Ok d → ElectsByOwn (doc_of d) × SettlesAtOnce (doc_of d) × AreUnstalled (doc_of d).events
 
 -- a lawful document leaves the election Lease alone, stops controllers only, has delays of at least one beat, a beat between two
--- pauses of a process, and but for its elections no rules but the project's own
+-- pauses of a process, and but for its elections and a term's first sync no rules but the project's own
 abbrev pub LawfulIsSound : Type 0
 LawfulIsSound = (doc : Doc) → IsLawfulDoc doc → IsSound doc

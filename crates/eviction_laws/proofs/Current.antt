@@ -32,7 +32,7 @@ use Rattle.kube_objects.specs.Tick.{add, for_each, has_settled, sync, pass, clea
 use Rattle.kube_objects.specs.Tolerations.{due}
 use Rattle.kube_objects.specs.Tries.{as_answer, try_delete}
 use Rattle.kube_objects.specs.Wire.{loses_requests}
-use Rattle.kube_objects.proofs.Own.{has_settled-own, evict-own, evicted-own}
+use Rattle.kube_objects.proofs.Own.{evict-own, evicted-own}
 use Rattle.history.specs.Evictions.{stored_node, stored_pod, due_on, due_of, pod_due, IsDue}
 use Rattle.history_laws.proofs.Plainly.{upper, none_is, false_is, same_self, same_is}
 use Rattle.history_laws.proofs.Ticks.{IsTry, IsDelete, IsDeleteBy, MadeTick, IsPodKey, pods_only, Each, evict_step, walk_pass, walk_cleaned, walk_tainted}
@@ -289,12 +289,12 @@ module _ (doc : Doc) (own : IsOwn doc) (k : ℕ) (q : Identity) where
       by_stored None is = evict_all_keeps pod (pod_keys h) h (pods_only h) (λ d. subst (λ o. IsDue (wall doc q.process k) (due_of (as_kind pod_in o) h)) is d)
       by_stored (Some y) is = evict_all pod (pod_keys h) h (pods_only h) s (named_pod pod kind h y is)
 
-  -- after a tick that reaches the store no pod is due
-  pub current : (h : List Entry) → Unstale q h → watches doc q.process h ≡ true → loses_requests q.process h ≡ false → (pod : Key) → is_pod pod.kind ≡ true → IsDue (wall doc q.process k) (pod_due pod (tick doc k q h)) → ⊥
-  current h old watching passing pod kind =
+  -- after a tick of a settled term that reaches the store no pod is due
+  pub current : (h : List Entry) → Unstale q h → has_settled doc k q h ≡ true → watches doc q.process h ≡ true → loses_requests q.process h ≡ false → (pod : Key) → is_pod pod.kind ≡ true → IsDue (wall doc q.process k) (pod_due pod (tick doc k q h)) → ⊥
+  current h old settled watching passing pod kind =
       let a = sync doc k q h in
       let b = pass doc k q a in
       let c = cleaned doc k q b in
-      let s = fine_sync doc k q h (has_settled-own doc own k q h) old watching passing in
+      let s = fine_sync doc k q h settled old watching passing in
       subst (λ t. Timely pod (if t then phases doc k q a else a)) (sym s.synced)
       (evicted_clear pod (tainted doc k q c) kind (walk_tainted doc k q (Fine q) (fine_more doc added k q) c (walk_cleaned doc k q (Fine q) (fine_more doc added k q) b (walk_pass doc k q (Fine q) (fine_more doc added k q) a s.fine))))

@@ -20,7 +20,8 @@ use Rattle.kube_objects.specs.Process.{alive, last_call, call_in, is_late}
 use Rattle.kube_objects.specs.Stored.{Held, node_key, node_lease, key_of, at_key, request_write, stored, next_version}
 use Rattle.kube_objects.specs.Turns.{with_reply, expired_in}
 use Rattle.kube_objects.specs.Wire.{Sent, Back, back_of, back_as, request_delay_of, request_loss_of, request_delay, arrival, request_arrival, reply_arrival, next_call}
-use Rattle.kube_objects.proofs.Own.{request_arrival-own}
+use Rattle.kube_objects.specs.Stalls.{is_stalled}
+use Rattle.kube_objects.proofs.Stalls.{arrives_now}
 use Rattle.history.specs.History.{three_steps, history}
 use Rattle.history.specs.Sound.{IsSound}
 use Rattle.history.specs.Steps.{answered}
@@ -154,7 +155,7 @@ module _ (doc : Doc) (sound : IsSound doc) (near far s l : ℕ) (q : Identity) (
       request_passes : request_arrival doc q.process x.beat T ≡ Some (x.beat + request_delay q.process (with_events doc x.beat))
       request_passes =
           let force = forces_stand doc sound.2 m x T at (omega (arith, sending.late)) in
-          request_arrival-own doc sound.2 q.process x.beat T
+          arrives_now doc q.process x.beat T (ap (λ n. is_stalled doc (x.beat + n)) (ap (or_else 1) (force.0 (request_delay_of q.process))) ∙ passes.goes)
           ∙ ap (λ b. arrival b x.beat (request_delay q.process T)) (ap (or_else false) (force.1 (request_loss_of q.process)) ∙ passes.requests)
           ∙ ap (λ n. Some (x.beat + n)) (ap (or_else 1) (force.0 (request_delay_of q.process)))
 

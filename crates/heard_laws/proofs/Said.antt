@@ -12,7 +12,6 @@ use Rattle.kube_objects.specs.InForce.{watches}
 use Rattle.kube_objects.specs.Own.{IsOwn}
 use Rattle.kube_objects.specs.Seen.{is_fresh}
 use Rattle.kube_objects.specs.Tick.{add, whole_pass, evicted, tainted, cleaned}
-use Rattle.kube_objects.proofs.Own.{has_settled-own}
 use Rattle.history.specs.Evictions.{after_turn}
 use Rattle.history.specs.History.{history, at_turn}
 use Rattle.history.specs.Steps.{elector_turn}
@@ -76,7 +75,7 @@ first_of f a (suc n) is = let e : a + suc n ≡ suc a + n = omega arith in by_te
 module _ (doc : Doc) (own : IsOwn doc) (q : Identity) (k : ℕ) (attended : IsAttended doc q k) where
   pub synced_mirrors : Mirrors q (synced_at doc q k)
   synced_mirrors =
-      subst (λ b. Mirrors q (if (b && (watches doc q.process h && not (is_fresh q h))) then add k q Sync h else h)) (sym (has_settled-own doc own k q h))
+      subst (λ b. Mirrors q (if (b && (watches doc q.process h && not (is_fresh q h))) then add k q Sync h else h)) (sym (ready doc own q k attended).settled)
       (subst (λ b. Mirrors q (if (b && not (is_fresh q h)) then add k q Sync h else h)) (sym (ready doc own q k attended).watching) (by_test (is_fresh q h) refl))
     where
       h : List Entry

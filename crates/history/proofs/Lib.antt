@@ -1,4 +1,5 @@
--- For callers: other crates cite Due, Pauses.
+-- For callers: other crates cite Due, Own, Pauses, Ticks.
 pub mod Due
 pub mod Pauses
 pub mod Own
+pub mod Ticks

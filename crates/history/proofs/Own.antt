@@ -1,17 +1,15 @@
 -- Under the project's own rules the steps of a beat, and the lease premise, are those that ask for no rule.
-use Rattle.std.proofs.Common.{◌≡◌, ℕ, zero, suc, ◌+◌, ◌*◌, ◌&&◌, nat_lt, Bool, true, false, List, ◌∷◌, length, Option, Some, None, refl, sym, ap, ◌∙◌}
-use Rattle.std.specs.Prelude.{if◌then◌else◌}
+use Rattle.std.proofs.Common.{◌≡◌, ℕ, ◌+◌, ◌*◌, ◌&&◌, nat_lt, List, ◌∷◌, ap}
 use Rattle.kube_objects.specs.declared.call.Reply.{Reply}
 use Rattle.kube_objects.specs.Document.{Doc, end_beat, beat_micros, call_timeout, retry_period, renew_deadline}
-use Rattle.kube_objects.specs.Elector.{acts, follow_on, leads, release}
+use Rattle.kube_objects.specs.Elector.{follow_on, leads, release}
 use Rattle.kube_objects.specs.Entry.{Entry, Identity, Call, Stops, entry}
 use Rattle.kube_objects.specs.Own.{IsOwn}
-use Rattle.kube_objects.specs.Process.{alive, release_begun}
-use Rattle.kube_objects.specs.Tick.{tick}
+use Rattle.kube_objects.specs.Process.{release_begun}
 use Rattle.kube_objects.specs.Turns.{react}
-use Rattle.kube_objects.proofs.Own.{release_begun-own, is_stalled-own}
+use Rattle.kube_objects.proofs.Own.{release_begun-own}
 use Rattle.history.specs.Premise.{least_rate, longest, late_calls, stall_by, span_by, waited_by, is_long, lease_part, answers_come, lease_premise}
-use Rattle.history.specs.Steps.{released, stop_as, elector_react, if_up, ticks, ticks_while}
+use Rattle.history.specs.Steps.{released, stop_as, elector_react}
 
 module _ (doc : Doc) (own : IsOwn doc) where
   pub stop-own : (k : ℕ) (q : Identity) (before h : List Entry)
@@ -22,9 +20,6 @@ module _ (doc : Doc) (own : IsOwn doc) where
       → elector_react doc k q call reply (release_begun doc.settings.rules.release call.kind) h
       ≡ react doc k q (leads q h) (follow_on doc q k call.kind call.request reply h) h
   react-own k q call reply h = ap (λ o. elector_react doc k q call reply o h) (release_begun-own doc own call.kind)
-
-  pub ticks-own : (k p : ℕ) (h : List Entry) → ticks doc k p h ≡ if_up p (λ q T. (if (acts doc q k T) then tick doc k q T else T)) (alive p h) h
-  ticks-own k p h = ap (λ b. ticks_while b doc k p h) (is_stalled-own doc own k)
 
   pub is_long-own : (high p : ℕ) → is_long doc high p ≡
       nat_lt

@@ -112,7 +112,7 @@ happen_all doc k (e ∷ es) h = happen_all doc k es (if e.beat.0 == k then happe
 abbrev pub step_one : Doc → ℕ → List Entry → List Entry
 step_one doc k h = happen_all doc k doc.events (first_starts doc k h)
 
--- ---- step 2: requests that arrive are answered, in the order of their sending
+-- ---- step 2: requests that arrive are answered, in the order of their sending; none arrives in a stall
 
 abbrev pub answered : Doc → ℕ → Sent → List Entry → List Entry
 answered doc k s h = entry k 2 s.who (Answers s.call (answer s.call.request h) (reply_arrival doc s.who.process k h) (written s.call.request h)) ∷ h

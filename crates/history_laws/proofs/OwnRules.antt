@@ -1,17 +1,19 @@
 -- The project's own rules change nothing.
 use Rattle.std.proofs.Common.{◌+◌, ◌*◌, nat_lt, ap, ◌∙◌}
 use Rattle.kube_objects.specs.Document.{end_beat, beat_micros, call_timeout, retry_period, renew_deadline}
-use Rattle.kube_objects.proofs.Own.{request_arrival-own, is_late-own, expire_as-own, retry_at-own, respected-own, acts-own, end_term-own}
+use Rattle.kube_objects.proofs.Own.{is_late-own, expire_as-own, retry_at-own, respected-own, acts-own, end_term-own}
 use Rattle.kube_objects.proofs.Own.{has_settled-own, pass_period-own, heard-own, cleaned-own, tainted-own, has_token-own, evict-own, evicted-own}
-use Rattle.history.proofs.Own.{stop-own, react-own, ticks-own, is_long-own, premise-own}
+use Rattle.kube_objects.proofs.Stalls.{never_stalled, arrives_unstalled}
+use Rattle.history.proofs.Own.{stop-own, react-own, is_long-own, premise-own}
+use Rattle.history.proofs.Ticks.{ticks_go}
 use Rattle.history.specs.Premise.{least_rate, longest, waited_by}
 use Rattle.history_laws.specs.Own.{OwnRulesChangeNothing}
 
 pub own_rules_change_nothing : OwnRulesChangeNothing
-own_rules_change_nothing doc own = (
-  record {
-    ticks = ticks-own doc own;
-    settles = has_settled-own doc own;
+own_rules_change_nothing doc own none = (
+  λ at_once. record {
+    ticks = λ k p h. ticks_go doc k p h (never_stalled doc k none);
+    settles = has_settled-own doc at_once;
     passes = pass_period-own doc own;
     hears = heard-own doc own;
     cleans = cleaned-own doc own;
@@ -22,7 +24,7 @@ own_rules_change_nothing doc own = (
   },
   λ elects. (
     record {
-      arrives = request_arrival-own doc own;
+      arrives = λ p k h. arrives_unstalled doc p k h none;
       is_late = is_late-own doc own;
       expires = expire_as-own doc own;
       retries = retry_at-own doc elects;

@@ -36,8 +36,9 @@ pub fn entries_are_ordered()
     ensures adds { StepsOnlyAdd }
 {}
 
-/// In a document that goes by the project's own rules but for those of elections, each definition of a tick that asks for a rule is the one that
-/// asks for none; where it elects by them too, so is each of elections and of the lease premise.
+/// In a document that goes by the project's own rules but for those of elections and of a term's first sync, and whose store never stands still,
+/// each definition of a tick that asks for a rule is the one that asks for none, where its terms settle at once; where it elects by them too, so
+/// is each of elections and of the lease premise.
 pub fn own_rules_change_nothing()
     ensures { OwnRulesChangeNothing }
 {}

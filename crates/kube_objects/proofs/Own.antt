@@ -1,48 +1,26 @@
 -- Under the project's own rules each definition that asks for a rule is the one that doesn't.
-use Rattle.std.proofs.Common.{◌≡◌, ℕ, zero, suc, ◌+◌, ◌*◌, ◌/◌, ◌%◌, ◌==◌, ◌&&◌, ◌||◌, not, nat_le, nat_lt, Bool, true, false, List, [], ◌∷◌, map, length, slice_get, Option, Some, None, refl, sym, ap, ◌∙◌, arith}
+use Rattle.std.proofs.Common.{◌≡◌, ℕ, zero, suc, ◌+◌, ◌*◌, ◌/◌, ◌%◌, ◌==◌, ◌&&◌, ◌||◌, not, nat_le, nat_lt, Bool, true, false, List, [], ◌∷◌, map, length, slice_get, None, refl, ap, ◌∙◌, arith}
 use Rattle.kube_objects.specs.declared.key.Key.{Key}
 use Rattle.kube_objects.specs.declared.lease.Lease.{Lease}
 use Rattle.kube_objects.specs.declared.script.Proc.{Proc}
-use Rattle.kube_objects.specs.declared.script.Event.{Event}
 use Rattle.kube_objects.specs.Clocks.{local}
 use Rattle.kube_objects.specs.Document.{Doc, of_millis, lease_seconds, retry_period, call_timeout, waits_of, waits_or, own_waits_each}
 use Rattle.kube_objects.specs.Elector.{acts, leads_on, in_term, led_at, moment, respected, retry_at, leader_waits, failures}
 use Rattle.kube_objects.specs.Entry.{Entry, Identity, Place, Call, CallKind, Ends, Expires, entry}
 use Rattle.kube_objects.specs.Health.{heard, probe, pass_period, pass_work}
-use Rattle.kube_objects.specs.Newest.{has, or_else}
-use Rattle.kube_objects.specs.Own.{AreUnstalled, IsOwn, ElectsByOwn}
-use Rattle.kube_objects.specs.Pauses.{is_paused, end_of}
+use Rattle.kube_objects.specs.Newest.{or_else}
+use Rattle.kube_objects.specs.Own.{IsOwn, ElectsByOwn, SettlesAtOnce}
+use Rattle.kube_objects.specs.Pauses.{is_paused}
 use Rattle.kube_objects.specs.Process.{release_begun, is_release_over, is_late}
 use Rattle.kube_objects.specs.Retries.{wait_after}
 use Rattle.kube_objects.specs.Rules.{own_waits}
 use Rattle.kube_objects.specs.Seen.{node_names, pod_keys, is_stale, seen_pod}
-use Rattle.kube_objects.specs.Stalls.{stall_of, last_stall, stall_end, is_stalled, at_store}
 use Rattle.kube_objects.specs.Tick.{for_each, clean, cleaned, cleaned_by, taint, tainted, tainted_by, evict, evict_by, evict_seen, evict_within, evicted, dues, has_settled}
 use Rattle.kube_objects.specs.Modes.{nodes, places}
 use Rattle.kube_objects.specs.Tokens.{has_token, token_by, is_grown, grown, rated}
 use Rattle.kube_objects.specs.Turns.{end_as, expire_as}
-use Rattle.kube_objects.specs.Wire.{arrival, request_arrival, request_delay, loses_requests}
 
 module _ (doc : Doc) (own : IsOwn doc) where
-  -- ---- the store never stands still
-
-  none_stalls : (k : ℕ) (es : List Event) → AreUnstalled es → last_stall k es ≡ None
-  none_stalls k [] none = refl
-  none_stalls k (e ∷ es) none = ap (λ o. elim o [ None ↦ end_of k e.beat.0 (stall_of e.what) | Some at ↦ Some at ]) (none_stalls k es none.1) ∙ ap (end_of k e.beat.0) none.0
-
-  pub never_stalled : (k : ℕ) → stall_end doc k ≡ None
-  never_stalled k = none_stalls k doc.events own.unstalled
-
-  pub is_stalled-own : (k : ℕ) → is_stalled doc k ≡ false
-  is_stalled-own k = ap has (never_stalled k)
-
-  pub at_store-own : (o : Option ℕ) → at_store doc o ≡ o
-  at_store-own None = refl
-  at_store-own (Some k) = ap (λ o. Some (or_else k o)) (never_stalled k)
-
-  pub request_arrival-own : (p k : ℕ) (h : List Entry) → request_arrival doc p k h ≡ arrival (loses_requests p h) k (request_delay p h)
-  request_arrival-own p k h = at_store-own (arrival (loses_requests p h) k (request_delay p h))
-
   -- ---- calls
 
   pub release_begun-own : (kind : CallKind) → release_begun doc.settings.rules.release kind ≡ None
@@ -70,9 +48,6 @@ module _ (doc : Doc) (own : IsOwn doc) where
 
   -- ---- the tick
 
-  pub has_settled-own : (k : ℕ) (q : Identity) (h : List Entry) → has_settled doc k q h ≡ true
-  has_settled-own k q h = ap (λ r. (r.first_sync_millis == 0) || nat_le (local doc q.process (led_at q h) + of_millis r.first_sync_millis) (local doc q.process k)) own.rules
-
   pub heard-own : (q : Identity) (name : ℕ) (h : List Entry) → heard doc.settings.rules.probe q name h ≡ probe q name h
   heard-own q name h = ap (λ r. heard r.probe q name h) own.rules
 
@@ -99,6 +74,10 @@ module _ (doc : Doc) (own : IsOwn doc) where
       ap
       (λ n. elim (n == 0) [ true ↦ for_each (evict doc k q) (pod_keys h) h | false ↦ for_each (evict_within doc k q) (dues doc q (pod_keys h) h) h ])
       (ap (λ r. r.evict_burst) own.rules)
+
+module _ (doc : Doc) (own : SettlesAtOnce doc) where
+  pub has_settled-own : (k : ℕ) (q : Identity) (h : List Entry) → has_settled doc k q h ≡ true
+  has_settled-own k q h = ap (λ n. (n == 0) || nat_le (local doc q.process (led_at q h) + of_millis n) (local doc q.process k)) own
 
 module _ (doc : Doc) (own : ElectsByOwn doc) where
   -- ---- retries

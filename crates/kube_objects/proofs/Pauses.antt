@@ -7,7 +7,7 @@ use Rattle.kube_objects.specs.declared.script.What.TheVariants as what
 use Rattle.kube_objects.specs.Clocks.{local}
 use Rattle.kube_objects.specs.Document.{Doc, end_beat}
 use Rattle.kube_objects.specs.Newest.{when, has, or_else}
-use Rattle.kube_objects.specs.Pauses.{pause_of, end_of, last_pause, pause_end, is_paused, resume, held_up, is_ahead, wait_of, last_wait, reading_of, can_at, IsNoPause, AreUnpaused}
+use Rattle.kube_objects.specs.Pauses.{pause_of, end_of, last_end, last_pause, pause_end, is_paused, resume, held_up, is_ahead, wait_of, last_wait, reading_of, can_at, IsNoPause, AreUnpaused}
 use Rattle.kube_objects.proofs.Clocks.{local_up}
 
 -- the last pause's end, else that of an earlier one
@@ -38,13 +38,16 @@ end_later k from (Some beats) at is = by_tests (nat_le from k) (nat_lt k (from +
     by_tests true false before is = absurd (none_is at is)
     by_tests false b before is = absurd (none_is at is)
 
-pub pause_later : (p k : ℕ) (es : List Event) (at : ℕ) → last_pause p k es ≡ Some at → k < at
-pause_later p k [] at is = absurd (none_is at is)
-pause_later p k (e ∷ es) at is = cases (pause_later p k es at) (last_pause p k es) refl is
+pub last_later : (lasts : What → Option ℕ) (k : ℕ) (es : List Event) (at : ℕ) → last_end lasts k es ≡ Some at → k < at
+last_later lasts k [] at is = absurd (none_is at is)
+last_later lasts k (e ∷ es) at is = cases (last_later lasts k es at) (last_end lasts k es) refl is
   where
-    cases : (last_pause p k es ≡ Some at → k < at) → (o : Option ℕ) → last_pause p k es ≡ o → or_earlier o (end_of k e.beat.0 (pause_of p e.what)) ≡ Some at → k < at
-    cases rest None none is = end_later k e.beat.0 (pause_of p e.what) at is
+    cases : (last_end lasts k es ≡ Some at → k < at) → (o : Option ℕ) → last_end lasts k es ≡ o → or_earlier o (end_of k e.beat.0 (lasts e.what)) ≡ Some at → k < at
+    cases rest None none is = end_later k e.beat.0 (lasts e.what) at is
     cases rest (Some m) some is = rest (some ∙ is)
+
+pub pause_later : (p k : ℕ) (es : List Event) (at : ℕ) → last_pause p k es ≡ Some at → k < at
+pause_later p k es at is = last_later (pause_of p) k es at is
 
 pub resume_later : (doc : Doc) (p k : ℕ) → k ≤ resume doc p k
 resume_later doc p k = cases (pause_end doc p k) refl

@@ -1,5 +1,5 @@
--- A document that goes by the project's own rules but for those of elections, as every document that is read does; and one that elects by them
--- too, as every one of versions 1 to 3 does. Source: profile.
+-- A document that goes by the project's own rules in all that nothing runs yet, as every one of versions 1 to 3 does; and one that goes by
+-- them in its elections too, or in a term's first sync. Source: profile.
 use Rattle.std.specs.Prelude.{◌≡◌, List, [], ◌∷◌, None}
 use Rattle.kube_objects.specs.declared.rules.Rules.{Rules}
 use Rattle.kube_objects.specs.declared.rules.RetryRule.TheVariants as retries
@@ -14,16 +14,19 @@ abbrev pub AreUnstalled : List Event → Type 0
 AreUnstalled [] = Unit {0}
 AreUnstalled (e ∷ es) = (stall_of e.what ≡ None) × AreUnstalled es
 
--- the own rules, but for those of elections
-abbrev pub own_but_elections : Rules → Rules
-own_but_elections rules = record own_rules { retries = rules.retries; respect = rules.respect }
+-- the own rules, but for those that run: the ones of elections, and how long a term waits with its first sync
+abbrev pub own_but_built : Rules → Rules
+own_but_built rules = record own_rules { retries = rules.retries; respect = rules.respect; first_sync_millis = rules.first_sync_millis }
 
 pub record IsOwn (doc : Doc) : Type 0 where
-  pub rules : doc.settings.rules ≡ own_but_elections doc.settings.rules
-  pub unstalled : AreUnstalled doc.events
+  pub rules : doc.settings.rules ≡ own_but_built doc.settings.rules
 
 -- when failed attempts are made again, and whose lease duration is respected
 pub record ElectsByOwn (doc : Doc) : Type 0 where
   pub retries : doc.settings.rules.retries ≡ retries.After
   pub waits : doc.waits ≡ own_waits_each doc.controllers
   pub respect : doc.settings.rules.respect ≡ respects.Record
+
+-- no term waits with its first sync
+abbrev pub SettlesAtOnce : Doc → Type 0
+SettlesAtOnce doc = doc.settings.rules.first_sync_millis ≡ 0

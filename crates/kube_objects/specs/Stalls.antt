@@ -1,12 +1,12 @@
 -- Stalls: the beats at which the store stands still. What is sent to it waits, and leaders don't tick. They are read from the document
 -- alone, as pauses are. Source: etcd on a slow disk; profile.
-use Rattle.std.specs.Prelude.{ℕ, Bool, List, [], ◌∷◌, Option, Some, None}
+use Rattle.std.specs.Prelude.{ℕ, Bool, List, Option, Some, None}
 use Rattle.kube_objects.specs.declared.script.Event.{Event}
 use Rattle.kube_objects.specs.declared.script.What.{What}
 use Rattle.kube_objects.specs.declared.script.What.TheVariants.{Stall}
 use Rattle.kube_objects.specs.Document.{Doc}
 use Rattle.kube_objects.specs.Newest.{has, or_else}
-use Rattle.kube_objects.specs.Pauses.{end_of}
+use Rattle.kube_objects.specs.Pauses.{last_end}
 
 -- for how many beats an event stops the store
 abbrev pub stall_of : What → Option ℕ
@@ -14,8 +14,7 @@ stall_of (Stall beats) = Some beats
 stall_of _ = None
 
 abbrev pub last_stall : ℕ → List Event → Option ℕ
-last_stall k [] = None
-last_stall k (e ∷ es) = elim (last_stall k es) [ None ↦ end_of k e.beat.0 (stall_of e.what) | Some at ↦ Some at ]
+last_stall k es = last_end stall_of k es
 
 -- the beat at which the stall is over in which beat k lies
 abbrev pub stall_end : Doc → ℕ → Option ℕ

@@ -1,6 +1,6 @@
 -- One tick of a controller that acts as the leader: what it adds to the history, step by step.
 -- Source: the node lifecycle controller of Kubernetes and its taint eviction controller; the order of the steps is the profile's.
-use Rattle.std.specs.Prelude.{ℕ, ◌+◌, ◌-◌, ◌*◌, ◌==◌, ◌&&◌, ◌||◌, if◌then◌else◌, not, nat_le, Bool, true, false}
+use Rattle.std.specs.Prelude.{ℕ, ◌+◌, ◌-◌, ◌*◌, ◌==◌, ◌&&◌, ◌||◌, if◌then◌else◌, not, nat_le, Bool, true, false, cond}
 use Rattle.std.specs.Prelude.{List, [], ◌∷◌, ◌++◌, map, filter, Option, Some, None}
 use Rattle.std.specs.List.{list_any}
 use Rattle.kube_base.specs.declared.numbers.Version.{Version}
@@ -54,6 +54,12 @@ abbrev pub has_settled : Doc → ℕ → Identity → List Entry → Bool
 has_settled doc k q h =
     (doc.settings.rules.first_sync_millis == 0)
     || nat_le (local doc q.process (led_at q h) + of_millis doc.settings.rules.first_sync_millis) (local doc q.process k)
+
+-- the reading from which it has, where that takes time
+abbrev pub settles_at : Doc → Identity → List Entry → Option ℕ
+settles_at doc q h =
+    cond (doc.settings.rules.first_sync_millis == 0) None
+    (Some (local doc q.process (led_at q h) + of_millis doc.settings.rules.first_sync_millis))
 
 -- where the watch is on and the cache isn't up to date
 abbrev pub sync : Doc → ℕ → Identity → List Entry → List Entry

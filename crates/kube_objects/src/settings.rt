@@ -39,6 +39,8 @@ pub struct Settings {
 /// The settings of a controller's tick. Rates are in nodes per 1,000 s.
 #[derive(Clone, Copy)]
 pub struct TickSettings {
+    /// How long after its lead a term waits with its first sync.
+    pub first_sync_millis: u32,
     pub monitor_period_millis: u32,
     pub grace_period_millis: u32,
     pub startup_grace_millis: u32,

@@ -4,3 +4,4 @@ pub mod Parts
 pub mod Steps
 pub mod KeptLaws
 pub mod Doubling
+pub mod Stops

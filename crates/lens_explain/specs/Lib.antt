@@ -5,5 +5,7 @@ pub mod Marks
 pub mod Keys
 pub mod Kept
 pub mod Ways
+pub mod Fronts
+pub mod Odd
 pub mod Places
 pub mod Warnings

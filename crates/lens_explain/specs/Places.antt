@@ -1,8 +1,11 @@
 -- Places in a text, as a person counts them.
-use Rattle.std.specs.Prelude.{◌≡◌, ℕ, ◌+◌, ◌==◌, ◌||◌, Bool, true, false, List, ◌++◌, length, take, drop, reverse, position, count_by, codes, decimal}
+use Rattle.std.specs.Prelude.{◌≡◌, ℕ, ◌+◌, ◌==◌, Bool, true, false, List, ◌++◌, length, take, drop, reverse, position, count_by, codes, decimal, IfOk}
 use Rattle.std.specs.Option.{unwrap_or}
 use Rattle.lens_explain.specs.declared.place.Shown.{Shown}
+use Rattle.lens_explain.specs.Fronts.{IsStop}
+use Rattle.lens_explain.specs.Odd.{odd_place}
 use Rattle.lens_explain.specs.Ways.{led}
+use Rattle.script_reader.specs.Walk.{data_of}
 
 -- the line in which these bytes end: how many line feeds they have, and one more
 abbrev pub line_of : List ℕ → ℕ
@@ -21,15 +24,17 @@ abbrev pub IsShown : List ℕ → ℕ → Shown → Type 0
 IsShown input place s =
     (s.line ≡ line_of (take place input)) × (s.column ≡ column_of (take place input)) × ((rest : List ℕ) × (s.text.now ++ rest ≡ drop place input))
 
--- ---- the place of a refusal: where its path leads. Of an input that isn't JSON (1) it is where the reader stops, and of a key that isn't known (3)
--- that of the key: no more is said of these two
+-- ---- the place of a refusal
 
-abbrev pub IsPlaceBy : Bool → List ℕ → List ℕ → ℕ → Type 0
-IsPlaceBy true input path place = Unit {0}
-IsPlaceBy false input path place = place ≡ (led path input).place
+-- of an input that isn't JSON (1) it is where that stops to be JSON; of a key that isn't known (3) that of the first one of the object at the path that
+-- isn't known there; else it is where the path leads
+abbrev pub IsPlaceBy : Bool → Bool → List ℕ → List ℕ → ℕ → Type 0
+IsPlaceBy true is_key input path place = IsStop input place
+IsPlaceBy false true input path place = IfOk (data_of input) (λ d. place ≡ odd_place d input path)
+IsPlaceBy false false input path place = place ≡ (led path input).place
 
 abbrev pub IsPlace : List ℕ → ℕ → List ℕ → ℕ → Type 0
-IsPlace input code path place = IsPlaceBy (code == 1 || code == 3) input path place
+IsPlace input code path place = IsPlaceBy (code == 1) (code == 3) input path place
 
 -- this is shown of a refusal
 abbrev pub IsShownOf : List ℕ → ℕ → List ℕ → Shown → Type 0

@@ -1,35 +1,4 @@
-// Where a text stops to be JSON, and why it may.
-
-use kube_base::NoMemory;
-use serde_json::Value;
-use std::alloc::Global;
-
-/// Where the reader stops in a text that is no JSON. It counts lines and columns, of which this makes a number of bytes.
-pub(crate) fn stop_of(alloc: Global, input: &[u8]) -> Result<usize, NoMemory> {
-    match Value::from_slice(alloc, input) {
-        Ok(_) => Ok(0),
-        Err(error) => {
-            if error.is_memory() {
-                Err(NoMemory)
-            } else {
-                Ok(place_of(input, error.line(), error.column()))
-            }
-        }
-    }
-}
-
-/// How many bytes stand before a line and column, both counted from 1.
-fn place_of(input: &[u8], line: usize, column: usize) -> usize {
-    let mut begin = 0_usize;
-    let mut here = 1_usize;
-    for (place, byte) in input.iter().enumerate() {
-        if here < line && *byte == b'\n' {
-            here = here.saturating_add(1);
-            begin = place.saturating_add(1);
-        }
-    }
-    begin.saturating_add(column.saturating_sub(1))
-}
+// Why a text may stop to be JSON.
 
 /// What may be wrong in a text that stops to be JSON at this place.
 pub(crate) fn hint(input: &[u8], place: usize) -> &'static str {

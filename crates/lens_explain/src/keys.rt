@@ -4,7 +4,6 @@ ghost use Rattle.lens_explain.specs.Keys as spec;
 ghost use Rattle.lens_explain.specs.Keys.{key_at, opened};
 ghost use Rattle.lens_explain.specs.Marks.{mark_of, scanned, unscanned};
 
-use crate::place::cut_at;
 use crate::scan::{Mark, Scan, Span};
 use kube_base::NoMemory;
 use std::alloc::Global;
@@ -77,26 +76,6 @@ fn key_in<'t>(input: &'t [u8], span: Span, owner: Option<&usize>) -> Option<Key<
     }
 }
 
-/// The first key of the object at this place that isn't among these: the place of its first quote, and its text.
-pub(crate) fn key_beside<'t>(
-    alloc: Global,
-    input: &'t [u8],
-    place: usize,
-    known: &[&str],
-) -> Result<Option<Key<'t>>, NoMemory> {
-    let (_, rest) = cut_at(input, place);
-    let mut keys = Keys::new(alloc);
-    for (behind, byte) in rest.iter().enumerate() {
-        if let Some(key) = keys.key_at(input, place.saturating_add(behind), *byte)?
-            && key.owner == place
-            && !is_among(key.text, known)
-        {
-            return Ok(Some(key));
-        }
-    }
-    Ok(None)
-}
-
 /// How many objects and arrays are open behind a mark.
 pub(crate) fn depth_behind(depth: usize, mark: Mark) -> usize {
     match mark {
@@ -104,13 +83,4 @@ pub(crate) fn depth_behind(depth: usize, mark: Mark) -> usize {
         Mark::Close => depth.saturating_sub(1),
         Mark::Within | Mark::Plain | Mark::Comma | Mark::Colon => depth,
     }
-}
-
-fn is_among(text: &[u8], known: &[&str]) -> bool {
-    for key in known {
-        if key.as_bytes() == text {
-            return true;
-        }
-    }
-    false
 }

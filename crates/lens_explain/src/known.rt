@@ -1,4 +1,12 @@
 // The keys of a document and what each may be. The source is docs/document.md.
+ghost use Rattle.std.specs.Prelude.{◌≡◌, ℕ, false, List};
+ghost use Rattle.std.specs.List.{list_any};
+ghost use Rattle.std.specs.Str.{bytes_eq};
+ghost use Rattle.script_reader.specs.Tables.{is_controller_key, is_key_of, is_settings_key, is_top_key};
+ghost use Rattle.script_reader.specs.declared.table.Table.TheVariants.{Event};
+ghost use Rattle.script_reader.specs.declared.table.Version.TheVariants.{One, Two, Three};
+
+use script_reader::table::{EventType, Table, Version};
 
 /// A key, and what may stand at it.
 #[derive(Clone, Copy)]
@@ -7,163 +15,122 @@ struct Rule {
     allowed: &'static str,
 }
 
-/// The keys of a sort of objects, those of version 1 first, then those of versions 2 and 3.
-#[derive(Clone, Copy)]
-struct Table {
-    /// The first key of the object's path.
-    part: &'static str,
-    /// The type of an event.
-    kind: &'static str,
-    keys: &'static [&'static str],
-    /// How many of the keys version 1 has.
-    first: usize,
-    /// How many of them versions 2 and 3 have.
-    second: usize,
-}
-
-const TOP: [&str; 6] = [
+const TOP: [&str; 7] = [
     "version",
     "settings",
     "controllers",
     "kubelets",
     "objects",
     "events",
+    "podSets",
 ];
+
+/// How many of them versions 1 to 3 have.
+const FIRST_OF_TOP: usize = 6;
+
+const SETTINGS: [&str; 34] = [
+    "beatMillis",
+    "endBeat",
+    "epoch",
+    "leaseDurationSeconds",
+    "renewDeadlineMillis",
+    "retryPeriodMillis",
+    "callTimeoutMillis",
+    "restartMillis",
+    "monitorPeriodMillis",
+    "gracePeriodMillis",
+    "startupGraceMillis",
+    "nodeLeaseDurationSeconds",
+    "primaryRate",
+    "secondaryRate",
+    "largeZone",
+    "unhealthyPercent",
+    "fastRenew",
+    "ratePolicy",
+    "rules",
+    "retries",
+    "respect",
+    "firstSyncMillis",
+    "probe",
+    "judge",
+    "firstSight",
+    "queue",
+    "bucket",
+    "evictFrom",
+    "evictBurst",
+    "evictRate",
+    "release",
+    "inRelease",
+    "readyMillis",
+    "readyBurst",
+];
+
+/// How many of them versions 2 and 3 have.
+const SECOND_SETTINGS: usize = 18;
+
+/// How many of them version 1 has.
+const FIRST_SETTINGS: usize = 17;
+
+/// The keys of version 4 that nothing runs yet.
+const UNBUILT: [&str; 12] = [
+    "probe",
+    "judge",
+    "firstSight",
+    "queue",
+    "bucket",
+    "evictFrom",
+    "evictBurst",
+    "evictRate",
+    "release",
+    "inRelease",
+    "readyMillis",
+    "readyBurst",
+];
+
+const CONTROLLER: [&str; 10] = [
+    "name",
+    "ratePpm",
+    "offsetMillis",
+    "up",
+    "watch",
+    "leaseDurationSeconds",
+    "renewDeadlineMillis",
+    "retryPeriodMillis",
+    "callTimeoutMillis",
+    "waits",
+];
+
+/// How many of them versions 2 and 3 have.
+const SECOND_OF_CONTROLLER: usize = 9;
+
+/// How many of them version 1 has.
+const FIRST_OF_CONTROLLER: usize = 5;
+
+const KUBELET: [&str; 5] = ["node", "ratePpm", "offsetMillis", "up", "ready"];
+
+const POD_SET: [&str; 4] = ["namespace", "name", "tolerations", "on"];
+
+const SHARE: [&str; 2] = ["node", "pods"];
 
 const PROCESS: [&str; 3] = ["beat", "type", "process"];
 
-const TABLES: [Table; 12] = [
-    Table {
-        part: "settings",
-        kind: "",
-        keys: &[
-            "beatMillis",
-            "endBeat",
-            "epoch",
-            "leaseDurationSeconds",
-            "renewDeadlineMillis",
-            "retryPeriodMillis",
-            "callTimeoutMillis",
-            "restartMillis",
-            "monitorPeriodMillis",
-            "gracePeriodMillis",
-            "startupGraceMillis",
-            "nodeLeaseDurationSeconds",
-            "primaryRate",
-            "secondaryRate",
-            "largeZone",
-            "unhealthyPercent",
-            "fastRenew",
-            "ratePolicy",
-            "rules",
-            "retries",
-            "respect",
-            "firstSyncMillis",
-            "probe",
-            "judge",
-            "firstSight",
-            "queue",
-            "bucket",
-            "evictFrom",
-            "evictBurst",
-            "evictRate",
-            "release",
-            "inRelease",
-            "readyMillis",
-            "readyBurst",
-        ],
-        first: 17,
-        second: 18,
-    },
-    Table {
-        part: "controllers",
-        kind: "",
-        keys: &[
-            "name",
-            "ratePpm",
-            "offsetMillis",
-            "up",
-            "watch",
-            "leaseDurationSeconds",
-            "renewDeadlineMillis",
-            "retryPeriodMillis",
-            "callTimeoutMillis",
-            "waits",
-        ],
-        first: 5,
-        second: 9,
-    },
-    Table {
-        part: "kubelets",
-        kind: "",
-        keys: &["node", "ratePpm", "offsetMillis", "up", "ready"],
-        first: 5,
-        second: 5,
-    },
-    Table {
-        part: "events",
-        kind: "rate",
-        keys: &["beat", "type", "process", "ratePpm"],
-        first: 4,
-        second: 4,
-    },
-    Table {
-        part: "events",
-        kind: "delay",
-        keys: &["beat", "type", "process", "requestBeats", "replyBeats"],
-        first: 5,
-        second: 5,
-    },
-    Table {
-        part: "events",
-        kind: "loss",
-        keys: &["beat", "type", "process", "requests", "replies"],
-        first: 5,
-        second: 5,
-    },
-    Table {
-        part: "events",
-        kind: "watch",
-        keys: &["beat", "type", "process", "on"],
-        first: 4,
-        second: 4,
-    },
-    Table {
-        part: "events",
-        kind: "ready",
-        keys: &["beat", "type", "process", "status"],
-        first: 4,
-        second: 4,
-    },
-    Table {
-        part: "events",
-        kind: "pause",
-        keys: &["beat", "type", "process", "beats"],
-        first: 4,
-        second: 4,
-    },
-    Table {
-        part: "events",
-        kind: "stall",
-        keys: &["beat", "type", "beats"],
-        first: 3,
-        second: 3,
-    },
-    Table {
-        part: "events",
-        kind: "put",
-        keys: &["beat", "type", "object"],
-        first: 3,
-        second: 3,
-    },
-    Table {
-        part: "events",
-        kind: "remove",
-        keys: &["beat", "type", "kind", "namespace", "name"],
-        first: 5,
-        second: 5,
-    },
-];
+const RATE: [&str; 4] = ["beat", "type", "process", "ratePpm"];
+
+const DELAY: [&str; 5] = ["beat", "type", "process", "requestBeats", "replyBeats"];
+
+const LOSS: [&str; 5] = ["beat", "type", "process", "requests", "replies"];
+
+const WATCH: [&str; 4] = ["beat", "type", "process", "on"];
+
+const READY: [&str; 4] = ["beat", "type", "process", "status"];
+
+const PAUSE: [&str; 4] = ["beat", "type", "process", "beats"];
+
+const STALL: [&str; 3] = ["beat", "type", "beats"];
+
+const PUT: [&str; 3] = ["beat", "type", "object"];
+
+const REMOVE: [&str; 5] = ["beat", "type", "kind", "namespace", "name"];
 
 const RULES: [Rule; 36] = [
     Rule {
@@ -180,7 +147,7 @@ const RULES: [Rule; 36] = [
     },
     Rule {
         key: "kubelets",
-        allowed: "an array of at most 1000 objects, each with a node",
+        allowed: "an array of at most 1000 objects, in version 4 15000, each with a node",
     },
     Rule {
         key: "objects",
@@ -188,7 +155,7 @@ const RULES: [Rule; 36] = [
     },
     Rule {
         key: "events",
-        allowed: "an array of at most 100000 objects, each with beat and type",
+        allowed: "an array of at most 100000 objects, in version 4 1000000, each with beat and type",
     },
     Rule {
         key: "beatMillis",
@@ -296,7 +263,7 @@ const RULES: [Rule; 36] = [
     },
     Rule {
         key: "type",
-        allowed: "one of crash, start, stop, rate, delay, loss, put, remove, watch, ready, and from version 3 on pause",
+        allowed: "one of crash, start, stop, rate, delay, loss, put, remove, watch, ready, from version 3 on pause, and from version 4 on stall",
     },
     Rule {
         key: "process",
@@ -343,7 +310,7 @@ const EVENT_RULES: [Rule; 7] = [
     },
 ];
 
-const LATER_RULES: [Rule; 17] = [
+const LATER_RULES: [Rule; 18] = [
     Rule {
         key: "rules",
         allowed: "\"own\"; \"1.20\" and \"1.36\" are known, but not built yet",
@@ -409,8 +376,35 @@ const LATER_RULES: [Rule; 17] = [
         allowed: "a whole number from 0 to 30000",
     },
     Rule {
+        key: "podSets",
+        allowed: "an array of at most 100000 objects, each with a name and on",
+    },
+    Rule {
         key: "waits",
         allowed: "an array of 1 to 1000 whole numbers from 1000 to 2200",
+    },
+];
+
+const SET_RULES: [Rule; 5] = [
+    Rule {
+        key: "namespace",
+        allowed: "a name of lower-case letters, digits, - and ., as \"default\"",
+    },
+    Rule {
+        key: "name",
+        allowed: "a name of lower-case letters, digits, - and ., as \"web\", of at most 242 bytes",
+    },
+    Rule {
+        key: "on",
+        allowed: "an array of 1 to 15000 objects, each with node and pods",
+    },
+    Rule {
+        key: "node",
+        allowed: "a name of lower-case letters, digits, - and ., as \"worker-1\"",
+    },
+    Rule {
+        key: "pods",
+        allowed: "a whole number from 1 to 100000",
     },
 ];
 
@@ -425,6 +419,16 @@ pub(crate) fn allowed_at(key: &[u8]) -> Option<&'static str> {
     }
 }
 
+/// What may stand at a key of a set of pods.
+pub(crate) fn allowed_in_set(key: &[u8]) -> Option<&'static str> {
+    find(&SET_RULES, key)
+}
+
+/// Whether nothing runs a document with this key yet.
+pub(crate) fn is_unbuilt(key: &[u8]) -> bool {
+    UNBUILT.iter().any(|other| other.as_bytes() == key)
+}
+
 fn find(rules: &[Rule], key: &[u8]) -> Option<&'static str> {
     for rule in rules {
         if rule.key.as_bytes() == key {
@@ -434,45 +438,112 @@ fn find(rules: &[Rule], key: &[u8]) -> Option<&'static str> {
     None
 }
 
-/// The keys of an object of a document of the latest version, by the first key of its path; those of an event by its type.
-pub(crate) fn keys_in(part: &[u8], kind: &[u8]) -> &'static [&'static str] {
-    for table in &TABLES {
-        if is_of(table, part, kind) {
-            return table.keys;
-        }
+/// Whether an object of a document has this key.
+pub(crate) fn is_known(table: Table, key: &[u8]) -> bool
+    ensures { result ≡ is_key_of table key.now }
+{
+    is_among(key, keys_in(table))
+}
+
+fn is_among(key: &[u8], keys: &[&str]) -> bool
+    ensures { result ≡ list_any (λ known. bytes_eq key.now known.now) keys.now }
+{
+    keys.iter().any(|known| key == known.as_bytes())
+}
+
+/// The keys of an object of a document.
+pub(crate) fn keys_in(table: Table) -> &'static [&'static str]
+    ensures { (key : List ℕ) → list_any (λ known. bytes_eq key known.now) result.now ≡ is_key_of table key }
+{
+    match table {
+        Table::Top(true) => &TOP,
+        Table::Top(false) => top_without_sets(),
+        Table::Settings(version) => settings_keys(version),
+        Table::Controller(version) => controller_keys(version),
+        Table::Kubelet => &KUBELET,
+        Table::PodSet => &POD_SET,
+        Table::Share => &SHARE,
+        Table::Event(kind) => event_keys(kind),
     }
-    other_keys(part)
 }
 
-/// The same of versions 2 and 3.
-pub(crate) fn second_keys_in(part: &[u8], kind: &[u8]) -> &'static [&'static str] {
-    for table in &TABLES {
-        if is_of(table, part, kind) {
-            return table.keys.get(..table.second).unwrap_or(table.keys);
-        }
+/// Those of versions 1 to 3.
+fn top_without_sets() -> &'static [&'static str]
+    ensures { (key : List ℕ) → list_any (λ known. bytes_eq key known.now) result.now ≡ is_top_key false key }
+{
+    let (first, _) = TOP.split_at(FIRST_OF_TOP);
+    first
+}
+
+fn settings_keys(version: Version) -> &'static [&'static str]
+    ensures { (key : List ℕ) → list_any (λ known. bytes_eq key known.now) result.now ≡ is_settings_key version key }
+{
+    match version {
+        Version::One => first_settings(),
+        Version::Two => second_settings(),
+        Version::Three => second_settings(),
+        Version::Four => &SETTINGS,
     }
-    other_keys(part)
 }
 
-/// The same of version 1.
-pub(crate) fn first_keys_in(part: &[u8], kind: &[u8]) -> &'static [&'static str] {
-    for table in &TABLES {
-        if is_of(table, part, kind) {
-            return table.keys.get(..table.first).unwrap_or(table.keys);
-        }
+/// Those of version 1.
+fn first_settings() -> &'static [&'static str]
+    ensures { (key : List ℕ) → list_any (λ known. bytes_eq key known.now) result.now ≡ is_settings_key One key }
+{
+    let (first, _) = SETTINGS.split_at(FIRST_SETTINGS);
+    first
+}
+
+/// Those of versions 2 and 3.
+fn second_settings() -> &'static [&'static str]
+    ensures two { (key : List ℕ) → list_any (λ known. bytes_eq key known.now) result.now ≡ is_settings_key Two key }
+    ensures three { (key : List ℕ) → list_any (λ known. bytes_eq key known.now) result.now ≡ is_settings_key Three key }
+{
+    let (first, _) = SETTINGS.split_at(SECOND_SETTINGS);
+    first
+}
+
+fn controller_keys(version: Version) -> &'static [&'static str]
+    ensures { (key : List ℕ) → list_any (λ known. bytes_eq key known.now) result.now ≡ is_controller_key version key }
+{
+    match version {
+        Version::One => first_of_controller(),
+        Version::Two => second_of_controller(),
+        Version::Three => second_of_controller(),
+        Version::Four => &CONTROLLER,
     }
-    other_keys(part)
 }
 
-fn is_of(table: &Table, part: &[u8], kind: &[u8]) -> bool {
-    table.part.as_bytes() == part && (table.kind.is_empty() || table.kind.as_bytes() == kind)
+/// Those of version 1.
+fn first_of_controller() -> &'static [&'static str]
+    ensures { (key : List ℕ) → list_any (λ known. bytes_eq key known.now) result.now ≡ is_controller_key One key }
+{
+    let (first, _) = CONTROLLER.split_at(FIRST_OF_CONTROLLER);
+    first
 }
 
-/// The keys of the document itself, and of the events that have a process alone.
-fn other_keys(part: &[u8]) -> &'static [&'static str] {
-    if part == "events".as_bytes() {
-        &PROCESS
-    } else {
-        &TOP
+/// Those of versions 2 and 3.
+fn second_of_controller() -> &'static [&'static str]
+    ensures two { (key : List ℕ) → list_any (λ known. bytes_eq key known.now) result.now ≡ is_controller_key Two key }
+    ensures three { (key : List ℕ) → list_any (λ known. bytes_eq key known.now) result.now ≡ is_controller_key Three key }
+{
+    let (first, _) = CONTROLLER.split_at(SECOND_OF_CONTROLLER);
+    first
+}
+
+fn event_keys(kind: EventType) -> &'static [&'static str]
+    ensures { (key : List ℕ) → list_any (λ known. bytes_eq key known.now) result.now ≡ is_key_of (Event kind) key }
+{
+    match kind {
+        EventType::Crash | EventType::Start | EventType::Stop => &PROCESS,
+        EventType::Rate => &RATE,
+        EventType::Delay => &DELAY,
+        EventType::Loss => &LOSS,
+        EventType::Watch => &WATCH,
+        EventType::Ready => &READY,
+        EventType::Pause => &PAUSE,
+        EventType::Stall => &STALL,
+        EventType::Put => &PUT,
+        EventType::Remove => &REMOVE,
     }
 }

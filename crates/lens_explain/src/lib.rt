@@ -5,11 +5,13 @@
 mod broken;
 mod digits;
 mod explaining;
+mod front;
 mod keys;
 mod known;
 mod lines;
 mod nearest;
 mod object;
+mod odd;
 mod place;
 mod places;
 mod rules;
@@ -17,6 +19,7 @@ mod saying;
 mod scan;
 mod sentence;
 mod slips;
+mod stop;
 mod twice;
 mod walk;
 

@@ -24,7 +24,7 @@ pub(crate) fn add_rule(
     if path.starts_with(b"/events/") {
         return add(
             text,
-            b"A pause begins only after a beat at which no earlier pause of its process lasts.\n",
+            b"A pause begins only after a beat at which no earlier pause of its process lasts, and a stall only after one at which no earlier stall does.\n",
         );
     }
     let standard = Timings {

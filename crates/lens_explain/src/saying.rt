@@ -2,15 +2,17 @@
 ghost use Rattle.std.specs.Prelude.{IfOk};
 ghost use Rattle.lens_explain.specs.Places.{IsPlace, IsShownOf};
 
-use crate::broken::{hint, stop_of};
-use crate::keys::{Key, key_beside};
-use crate::known::{allowed_at, first_keys_in, keys_in, second_keys_in};
+use crate::broken::hint;
+use crate::known::{allowed_at, allowed_in_set, is_known, is_unbuilt, keys_in};
 use crate::nearest::nearest;
+use crate::odd::{Odd, odd_spot};
 use crate::place::{Shown, shown_at};
 use crate::rules::{add_order, add_rule};
 use crate::sentence::sentence;
-use crate::walk::{follow, last_step, step_at, text_at};
+use crate::stop::stop_of;
+use crate::walk::{follow, last_step};
 use kube_base::NoMemory;
+use script_reader::table::{Table, Version};
 use std::alloc::Global;
 use trace_writer::add;
 
@@ -29,11 +31,11 @@ pub(crate) struct Reason<'t> {
     pub more: Vec<u8>,
 }
 
-/// A place of the input, and the text of the key that isn't known there.
+/// A place of the input.
 #[derive(Clone, Copy)]
 struct Spot<'t> {
     pub place: usize,
-    pub odd: Option<&'t [u8]>,
+    pub odd: Option<Odd<'t>>,
 }
 
 /// What is said about the refusal of an input by this code and path.
@@ -63,7 +65,13 @@ fn spot_of<'t>(alloc: Global, input: &'t [u8], code: u32, path: &[u8]) -> Result
             let place = stop_of(alloc, input)?;
             Ok(Spot { place, odd: None })
         }
-        UNKNOWN_KEY => odd_spot(alloc, input, path),
+        UNKNOWN_KEY => {
+            let odd = odd_spot(alloc, input, path)?;
+            Ok(Spot {
+                place: odd.place,
+                odd: Some(odd),
+            })
+        }
         _ => {
             let found = follow(alloc, input, path)?;
             Ok(Spot {
@@ -72,54 +80,6 @@ fn spot_of<'t>(alloc: Global, input: &'t [u8], code: u32, path: &[u8]) -> Result
             })
         }
     }
-}
-
-/// The place of the first key of the object at a path that isn't known there, or of that object.
-fn odd_spot<'t>(alloc: Global, input: &'t [u8], path: &[u8]) -> Result<Spot<'t>, NoMemory> {
-    let found = follow(alloc, input, path)?;
-    match odd_key(alloc, input, path, found.place)? {
-        Some(key) => Ok(Spot {
-            place: key.place,
-            odd: Some(key.text),
-        }),
-        None => Ok(Spot {
-            place: found.place,
-            odd: None,
-        }),
-    }
-}
-
-/// The first key of the object at this place that no version knows there, or else that version 3 doesn't, or else that version 1 doesn't.
-fn odd_key<'t>(
-    alloc: Global,
-    input: &'t [u8],
-    path: &[u8],
-    place: usize,
-) -> Result<Option<Key<'t>>, NoMemory> {
-    let kind = kind_at(alloc, input, path)?;
-    let part = part_of(path);
-    match key_beside(alloc, input, place, keys_in(part, kind))? {
-        Some(key) => Ok(Some(key)),
-        None => match key_beside(alloc, input, place, second_keys_in(part, kind))? {
-            Some(key) => Ok(Some(key)),
-            None => key_beside(alloc, input, place, first_keys_in(part, kind)),
-        },
-    }
-}
-
-/// The type of the event at a path.
-fn kind_at<'t>(alloc: Global, input: &'t [u8], path: &[u8]) -> Result<&'t [u8], NoMemory> {
-    let mut below = Vec::from_slice(alloc, path)?;
-    below.extend_from_slice(b"/type")?;
-    match text_at(alloc, input, &below)? {
-        Some(kind) => Ok(kind),
-        None => Ok(b""),
-    }
-}
-
-/// The first key of a path.
-fn part_of(path: &[u8]) -> &[u8] {
-    step_at(path, 1)
 }
 
 /// The lines behind that of the place.
@@ -135,7 +95,7 @@ fn said(
     add(&mut text, b"\n")?;
     match code {
         1 => add(&mut text, hint(input, spot.place).as_bytes())?,
-        3 => add_key(alloc, &mut text, input, path, spot.odd)?,
+        3 => add_key(alloc, &mut text, path, spot.odd)?,
         4..=6 => add_allowed(&mut text, path)?,
         7 => add_rule(alloc, &mut text, input, path)?,
         9 => add_order(alloc, &mut text, input, path)?,
@@ -148,11 +108,13 @@ fn said(
 fn add_key(
     alloc: Global,
     text: &mut Vec<u8>,
-    input: &[u8],
     path: &[u8],
-    odd: Option<&[u8]>,
+    odd: Option<Odd<'_>>,
 ) -> Result<(), NoMemory> {
-    let Some(key) = odd else {
+    let Some(odd) = odd else {
+        return Ok(());
+    };
+    let Some(key) = odd.key else {
         return Ok(());
     };
     if path == "/".as_bytes() && is_of_manifest(key) {
@@ -161,11 +123,13 @@ fn add_key(
             b"This looks like what kubectl get -o json writes: tools/from-cluster makes a document of a list.\n",
         );
     }
-    let kind = kind_at(alloc, input, path)?;
-    let known = keys_in(part_of(path), kind);
+    if is_of_member(odd.table, key) {
+        return add(text, b"It is one of the objects in on.\n");
+    }
+    let known = keys_in(in_version(odd.table, Version::Four));
     match nearest(alloc, key, known)? {
         Some(near) if near.as_bytes() == key => {
-            add_version(text, key, second_keys_in(part_of(path), kind))
+            add_version(text, key, in_version(odd.table, Version::Three))
         }
         Some(near) => {
             add(text, b"The nearest one that is: ")?;
@@ -176,22 +140,38 @@ fn add_key(
     }
 }
 
-/// Adds from which version on a key is known, by those of versions 2 and 3.
-fn add_version(text: &mut Vec<u8>, key: &[u8], second: &[&str]) -> Result<(), NoMemory> {
-    for known in second {
-        if known.as_bytes() == key {
-            return add(
-                text,
-                b"It is one of version 2 and later: write \"version\": 2.\n",
-            );
-        }
+/// Adds from which version on a key is known, by the table of version 3.
+fn add_version(text: &mut Vec<u8>, key: &[u8], third: Table) -> Result<(), NoMemory> {
+    if is_known(third, key) {
+        add(
+            text,
+            b"It is one of version 2 and later: write \"version\": 2.\n",
+        )
+    } else if is_unbuilt(key) {
+        add(text, b"It is one of version 4, and nothing runs it yet.\n")
+    } else {
+        add(text, b"It is one of version 4: write \"version\": 4.\n")
     }
-    add(text, b"It is one of version 4, and nothing runs it yet.\n")
+}
+
+/// The same object in a document of this version.
+fn in_version(table: Table, version: Version) -> Table {
+    match table {
+        Table::Top(_) => Table::Top(matches!(version, Version::Four)),
+        Table::Settings(_) => Table::Settings(version),
+        Table::Controller(_) => Table::Controller(version),
+        Table::Kubelet | Table::PodSet | Table::Share | Table::Event(_) => table,
+    }
 }
 
 /// Whether a key is one that each manifest and each list has.
 fn is_of_manifest(key: &[u8]) -> bool {
     matches!(key, b"apiVersion" | b"kind" | b"metadata" | b"items")
+}
+
+/// Whether a key of a set of pods is one of the members of its `on`.
+fn is_of_member(table: Table, key: &[u8]) -> bool {
+    matches!(table, Table::PodSet) && matches!(key, b"node" | b"pods")
 }
 
 /// Adds which keys are known.
@@ -204,9 +184,18 @@ fn add_known(text: &mut Vec<u8>, known: &[&str]) -> Result<(), NoMemory> {
     add(text, b".\n")
 }
 
+/// What may stand at the key at a path's end.
+fn allowed(path: &[u8]) -> Option<&'static str> {
+    if path.starts_with(b"/podSets/") {
+        allowed_in_set(last_step(path))
+    } else {
+        allowed_at(last_step(path))
+    }
+}
+
 /// Adds what may stand at the key at a path's end.
 fn add_allowed(text: &mut Vec<u8>, path: &[u8]) -> Result<(), NoMemory> {
-    match allowed_at(last_step(path)) {
+    match allowed(path) {
         Some(allowed) if !path.starts_with(b"/objects/") => {
             add(text, last_step(path))?;
             add(text, b" takes ")?;

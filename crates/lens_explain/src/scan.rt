@@ -80,7 +80,7 @@ impl Scan {
     }
 }
 
-fn mark_at(side: Side, byte: u8) -> Mark
+pub(crate) fn mark_at(side: Side, byte: u8) -> Mark
     ensures { result ≡ mark_of side byte }
 {
     match side {
@@ -89,7 +89,7 @@ fn mark_at(side: Side, byte: u8) -> Mark
     }
 }
 
-fn outside_mark(byte: u8) -> Mark
+pub(crate) fn outside_mark(byte: u8) -> Mark
     ensures { result ≡ mark_outside byte }
 {
     match byte {
@@ -104,7 +104,7 @@ fn outside_mark(byte: u8) -> Mark
 }
 
 /// Where the byte behind this one stands.
-fn side_at(side: Side, byte: u8) -> Side
+pub(crate) fn side_at(side: Side, byte: u8) -> Side
     ensures { result ≡ side_behind side byte }
 {
     match (side, byte) {

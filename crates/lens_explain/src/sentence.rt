@@ -49,7 +49,7 @@ fn last_sentence(code: u32) -> &'static str {
             "An event may not put or remove the election Lease kube-system/kube-controller-manager.",
         31 => "The same name, or the same object, stands earlier in the document.",
         32 =>
-            "There are too many here: at most 16 controllers, 1000 kubelets, 100000 events, 1000 Nodes, 2000 Leases, 30000 Pods, and 100 taints or tolerations of each.",
+            "There are too many here: at most 16 controllers, 1000 kubelets, 100000 events, 1000 Nodes, 2000 Leases, 30000 Pods, and 100 taints or tolerations of each. In version 4 at most 15000 kubelets, 1000000 events, 15000 Nodes, 30000 Leases, 450000 Pods, 100000 sets of pods, and 15000 members of a set.",
         33 => "The input has more than 16777216 bytes.",
         34 => "The beat is after the document's end.",
         99 => "It is known, but not built yet: nothing runs a document that has it. Leave it out.",

@@ -73,43 +73,11 @@ pub(crate) fn value_at<'t>(
     }
 }
 
-/// The text at the end of a path, without its quotes.
-pub(crate) fn text_at<'t>(
-    alloc: Global,
-    input: &'t [u8],
-    path: &[u8],
-) -> Result<Option<&'t [u8]>, NoMemory> {
-    match value_at(alloc, input, path)? {
-        Some(value) => Ok(first_text(value)),
-        None => Ok(None),
-    }
-}
-
-/// The text that begins here, without its quotes.
-fn first_text(value: &[u8]) -> Option<&[u8]> {
-    let mut scan = Scan::new();
-    for (place, byte) in value.iter().enumerate() {
-        let _ = scan.mark(place, *byte);
-        if scan.last.until > 0 {
-            return Some(scan.last.of(value));
-        }
-    }
-    None
-}
-
 /// The number at the end of a path.
 pub(crate) fn number_at(alloc: Global, input: &[u8], path: &[u8]) -> Result<Option<u64>, NoMemory> {
     match value_at(alloc, input, path)? {
         Some(value) => Ok(digits_of(value)),
         None => Ok(None),
-    }
-}
-
-/// The key or place of a path that leads out of this level, counted from 1; nothing where there is none.
-pub(crate) fn step_at(path: &[u8], level: usize) -> &[u8] {
-    match path.split(|byte| *byte == b'/').nth(level) {
-        Some(step) => step,
-        None => b"",
     }
 }
 

@@ -52,6 +52,7 @@ pub(crate) fn change_in<'a>(says: &Says<&'a [u8]>) -> Option<(&'a [u8], &'static
         Says::Stop => None,
         Says::End => None,
         Says::Pause(_) => None,
+        Says::Stall(_) => None,
         Says::Lead(_) => None,
         Says::Election(_, _, _) => None,
         Says::NodeLease(_, _, _) => None,

@@ -47,6 +47,7 @@ pub fn eviction_in<'a>(says: &Says<&'a [u8]>) -> Option<(&'a [u8], &'a [u8])>
         Says::Stop => None,
         Says::End => None,
         Says::Pause(_) => None,
+        Says::Stall(_) => None,
         Says::Lead(_) => None,
         Says::Election(_, _, _) => None,
         Says::NodeLease(_, _, _) => None,

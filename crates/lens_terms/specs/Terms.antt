@@ -19,6 +19,7 @@ turn_of says.Stop = Ends Stop
 turn_of says.Crash = Ends Crash
 turn_of says.Start = Keeps
 turn_of (says.Pause beats) = Pauses beats
+turn_of (says.Stall beats) = Keeps
 turn_of (says.Election verb answer transitions) = Keeps
 turn_of (says.NodeLease verb node answer) = Keeps
 turn_of (says.Status node ready answer) = Keeps

@@ -30,6 +30,7 @@ pub(crate) fn turn_of(says: &Says<&[u8]>) -> Turn
         Says::Crash => Turn::Ends(Ending::Crash),
         Says::Start => Turn::Keeps,
         Says::Pause(beats) => Turn::Pauses(*beats),
+        Says::Stall(_) => Turn::Keeps,
         Says::Election(_, _, _) => Turn::Keeps,
         Says::NodeLease(_, _, _) => Turn::Keeps,
         Says::Status(_, _, _) => Turn::Keeps,

@@ -34,6 +34,7 @@ said-clean says.Crash = tt
 said-clean says.Stop = tt
 said-clean says.End = tt
 said-clean (says.Pause beats) = (decimal-clean beats, tt)
+said-clean (says.Stall beats) = (decimal-clean beats, tt)
 said-clean (says.Lead version) = (decimal-clean version, tt)
 said-clean (says.Election verb answer transitions) = (quoted-clean (codes "election"), election-clean answer transitions)
 said-clean (says.NodeLease verb node answer) = (quoted-clean (codes "nodelease"), (quoted-clean node, answer-clean answer))

@@ -25,6 +25,7 @@ ordered beat actor says.Crash = refl
 ordered beat actor says.Stop = refl
 ordered beat actor says.End = refl
 ordered beat actor (says.Pause beats) = refl
+ordered beat actor (says.Stall beats) = refl
 ordered beat actor (says.Lead version) = refl
 ordered beat actor (says.Election Create answer transitions) = each-answer (λ a. IsOrdered beat actor (says.Election Create a transitions)) (λ v. refl) (λ v. refl) refl refl answer
 ordered beat actor (says.Election Update answer transitions) = each-answer (λ a. IsOrdered beat actor (says.Election Update a transitions)) (λ v. refl) (λ v. refl) refl refl answer

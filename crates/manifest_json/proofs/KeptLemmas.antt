@@ -16,6 +16,7 @@ use Rattle.manifest_json.specs.declared.fault.Refusal.{Refusal}
 use Rattle.manifest_json.specs.declared.fault.ReadFault.{ReadFault}
 use Rattle.manifest_json.specs.declared.fault.ReadFault.TheVariants.{Refused, NoMemory}
 use Rattle.manifest_json.specs.declared.kept.Counts.{Counts}
+use Rattle.manifest_json.specs.declared.scale.Scale.{Scale}
 use Rattle.manifest_json.specs.Faults.{refuse, Fails, IsFault}
 use Rattle.manifest_json.specs.Kept.{counts_of, with_one}
 use Rattle.manifest_json.specs.Walk.{has_key, kind_count, kind_limit, with_found}
@@ -33,29 +34,29 @@ some_true : {A : Type 0} (b : Bool) (x y : A) → cond b (Some x) None ≡ Some 
 some_true true x y h = (refl, cc)
 some_true false x y h = absurd cc
 
-pub with_found-there : (path : List ℕ) (items : List (Key × Object)) (found : Key × Object) → has_key found.0 items ≡ true → with_found path items found ≡ refuse DUPLICATE path
-with_found-there path items found h =
-    ap (λ b. cond b (refuse DUPLICATE path) (cond (nat_lt (kind_count found.0.kind items) (kind_limit found.0.kind)) (Ok (items ++ found ∷ [])) (refuse TOO_MANY path))) h
+pub with_found-there : (scale : Scale) (path : List ℕ) (items : List (Key × Object)) (found : Key × Object) → has_key found.0 items ≡ true → with_found scale path items found ≡ refuse DUPLICATE path
+with_found-there scale path items found h =
+    ap (λ b. cond b (refuse DUPLICATE path) (cond (nat_lt (kind_count found.0.kind items) (kind_limit scale found.0.kind)) (Ok (items ++ found ∷ [])) (refuse TOO_MANY path))) h
 
-is_full : (items : List (Key × Object)) (kind : Kind) → with_one (counts_of items) kind ≡ None → nat_lt (kind_count kind items) (kind_limit kind) ≡ false
-is_full items kinds.Node h = none_false _ _ h
-is_full items kinds.Lease h = none_false _ _ h
-is_full items kinds.Pod h = none_false _ _ h
+is_full : (scale : Scale) (items : List (Key × Object)) (kind : Kind) → with_one scale (counts_of items) kind ≡ None → nat_lt (kind_count kind items) (kind_limit scale kind) ≡ false
+is_full scale items kinds.Node h = none_false _ _ h
+is_full scale items kinds.Lease h = none_false _ _ h
+is_full scale items kinds.Pod h = none_false _ _ h
 
-has_room : (items : List (Key × Object)) (kind : Kind) (c : Counts) → with_one (counts_of items) kind ≡ Some c → nat_lt (kind_count kind items) (kind_limit kind) ≡ true
-has_room items kinds.Node c h = (some_true _ _ _ h).0
-has_room items kinds.Lease c h = (some_true _ _ _ h).0
-has_room items kinds.Pod c h = (some_true _ _ _ h).0
+has_room : (scale : Scale) (items : List (Key × Object)) (kind : Kind) (c : Counts) → with_one scale (counts_of items) kind ≡ Some c → nat_lt (kind_count kind items) (kind_limit scale kind) ≡ true
+has_room scale items kinds.Node c h = (some_true _ _ _ h).0
+has_room scale items kinds.Lease c h = (some_true _ _ _ h).0
+has_room scale items kinds.Pod c h = (some_true _ _ _ h).0
 
-pub with_found-full : (path : List ℕ) (items : List (Key × Object)) (found : Key × Object) → has_key found.0 items ≡ false → with_one (counts_of items) found.0.kind ≡ None → with_found path items found ≡ refuse TOO_MANY path
-with_found-full path items found new full =
-    ap (λ b. cond b (refuse DUPLICATE path) (cond (nat_lt (kind_count found.0.kind items) (kind_limit found.0.kind)) (Ok (items ++ found ∷ [])) (refuse TOO_MANY path))) new
-    ∙ ap (λ b. cond b (Ok (items ++ found ∷ [])) (refuse TOO_MANY path)) (is_full items found.0.kind full)
+pub with_found-full : (scale : Scale) (path : List ℕ) (items : List (Key × Object)) (found : Key × Object) → has_key found.0 items ≡ false → with_one scale (counts_of items) found.0.kind ≡ None → with_found scale path items found ≡ refuse TOO_MANY path
+with_found-full scale path items found new full =
+    ap (λ b. cond b (refuse DUPLICATE path) (cond (nat_lt (kind_count found.0.kind items) (kind_limit scale found.0.kind)) (Ok (items ++ found ∷ [])) (refuse TOO_MANY path))) new
+    ∙ ap (λ b. cond b (Ok (items ++ found ∷ [])) (refuse TOO_MANY path)) (is_full scale items found.0.kind full)
 
-pub with_found-new : (path : List ℕ) (items : List (Key × Object)) (found : Key × Object) (c : Counts) → has_key found.0 items ≡ false → with_one (counts_of items) found.0.kind ≡ Some c → with_found path items found ≡ Ok (items ++ found ∷ [])
-with_found-new path items found c new room =
-    ap (λ b. cond b (refuse DUPLICATE path) (cond (nat_lt (kind_count found.0.kind items) (kind_limit found.0.kind)) (Ok (items ++ found ∷ [])) (refuse TOO_MANY path))) new
-    ∙ ap (λ b. cond b (Ok (items ++ found ∷ [])) (refuse TOO_MANY path)) (has_room items found.0.kind c room)
+pub with_found-new : (scale : Scale) (path : List ℕ) (items : List (Key × Object)) (found : Key × Object) (c : Counts) → has_key found.0 items ≡ false → with_one scale (counts_of items) found.0.kind ≡ Some c → with_found scale path items found ≡ Ok (items ++ found ∷ [])
+with_found-new scale path items found c new room =
+    ap (λ b. cond b (refuse DUPLICATE path) (cond (nat_lt (kind_count found.0.kind items) (kind_limit scale found.0.kind)) (Ok (items ++ found ∷ [])) (refuse TOO_MANY path))) new
+    ∙ ap (λ b. cond b (Ok (items ++ found ∷ [])) (refuse TOO_MANY path)) (has_room scale items found.0.kind c room)
 
 count_yes : (p : (Key × Object) → Bool) (xs : List (Key × Object)) (x : Key × Object) → p x ≡ true → count_by p (xs ++ x ∷ []) ≡ count_by p xs + 1
 count_yes p xs x h = sum_by-append (λ y. cond (p y) 1 0) xs (x ∷ []) ∙ ap (λ b. count_by p xs + (0 + cond b 1 0)) h
@@ -64,21 +65,21 @@ count_no : (p : (Key × Object) → Bool) (xs : List (Key × Object)) (x : Key �
 count_no p xs x h = sum_by-append (λ y. cond (p y) 1 0) xs (x ∷ []) ∙ ap (λ b. count_by p xs + (0 + cond b 1 0)) h ∙ omega arith
 
 -- the counts after one more
-pub counts_of-push : (items : List (Key × Object)) (kind : Kind) (space name : ℕ) (o : Object) (c : Counts)
-    → with_one (counts_of items) kind ≡ Some c → c ≡ counts_of (items ++ (record { kind = kind; space = space; name = name }, o) ∷ [])
-counts_of-push items kinds.Node space name o c h =
+pub counts_of-push : (scale : Scale) (items : List (Key × Object)) (kind : Kind) (space name : ℕ) (o : Object) (c : Counts)
+    → with_one scale (counts_of items) kind ≡ Some c → c ≡ counts_of (items ++ (record { kind = kind; space = space; name = name }, o) ∷ [])
+counts_of-push scale items kinds.Node space name o c h =
     let x : Key × Object = (record { kind = kinds.Node; space = space; name = name }, o) in
     let nodes' = count_yes (λ i. 0 == kind_rank i.0.kind) items x refl in
     let leases' = count_no (λ i. 1 == kind_rank i.0.kind) items x refl in
     let pods' = count_no (λ i. 2 == kind_rank i.0.kind) items x refl in
     sym (some_true _ _ c h).1 ∙ (λ i. record { nodes = sym nodes' i; leases = sym leases' i; pods = sym pods' i })
-counts_of-push items kinds.Lease space name o c h =
+counts_of-push scale items kinds.Lease space name o c h =
     let x : Key × Object = (record { kind = kinds.Lease; space = space; name = name }, o) in
     let nodes' = count_no (λ i. 0 == kind_rank i.0.kind) items x refl in
     let leases' = count_yes (λ i. 1 == kind_rank i.0.kind) items x refl in
     let pods' = count_no (λ i. 2 == kind_rank i.0.kind) items x refl in
     sym (some_true _ _ c h).1 ∙ (λ i. record { nodes = sym nodes' i; leases = sym leases' i; pods = sym pods' i })
-counts_of-push items kinds.Pod space name o c h =
+counts_of-push scale items kinds.Pod space name o c h =
     let x : Key × Object = (record { kind = kinds.Pod; space = space; name = name }, o) in
     let nodes' = count_no (λ i. 0 == kind_rank i.0.kind) items x refl in
     let leases' = count_no (λ i. 1 == kind_rank i.0.kind) items x refl in

@@ -20,6 +20,7 @@ use Rattle.kube_objects.specs.declared.pod.Pod.{Pod}
 use Rattle.kube_objects.specs.declared.pod.Toleration.{Toleration}
 use Rattle.manifest_json.specs.declared.codes.TheConstants.{BAD_KIND, BAD_LABEL, DUPLICATE, TOO_MANY, WRONG_JSON}
 use Rattle.manifest_json.specs.declared.fault.Refusal.{Refusal}
+use Rattle.manifest_json.specs.declared.scale.Scale.{Scale}
 use Rattle.manifest_json.specs.Faults.{◌>>=◌, refuse}
 use Rattle.manifest_json.specs.Fields.{Texts, unless_null, field, field_in, or_refuse, parent_at, text_at, items_at, time_at, count_at, numbered, named}
 use Rattle.manifest_json.specs.Walk.{name_text_at, space_text_at, name_at, space_at, spaced_key_at, label_from, label_at, same_taint, member_path, taints_from, items_len, hundred, taints_at, is_text, conditions_from, conditions_at, labels_at, node_at, holder_of, lease_spec_at, lease_at, tolerations_from, tolerations_at, node_name_from, node_name_at, pod_at, kind_from, kind_at, of_kind_at, if_kind, item_at, kind_limit, kind_count, has_key, with_found, with_item, list_step, list_from, list_walk}
@@ -69,13 +70,13 @@ taints_from-back names once path place earlier (t ∷ ts) h d =
     ∙ taints_from-back names once path (place + 1) (earlier ++ t ∷ []) ts h.1 parts.1
     ∙ ap (λ xs. Ok (xs, names)) (append_assoc earlier (t ∷ []) ts)
 
-tolerations_from-back : (names : Texts) (once : EachOnce names) (path : List ℕ) (place : ℕ) (earlier ts : List Toleration) → AllByRecursion (IsReadableToleration names) ts
-    → tolerations_from names path place earlier (items_of (map (toleration_of names) ts)) ≡ Ok (earlier ++ ts, names)
+tolerations_from-back : (names : Texts) (once : EachOnce names) (path key : List ℕ) (place : ℕ) (earlier ts : List Toleration) → AllByRecursion (IsReadableToleration names) ts
+    → tolerations_from names path key place earlier (items_of (map (toleration_of names) ts)) ≡ Ok (earlier ++ ts, names)
 unfolding tolerations_from
-tolerations_from-back names once path place earlier [] h = ap (λ ts. Ok (ts, names)) (sym (append_nil earlier))
-tolerations_from-back names once path place earlier (t ∷ ts) h =
-    tolerations_from-step names names path place earlier (toleration_of names t) (items_of (map (toleration_of names) ts)) t (toleration-back names once (member_path path (codes "/spec/tolerations/") place) t h.0)
-    ∙ tolerations_from-back names once path (place + 1) (earlier ++ t ∷ []) ts h.1
+tolerations_from-back names once path key place earlier [] h = ap (λ ts. Ok (ts, names)) (sym (append_nil earlier))
+tolerations_from-back names once path key place earlier (t ∷ ts) h =
+    tolerations_from-step names names path key place earlier (toleration_of names t) (items_of (map (toleration_of names) ts)) t (toleration-back names once (member_path path key place) t h.0)
+    ∙ tolerations_from-back names once path key (place + 1) (earlier ++ t ∷ []) ts h.1
     ∙ ap (λ xs. Ok (xs, names)) (append_assoc earlier (t ∷ []) ts)
 
 taints-back : (names : Texts) (once : EachOnce names) (path : List ℕ) (n : Node) → AllByRecursion (IsReadableTaint names) n.taints → length n.taints ≤ 100 → taints_differ [] n.taints ≡ true
@@ -251,10 +252,10 @@ tolerations-back names once path p each few =
     let place = path ++ codes "/spec/tolerations" in
     let all = items_of (map (toleration_of names) p.tolerations) in
     let fs : List Field = (codes "nodeName", filled_text (text_of names p.node)) ∷ (codes "tolerations", filled_array all) ∷ [] in
-    ap (λ o. items_at place o >>= λ xs. hundred place xs >>= λ ys. tolerations_from names path 0 [] ys) (field_in-is (codes "tolerations") fs refl)
-    ∙ ap (λ a. a >>= λ xs. hundred place xs >>= λ ys. tolerations_from names path 0 [] ys) (items-back place all)
-    ∙ ap (λ a. a >>= λ ys. tolerations_from names path 0 [] ys) (hundred-back place (toleration_of names) p.tolerations few)
-    ∙ tolerations_from-back names once path 0 [] p.tolerations each
+    ap (λ o. items_at place o >>= λ xs. hundred place xs >>= λ ys. tolerations_from names path (codes "/spec/tolerations/") 0 [] ys) (field_in-is (codes "tolerations") fs refl)
+    ∙ ap (λ a. a >>= λ xs. hundred place xs >>= λ ys. tolerations_from names path (codes "/spec/tolerations/") 0 [] ys) (items-back place all)
+    ∙ ap (λ a. a >>= λ ys. tolerations_from names path (codes "/spec/tolerations/") 0 [] ys) (hundred-back place (toleration_of names) p.tolerations few)
+    ∙ tolerations_from-back names once path (codes "/spec/tolerations/") 0 [] p.tolerations each
 
 pod-back : (names : Texts) (once : EachOnce names) (path : List ℕ) (key : Key) (p : Pod) → IsReadablePod names key p → pod_at names path (pod_of names key p) ≡ Ok ((key, objects.Pod p), names)
 unfolding pod_at pod_of pod_spec_of metadata_of
@@ -297,46 +298,46 @@ item-back names once known path key (objects.Pod p) h =
     ap (λ a. a >>= λ k. if_kind names known path d k) (kind-back path fs (codes "v1") (codes "Pod") refl refl refl)
     ∙ ap (λ a. a >>= λ found. Ok (Some found.0, found.1)) (pod-back names once path key p h)
 
-found-added : (path : List ℕ) (earlier : List (Key × Object)) (i : Key × Object) → has_key i.0 earlier ≡ false → nat_lt (kind_count i.0.kind earlier) (kind_limit i.0.kind) ≡ true → with_found path earlier i ≡ Ok (earlier ++ i ∷ [])
-found-added path earlier i new room =
-    ap (λ b. cond b (refuse DUPLICATE path) (cond (nat_lt (kind_count i.0.kind earlier) (kind_limit i.0.kind)) (Ok (earlier ++ i ∷ [])) (refuse TOO_MANY path))) new
+found-added : (scale : Scale) (path : List ℕ) (earlier : List (Key × Object)) (i : Key × Object) → has_key i.0 earlier ≡ false → nat_lt (kind_count i.0.kind earlier) (kind_limit scale i.0.kind) ≡ true → with_found scale path earlier i ≡ Ok (earlier ++ i ∷ [])
+found-added scale path earlier i new room =
+    ap (λ b. cond b (refuse DUPLICATE path) (cond (nat_lt (kind_count i.0.kind earlier) (kind_limit scale i.0.kind)) (Ok (earlier ++ i ∷ [])) (refuse TOO_MANY path))) new
     ∙ ap (λ b. cond b (Ok (earlier ++ i ∷ [])) (refuse TOO_MANY path)) room
 
-item-added : (path : List ℕ) (earlier : List (Key × Object)) (i : Key × Object) → with_found path earlier i ≡ Ok (earlier ++ i ∷ []) → with_item path earlier (Some i) ≡ Ok (earlier ++ i ∷ [], 0)
-item-added path earlier i added = ap (λ (a : Result (List (Key × Object)) Refusal). a >>= λ (more : List (Key × Object)). Ok (more, 0)) added
+item-added : (scale : Scale) (path : List ℕ) (earlier : List (Key × Object)) (i : Key × Object) → with_found scale path earlier i ≡ Ok (earlier ++ i ∷ []) → with_item scale path earlier (Some i) ≡ Ok (earlier ++ i ∷ [], 0)
+item-added scale path earlier i added = ap (λ (a : Result (List (Key × Object)) Refusal). a >>= λ (more : List (Key × Object)). Ok (more, 0)) added
 
-step-back : (names : Texts) (once : EachOnce names) (known path : List ℕ) (earlier : List (Key × Object)) (i : Key × Object) → IsReadableItem names known i → has_key i.0 earlier ≡ false
-    → nat_lt (kind_count i.0.kind earlier) (kind_limit i.0.kind) ≡ true → list_step names known path earlier (object_of names known i) ≡ Ok ((earlier ++ i ∷ [], 0), names)
+step-back : (scale : Scale) (names : Texts) (once : EachOnce names) (known path : List ℕ) (earlier : List (Key × Object)) (i : Key × Object) → IsReadableItem names known i → has_key i.0 earlier ≡ false
+    → nat_lt (kind_count i.0.kind earlier) (kind_limit scale i.0.kind) ≡ true → list_step scale names known path earlier (object_of names known i) ≡ Ok ((earlier ++ i ∷ [], 0), names)
 unfolding list_step
-step-back names once known path earlier i h new room =
-    ap (λ (a : Result (Option (Key × Object) × Texts) Refusal). a >>= λ found. with_item path earlier found.0 >>= λ next. Ok (next, found.1)) (item-back names once known path i.0 i.1 h)
-    ∙ ap (λ (a : Result (List (Key × Object) × ℕ) Refusal). a >>= λ next. Ok (next, names)) (item-added path earlier i (found-added path earlier i new room))
+step-back scale names once known path earlier i h new room =
+    ap (λ (a : Result (Option (Key × Object) × Texts) Refusal). a >>= λ found. with_item scale path earlier found.0 >>= λ next. Ok (next, found.1)) (item-back names once known path i.0 i.1 h)
+    ∙ ap (λ (a : Result (List (Key × Object) × ℕ) Refusal). a >>= λ next. Ok (next, names)) (item-added scale path earlier i (found-added scale path earlier i new room))
 
-list_from-back : (names : Texts) (once : EachOnce names) (known path : List ℕ) (place : ℕ) (earlier items : List (Key × Object)) → AllByRecursion (IsReadableItem names known) items → items_fit earlier items ≡ true
-    → list_from names known path place earlier 0 (items_of (map (object_of names known) items)) ≡ Ok ((earlier ++ items, 0), names)
+list_from-back : (scale : Scale) (names : Texts) (once : EachOnce names) (known path : List ℕ) (place : ℕ) (earlier items : List (Key × Object)) → AllByRecursion (IsReadableItem names known) items → items_fit scale earlier items ≡ true
+    → list_from scale names known path place earlier 0 (items_of (map (object_of names known) items)) ≡ Ok ((earlier ++ items, 0), names)
 unfolding list_from
-list_from-back names once known path place earlier [] h fit = ap (λ xs. Ok ((xs, 0), names)) (sym (append_nil earlier))
-list_from-back names once known path place earlier (i ∷ rest) h fit =
-    let parts = three (not (has_key i.0 earlier)) (nat_lt (kind_count i.0.kind earlier) (kind_limit i.0.kind)) (items_fit (earlier ++ i ∷ []) rest) fit in
-    list_from-step names names known path place earlier (earlier ++ i ∷ []) 0 0 (object_of names known i) (items_of (map (object_of names known) rest)) (step-back names once known (member_path path (codes "/items/") place) earlier i h.0 (not_true _ parts.0) parts.1)
-    ∙ list_from-back names once known path (place + 1) (earlier ++ i ∷ []) rest h.1 parts.2
+list_from-back scale names once known path place earlier [] h fit = ap (λ xs. Ok ((xs, 0), names)) (sym (append_nil earlier))
+list_from-back scale names once known path place earlier (i ∷ rest) h fit =
+    let parts = three (not (has_key i.0 earlier)) (nat_lt (kind_count i.0.kind earlier) (kind_limit scale i.0.kind)) (items_fit scale (earlier ++ i ∷ []) rest) fit in
+    list_from-step scale names names known path place earlier (earlier ++ i ∷ []) 0 0 (object_of names known i) (items_of (map (object_of names known) rest)) (step-back scale names once known (member_path path (codes "/items/") place) earlier i h.0 (not_true _ parts.0) parts.1)
+    ∙ list_from-back scale names once known path (place + 1) (earlier ++ i ∷ []) rest h.1 parts.2
     ∙ ap (λ xs. Ok ((xs, 0), names)) (append_assoc earlier (i ∷ []) rest)
 
 -- a written List is read back, at any path
-pub list-back : (names : Texts) (once : EachOnce names) (known path : List ℕ) (items : List (Key × Object)) → IsReadable names known items → list_walk names known path (list_of names known items) ≡ Ok ((items, 0), names)
+pub list-back : (scale : Scale) (names : Texts) (once : EachOnce names) (known path : List ℕ) (items : List (Key × Object)) → IsReadable scale names known items → list_walk scale names known path (list_of names known items) ≡ Ok ((items, 0), names)
 unfolding list_walk list_of
-list-back names once known path items h =
+list-back scale names once known path items h =
     let all = items_of (map (object_of names known) items) in
     let fs : List Field = (codes "apiVersion", text (codes "v1")) ∷ (codes "items", Some (array all)) ∷ (codes "kind", text (codes "List")) ∷ [] in
     let d = object (members_of fs) in
     let place = path ++ codes "/items" in
-    ap (λ o. cond (is_text (codes "v1") (option_and_then as_str o) && is_text (codes "List") (option_and_then as_str (get_member (codes "kind") (members_of fs)))) (Ok d) (refuse BAD_KIND path) >>= λ x. items_at place (field (codes "items") x) >>= λ xs. list_from names known path 0 [] 0 xs) (get-lookup (codes "apiVersion") fs refl)
-    ∙ ap (λ o. cond (is_text (codes "List") (option_and_then as_str o)) (Ok d) (refuse BAD_KIND path) >>= λ x. items_at place (field (codes "items") x) >>= λ xs. list_from names known path 0 [] 0 xs) (get-lookup (codes "kind") fs refl)
-    ∙ ap (λ o. items_at place o >>= λ xs. list_from names known path 0 [] 0 xs) (field-is (codes "items") fs refl)
-    ∙ list_from-back names once known path 0 [] items h.each h.fit
+    ap (λ o. cond (is_text (codes "v1") (option_and_then as_str o) && is_text (codes "List") (option_and_then as_str (get_member (codes "kind") (members_of fs)))) (Ok d) (refuse BAD_KIND path) >>= λ x. items_at place (field (codes "items") x) >>= λ xs. list_from scale names known path 0 [] 0 xs) (get-lookup (codes "apiVersion") fs refl)
+    ∙ ap (λ o. cond (is_text (codes "List") (option_and_then as_str o)) (Ok d) (refuse BAD_KIND path) >>= λ x. items_at place (field (codes "items") x) >>= λ xs. list_from scale names known path 0 [] 0 xs) (get-lookup (codes "kind") fs refl)
+    ∙ ap (λ o. items_at place o >>= λ xs. list_from scale names known path 0 [] 0 xs) (field-is (codes "items") fs refl)
+    ∙ list_from-back scale names once known path 0 [] items h.each h.fit
 
 -- so is a value that is the List, if there is one
 pub reads-back : {E : Type 0} (names : Texts) (once : EachOnce names) (known : List ℕ) (items : List (Key × Object)) (r : Result Value E) → IfOk r (λ value. view value ≡ list_of names known items)
-    → IfOk r (λ value. IsReadable names known items → (path : List ℕ) → list_walk names known path (view value) ≡ Ok ((items, 0), names))
-reads-back names once known items (Ok value) is = λ h path. ap (list_walk names known path) is ∙ list-back names once known path items h
+    → IfOk r (λ value. (scale : Scale) → IsReadable scale names known items → (path : List ℕ) → list_walk scale names known path (view value) ≡ Ok ((items, 0), names))
+reads-back names once known items (Ok value) is = λ scale h path. ap (list_walk scale names known path) is ∙ list-back scale names once known path items h
 reads-back names once known items (Err e) is = tt

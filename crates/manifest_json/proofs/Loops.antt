@@ -14,6 +14,7 @@ use Rattle.manifest_json.specs.declared.codes.TheConstants.{TOO_MANY}
 use Rattle.manifest_json.specs.declared.fault.Refusal.{Refusal}
 use Rattle.manifest_json.specs.declared.fault.ReadFault.{ReadFault}
 use Rattle.manifest_json.specs.declared.fault.ReadFault.TheVariants.{Refused, NoMemory}
+use Rattle.manifest_json.specs.declared.scale.Scale.{Scale}
 use Rattle.manifest_json.specs.Faults.{◌>>=◌, refuse, Fails}
 use Rattle.manifest_json.specs.Fields.{Texts}
 use Rattle.manifest_json.specs.Walk.{items_len, hundred, member_path, taint_at, taints_from, condition_at, conditions_from, toleration_at, tolerations_from, list_step, list_from}
@@ -52,27 +53,27 @@ pub conditions_from-fails : (e : ReadFault) (names : Texts) (path : List ℕ) (p
 unfolding conditions_from
 conditions_from-fails e names path place found d rest h = Fails-then e _ (λ x. conditions_from x.1 path (place + 1) x.0 rest) h
 
-pub tolerations_from-step : (names new : Texts) (path : List ℕ) (place : ℕ) (earlier : List Toleration) (d : Data) (rest : Items) (toleration : Toleration)
-    → toleration_at names (member_path path (codes "/spec/tolerations/") place) d ≡ Ok (toleration, new)
-    → tolerations_from names path place earlier (item d rest) ≡ tolerations_from new path (place + 1) (earlier ++ toleration ∷ []) rest
+pub tolerations_from-step : (names new : Texts) (path key : List ℕ) (place : ℕ) (earlier : List Toleration) (d : Data) (rest : Items) (toleration : Toleration)
+    → toleration_at names (member_path path key place) d ≡ Ok (toleration, new)
+    → tolerations_from names path key place earlier (item d rest) ≡ tolerations_from new path key (place + 1) (earlier ++ toleration ∷ []) rest
 unfolding tolerations_from
-tolerations_from-step names new path place earlier d rest toleration h = ap (λ r. r >>= λ next. tolerations_from next.1 path (place + 1) (earlier ++ next.0 ∷ []) rest) h
+tolerations_from-step names new path key place earlier d rest toleration h = ap (λ r. r >>= λ next. tolerations_from next.1 path key (place + 1) (earlier ++ next.0 ∷ []) rest) h
 
-pub tolerations_from-fails : (e : ReadFault) (names : Texts) (path : List ℕ) (place : ℕ) (earlier : List Toleration) (d : Data) (rest : Items)
-    → Fails e (toleration_at names (member_path path (codes "/spec/tolerations/") place) d) → Fails e (tolerations_from names path place earlier (item d rest))
+pub tolerations_from-fails : (e : ReadFault) (names : Texts) (path key : List ℕ) (place : ℕ) (earlier : List Toleration) (d : Data) (rest : Items)
+    → Fails e (toleration_at names (member_path path key place) d) → Fails e (tolerations_from names path key place earlier (item d rest))
 unfolding tolerations_from
-tolerations_from-fails e names path place earlier d rest h = Fails-then e _ (λ next. tolerations_from next.1 path (place + 1) (earlier ++ next.0 ∷ []) rest) h
+tolerations_from-fails e names path key place earlier d rest h = Fails-then e _ (λ next. tolerations_from next.1 path key (place + 1) (earlier ++ next.0 ∷ []) rest) h
 
-pub list_from-step : (names new : Texts) (known path : List ℕ) (place : ℕ) (items more : List (Key × Object)) (skipped n : ℕ) (d : Data) (rest : Items)
-    → list_step names known (member_path path (codes "/items/") place) items d ≡ Ok ((more, n), new)
-    → list_from names known path place items skipped (item d rest) ≡ list_from new known path (place + 1) more (skipped + n) rest
+pub list_from-step : (scale : Scale) (names new : Texts) (known path : List ℕ) (place : ℕ) (items more : List (Key × Object)) (skipped n : ℕ) (d : Data) (rest : Items)
+    → list_step scale names known (member_path path (codes "/items/") place) items d ≡ Ok ((more, n), new)
+    → list_from scale names known path place items skipped (item d rest) ≡ list_from scale new known path (place + 1) more (skipped + n) rest
 unfolding list_from
-list_from-step names new known path place items more skipped n d rest h = ap (λ r. r >>= λ next. list_from next.1 known path (place + 1) next.0.0 (skipped + next.0.1) rest) h
+list_from-step scale names new known path place items more skipped n d rest h = ap (λ r. r >>= λ next. list_from scale next.1 known path (place + 1) next.0.0 (skipped + next.0.1) rest) h
 
-pub list_from-fails : (e : ReadFault) (names : Texts) (known path : List ℕ) (place : ℕ) (items : List (Key × Object)) (skipped : ℕ) (d : Data) (rest : Items)
-    → Fails e (list_step names known (member_path path (codes "/items/") place) items d) → Fails e (list_from names known path place items skipped (item d rest))
+pub list_from-fails : (scale : Scale) (e : ReadFault) (names : Texts) (known path : List ℕ) (place : ℕ) (items : List (Key × Object)) (skipped : ℕ) (d : Data) (rest : Items)
+    → Fails e (list_step scale names known (member_path path (codes "/items/") place) items d) → Fails e (list_from scale names known path place items skipped (item d rest))
 unfolding list_from
-list_from-fails e names known path place items skipped d rest h = Fails-then e _ (λ next. list_from next.1 known path (place + 1) next.0.0 (skipped + next.0.1) rest) h
+list_from-fails scale e names known path place items skipped d rest h = Fails-then e _ (λ next. list_from scale next.1 known path (place + 1) next.0.0 (skipped + next.0.1) rest) h
 
 -- what a loop over an array knows of its next member
 module _ (names : Texts) (path : List ℕ) (place : ℕ) (vs : List Value) where
@@ -103,33 +104,33 @@ module _ (names : Texts) (path : List ℕ) (place : ℕ) (vs : List Value) where
     unfolding conditions_from
     conditions-end le = so_far ∙ ap (conditions_from names path place found) (items_view-end vs place le)
 
-  module _ (earlier : List Toleration) (start : Result (List Toleration × Texts) Refusal) (so_far : start ≡ tolerations_from names path place earlier (items_view (drop place vs))) where
-    pub tolerations-fail : (v : Value) (e : ReadFault) → place < length vs → v ≡ get_or vs place v → Fails e (toleration_at names (member_path path (codes "/spec/tolerations/") place) (view v)) → Fails e start
-    tolerations-fail v e lt is h = rw (so_far, items_view-drop vs place v lt (sym is)) (tolerations_from-fails e names path place earlier (view v) _ h)
+  module _ (key : List ℕ) (earlier : List Toleration) (start : Result (List Toleration × Texts) Refusal) (so_far : start ≡ tolerations_from names path key place earlier (items_view (drop place vs))) where
+    pub tolerations-fail : (v : Value) (e : ReadFault) → place < length vs → v ≡ get_or vs place v → Fails e (toleration_at names (member_path path key place) (view v)) → Fails e start
+    tolerations-fail v e lt is h = rw (so_far, items_view-drop vs place v lt (sym is)) (tolerations_from-fails e names path key place earlier (view v) _ h)
 
     pub tolerations-step : (v : Value) (new : Texts) (next : Toleration) (more : List Toleration) → place < length vs → v ≡ get_or vs place v → more ≡ earlier ++ next ∷ []
-        → toleration_at names (member_path path (codes "/spec/tolerations/") place) (view v) ≡ Ok (next, new) → start ≡ tolerations_from new path (place + 1) more (items_view (drop (place + 1) vs))
+        → toleration_at names (member_path path key place) (view v) ≡ Ok (next, new) → start ≡ tolerations_from new path key (place + 1) more (items_view (drop (place + 1) vs))
     tolerations-step v new next more lt is push h =
-        so_far ∙ ap (tolerations_from names path place earlier) (items_view-drop vs place v lt (sym is)) ∙ tolerations_from-step names new path place earlier (view v) _ next h
-        ∙ ap (λ ts. tolerations_from new path (place + 1) ts (items_view (drop (place + 1) vs))) (sym push)
+        so_far ∙ ap (tolerations_from names path key place earlier) (items_view-drop vs place v lt (sym is)) ∙ tolerations_from-step names new path key place earlier (view v) _ next h
+        ∙ ap (λ ts. tolerations_from new path key (place + 1) ts (items_view (drop (place + 1) vs))) (sym push)
 
     pub tolerations-end : length vs ≤ place → start ≡ Ok (earlier, names)
     unfolding tolerations_from
-    tolerations-end le = so_far ∙ ap (tolerations_from names path place earlier) (items_view-end vs place le)
+    tolerations-end le = so_far ∙ ap (tolerations_from names path key place earlier) (items_view-end vs place le)
 
-  module _ (known : List ℕ) (items : List (Key × Object)) (skipped : ℕ) (start : Result ((List (Key × Object) × ℕ) × Texts) Refusal)
-      (so_far : start ≡ list_from names known path place items skipped (items_view (drop place vs))) where
-    pub list-fail : (v : Value) (e : ReadFault) → place < length vs → v ≡ get_or vs place v → Fails e (list_step names known (member_path path (codes "/items/") place) items (view v)) → Fails e start
-    list-fail v e lt is h = rw (so_far, items_view-drop vs place v lt (sym is)) (list_from-fails e names known path place items skipped (view v) _ h)
+  module _ (scale : Scale) (known : List ℕ) (items : List (Key × Object)) (skipped : ℕ) (start : Result ((List (Key × Object) × ℕ) × Texts) Refusal)
+      (so_far : start ≡ list_from scale names known path place items skipped (items_view (drop place vs))) where
+    pub list-fail : (v : Value) (e : ReadFault) → place < length vs → v ≡ get_or vs place v → Fails e (list_step scale names known (member_path path (codes "/items/") place) items (view v)) → Fails e start
+    list-fail v e lt is h = rw (so_far, items_view-drop vs place v lt (sym is)) (list_from-fails scale e names known path place items skipped (view v) _ h)
 
     pub list-step : (v : Value) (new : Texts) (more : List (Key × Object)) (n : ℕ) → place < length vs → v ≡ get_or vs place v
-        → list_step names known (member_path path (codes "/items/") place) items (view v) ≡ Ok ((more, n), new) → start ≡ list_from new known path (place + 1) more (skipped + n) (items_view (drop (place + 1) vs))
+        → list_step scale names known (member_path path (codes "/items/") place) items (view v) ≡ Ok ((more, n), new) → start ≡ list_from scale new known path (place + 1) more (skipped + n) (items_view (drop (place + 1) vs))
     list-step v new more n lt is h =
-        so_far ∙ ap (list_from names known path place items skipped) (items_view-drop vs place v lt (sym is)) ∙ list_from-step names new known path place items more skipped n (view v) _ h
+        so_far ∙ ap (list_from scale names known path place items skipped) (items_view-drop vs place v lt (sym is)) ∙ list_from-step scale names new known path place items more skipped n (view v) _ h
 
     pub list-end : length vs ≤ place → start ≡ Ok ((items, skipped), names)
     unfolding list_from
-    list-end le = so_far ∙ ap (list_from names known path place items skipped) (items_view-end vs place le)
+    list-end le = so_far ∙ ap (list_from scale names known path place items skipped) (items_view-end vs place le)
 
 items_len-view : (vs : List Value) → items_len (items_view vs) ≡ length vs
 items_len-view [] = refl

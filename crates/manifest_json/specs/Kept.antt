@@ -8,17 +8,18 @@ use Rattle.kube_objects.specs.declared.key.Kind.TheVariants as kinds
 use Rattle.kube_objects.specs.declared.object.Object.{Object}
 use Rattle.manifest_json.specs.declared.kept.Counts.{Counts}
 use Rattle.manifest_json.specs.declared.kept.Kept.{Kept}
-use Rattle.manifest_json.specs.Walk.{has_key, kind_count}
+use Rattle.manifest_json.specs.declared.scale.Scale.{Scale}
+use Rattle.manifest_json.specs.Walk.{has_key, kind_count, kind_limit}
 
 -- how many objects there are of each kind
 abbrev pub counts_of : List (Key × Object) → Counts
 counts_of items = record { nodes = kind_count kinds.Node items; leases = kind_count kinds.Lease items; pods = kind_count kinds.Pod items }
 
 -- one more of a kind that is not full
-abbrev pub with_one : Counts → Kind → Option Counts
-with_one c kinds.Node = if nat_lt c.nodes 1000 then Some (record c { nodes = c.nodes + 1 }) else None
-with_one c kinds.Lease = if nat_lt c.leases 2000 then Some (record c { leases = c.leases + 1 }) else None
-with_one c kinds.Pod = if nat_lt c.pods 30000 then Some (record c { pods = c.pods + 1 }) else None
+abbrev pub with_one : Scale → Counts → Kind → Option Counts
+with_one scale c kinds.Node = if nat_lt c.nodes (kind_limit scale kinds.Node) then Some (record c { nodes = c.nodes + 1 }) else None
+with_one scale c kinds.Lease = if nat_lt c.leases (kind_limit scale kinds.Lease) then Some (record c { leases = c.leases + 1 }) else None
+with_one scale c kinds.Pod = if nat_lt c.pods (kind_limit scale kinds.Pod) then Some (record c { pods = c.pods + 1 }) else None
 
 pub record Stands (k : Kept) : Type 0 where
   pub keys : (q : Key) → contains key_cmp k.keys q ≡ has_key q k.items

@@ -18,6 +18,7 @@ use Rattle.kube_objects.specs.declared.object.Object.{Object}
 use Rattle.kube_objects.specs.declared.object.Object.TheVariants as objects
 use Rattle.kube_objects.specs.declared.pod.Pod.{Pod}
 use Rattle.kube_objects.specs.declared.pod.Toleration.{Toleration}
+use Rattle.manifest_json.specs.declared.scale.Scale.{Scale}
 use Rattle.manifest_json.specs.Fields.{Texts, is_name, is_label}
 use Rattle.manifest_json.specs.Walk.{same_taint, is_lawful, identity_of, has_key, kind_count, kind_limit}
 use Rattle.manifest_json.specs.Written.{text_of}
@@ -147,11 +148,12 @@ abbrev pub AreKeyedApart : List (Key × Object) → Type 0
 AreKeyedApart items = IsDistinct key_eq (map (λ item. item.0) items)
 
 -- each item has a new key, and there is room for one more of its kind
-abbrev pub items_fit : List (Key × Object) → List (Key × Object) → Bool
-items_fit earlier [] = true
-items_fit earlier (i ∷ rest) =
-    not (has_key i.0 earlier) && nat_lt (kind_count i.0.kind earlier) (kind_limit i.0.kind) && items_fit (earlier ++ i ∷ []) rest
+abbrev pub items_fit : Scale → List (Key × Object) → List (Key × Object) → Bool
+items_fit scale earlier [] = true
+items_fit scale earlier (i ∷ rest) =
+    not (has_key i.0 earlier) && nat_lt (kind_count i.0.kind earlier) (kind_limit scale i.0.kind)
+    && items_fit scale (earlier ++ i ∷ []) rest
 
-pub record IsReadable (names : Texts) (known : List ℕ) (items : List (Key × Object)) : Type 0 where
+pub record IsReadable (scale : Scale) (names : Texts) (known : List ℕ) (items : List (Key × Object)) : Type 0 where
   pub each : AllByRecursion (IsReadableItem names known) items
-  pub fit : items_fit [] items ≡ true
+  pub fit : items_fit scale [] items ≡ true

@@ -34,6 +34,8 @@ use Rattle.manifest_json.specs.declared.codes.TheConstants.{BAD_EFFECT, BAD_KIND
 use Rattle.manifest_json.specs.declared.codes.TheConstants.{BAD_READY_STATUS, BAD_TAINT_KEY, BAD_TOLERATION, DUPLICATE}
 use Rattle.manifest_json.specs.declared.codes.TheConstants.{DUPLICATE_TAINT, TOO_MANY, WRONG_JSON}
 use Rattle.manifest_json.specs.declared.fault.Refusal.{Refusal}
+use Rattle.manifest_json.specs.declared.scale.Scale.{Scale}
+use Rattle.manifest_json.specs.declared.scale.Scale.TheVariants as scales
 use Rattle.manifest_json.specs.Faults.{◌>>=◌, refuse}
 use Rattle.manifest_json.specs.Fields.{Texts, is_label, field, field_in, or_refuse, object_at, parent_at, text_at, items_at}
 use Rattle.manifest_json.specs.Fields.{time_at, count_at, signed_at, numbered, named}
@@ -328,17 +330,24 @@ toleration_at names path value = do
   seconds ← signed_at (path ++ codes "/tolerationSeconds") (field (codes "tolerationSeconds") d)
   if_lawful path (record { key = key.0; operator = operator; value = text.0; effect = effect; seconds = seconds }) text.1
 
-unfoldable pub tolerations_from : Texts → List ℕ → ℕ → List Toleration → Items → Result (List Toleration × Texts) Refusal
-tolerations_from names path place earlier no_items = Ok (earlier, names)
-tolerations_from names path place earlier (item d rest) = do
-  next ← toleration_at names (member_path path (codes "/spec/tolerations/") place) d
-  tolerations_from next.1 path (place + 1) (earlier ++ next.0 ∷ []) rest
+unfoldable pub tolerations_from : Texts → List ℕ → List ℕ → ℕ → List Toleration → Items → Result (List Toleration × Texts) Refusal
+tolerations_from names path key place earlier no_items = Ok (earlier, names)
+tolerations_from names path key place earlier (item d rest) = do
+  next ← toleration_at names (member_path path key place) d
+  tolerations_from next.1 path key (place + 1) (earlier ++ next.0 ∷ []) rest
 
 unfoldable pub tolerations_at : Texts → List ℕ → Option Data → Result (List Toleration × Texts) Refusal
 tolerations_at names path spec = do
   all ← items_at (path ++ codes "/spec/tolerations") (field_in (codes "tolerations") spec)
   few ← hundred (path ++ codes "/spec/tolerations") all
-  tolerations_from names path 0 [] few
+  tolerations_from names path (codes "/spec/tolerations/") 0 [] few
+
+-- the tolerations of pods that are alike, by the rules of a Pod's
+unfoldable pub tolerations_under : Texts → List ℕ → Data → Result (List Toleration × Texts) Refusal
+tolerations_under names path d = do
+  all ← items_at (path ++ codes "/tolerations") (field (codes "tolerations") d)
+  few ← hundred (path ++ codes "/tolerations") all
+  tolerations_from names path (codes "/tolerations/") 0 [] few
 
 abbrev pub node_name_from : Texts → List ℕ → List ℕ → Result (ℕ × Texts) Refusal
 node_name_from names path text = if length text == 0 then numbered names text else named names path text
@@ -399,10 +408,13 @@ object_walk names known path value = do
   of_kind_at names known path d kind
 
 -- how many objects of a kind a list may have
-abbrev pub kind_limit : Kind → ℕ
-kind_limit kinds.Node = 1000
-kind_limit kinds.Lease = 2000
-kind_limit kinds.Pod = 30000
+abbrev pub kind_limit : Scale → Kind → ℕ
+kind_limit scales.Usual kinds.Node = 1_000
+kind_limit scales.Usual kinds.Lease = 2_000
+kind_limit scales.Usual kinds.Pod = 30_000
+kind_limit scales.Large kinds.Node = 15_000
+kind_limit scales.Large kinds.Lease = 30_000
+kind_limit scales.Large kinds.Pod = 450_000
 
 abbrev pub kind_count : Kind → List (Key × Object) → ℕ
 kind_count kind items = count_by (λ i. kind_rank kind == kind_rank i.0.kind) items
@@ -412,30 +424,32 @@ abbrev pub has_key : Key → List (Key × Object) → Bool
 has_key key items = list_any (λ i. key_eq i.0 key) items
 
 -- one more object, whose key is new and whose kind is not full
-abbrev pub with_found : List ℕ → List (Key × Object) → (Key × Object) → Result (List (Key × Object)) Refusal
-with_found path items found =
+abbrev pub with_found : Scale → List ℕ → List (Key × Object) → (Key × Object) → Result (List (Key × Object)) Refusal
+with_found scale path items found =
     if has_key found.0 items then refuse DUPLICATE path
-    else (if nat_lt (kind_count found.0.kind items) (kind_limit found.0.kind) then Ok (items ++ found ∷ []) else refuse TOO_MANY path)
+    else (if nat_lt (kind_count found.0.kind items) (kind_limit scale found.0.kind) then Ok (items ++ found ∷ [])
+    else refuse TOO_MANY path)
 
 -- the objects after an item, and how many were skipped
-abbrev pub with_item : List ℕ → List (Key × Object) → Option (Key × Object) → Result (List (Key × Object) × ℕ) Refusal
-with_item path items None = Ok (items, 1)
-with_item path items (Some found) = do
-  more ← with_found path items found
+abbrev pub with_item : Scale → List ℕ → List (Key × Object) → Option (Key × Object) → Result (List (Key × Object) × ℕ) Refusal
+with_item scale path items None = Ok (items, 1)
+with_item scale path items (Some found) = do
+  more ← with_found scale path items found
   Ok (more, 0)
 
-unfoldable pub list_step : Texts → List ℕ → List ℕ → List (Key × Object) → Data → Result ((List (Key × Object) × ℕ) × Texts) Refusal
-list_step names known path items d = do
+unfoldable pub list_step : Scale → Texts → List ℕ → List ℕ → List (Key × Object) → Data
+    → Result ((List (Key × Object) × ℕ) × Texts) Refusal
+list_step scale names known path items d = do
   found ← item_at names known path d
-  next ← with_item path items found.0
+  next ← with_item scale path items found.0
   Ok (next, found.1)
 
-unfoldable pub list_from : Texts → List ℕ → List ℕ → ℕ → List (Key × Object) → ℕ → Items
+unfoldable pub list_from : Scale → Texts → List ℕ → List ℕ → ℕ → List (Key × Object) → ℕ → Items
     → Result ((List (Key × Object) × ℕ) × Texts) Refusal
-list_from names known path place items skipped no_items = Ok ((items, skipped), names)
-list_from names known path place items skipped (item d rest) = do
-  next ← list_step names known (member_path path (codes "/items/") place) items d
-  list_from next.1 known path (place + 1) next.0.0 (skipped + next.0.1) rest
+list_from scale names known path place items skipped no_items = Ok ((items, skipped), names)
+list_from scale names known path place items skipped (item d rest) = do
+  next ← list_step scale names known (member_path path (codes "/items/") place) items d
+  list_from scale next.1 known path (place + 1) next.0.0 (skipped + next.0.1) rest
 
 abbrev pub is_list : Data → Bool
 is_list d =
@@ -446,9 +460,9 @@ abbrev pub list_or_refuse : List ℕ → Data → Result Data Refusal
 list_or_refuse path d = if is_list d then Ok d else refuse BAD_KIND path
 
 -- a `v1` List: the items in order, how many were skipped, and the names that are held then
-unfoldable pub list_walk : Texts → List ℕ → List ℕ → Data → Result ((List (Key × Object) × ℕ) × Texts) Refusal
-list_walk names known path value = do
+unfoldable pub list_walk : Scale → Texts → List ℕ → List ℕ → Data → Result ((List (Key × Object) × ℕ) × Texts) Refusal
+list_walk scale names known path value = do
   object ← object_at path value
   d ← list_or_refuse path object
   all ← items_at (path ++ codes "/items") (field (codes "items") d)
-  list_from names known path 0 [] 0 all
+  list_from scale names known path 0 [] 0 all

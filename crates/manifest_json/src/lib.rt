@@ -12,11 +12,15 @@ mod metadata;
 mod node;
 mod object;
 mod pod;
+mod scale;
 mod write;
 
 pub use fault::{Path, ReadFault, Refusal, fault_below};
 pub use field::number;
 pub use grammar::is_name;
-pub use list::{Objects, read_list};
+pub use kept::Kept;
+pub use list::{Listed, Objects, read_kept, read_list};
 pub use object::{kind_of, read_object};
+pub use pod::read_tolerations;
+pub use scale::Scale;
 pub use write::write_list;

@@ -11,7 +11,7 @@ use crate::fault::fault;
 use crate::field::{field, is_text, items, object};
 use crate::kept::Kept;
 use crate::object::item;
-use crate::{Path, ReadFault};
+use crate::{Path, ReadFault, Scale};
 use kube_base::Names;
 use kube_objects::Items;
 use serde_json::Value;
@@ -24,12 +24,20 @@ pub struct Objects {
     pub skipped: u64,
 }
 
+/// The objects of a List with their keys, so that more can be added, and how many of its items have another kind.
+#[derive(Drop)]
+pub struct Listed {
+    pub kept: Kept,
+    pub skipped: u64,
+}
+
 /// The objects of a `v1` List, or the first refusal of the walk at or below the path.
 ///
-/// `known` are the numbers of the controllers' names. New names get the next numbers; after a refusal further ones may be held.
-#[tactic(auto, unfolding(crate::specs::Walk::list_walk))]
+/// The list may be so large. `known` are the numbers of the controllers' names. New names get the next numbers; after a refusal further
+/// ones may be held.
 pub fn read_list(
     alloc: Global,
+    scale: Scale,
     names: &mut Names,
     known: &[u32],
     value: &Value,
@@ -37,7 +45,31 @@ pub fn read_list(
 ) -> Result<Objects, ReadFault>
     requires { length known.now < 2 ^ 32 }
     ensures gives { Gives (λ objects. ((objects.items, objects.skipped), names.new)) result
-        (walk.list_walk names.old known.now path.now (view value.now)) }
+        (walk.list_walk scale names.old known.now path.now (view value.now)) }
+    ensures names { AreKept names.old names.new }
+{
+    let Listed { kept, skipped } = read_kept(alloc, scale, names, known, value, path)?;
+    Ok(Objects {
+        items: kept.items,
+        skipped,
+    })
+}
+
+/// The same, with their keys.
+#[tactic(auto, unfolding(crate::specs::Walk::list_walk))]
+pub fn read_kept(
+    alloc: Global,
+    scale: Scale,
+    names: &mut Names,
+    known: &[u32],
+    value: &Value,
+    path: &Path,
+) -> Result<Listed, ReadFault>
+    requires { length known.now < 2 ^ 32 }
+    ensures gives { Gives (λ listed. ((listed.kept.items, listed.skipped), names.new)) result
+        (walk.list_walk scale names.old known.now path.now (view value.now)) }
+    ensures stands { IfOk result (λ listed. Stands listed.kept) }
+    ensures scale { IfOk result (λ listed. listed.kept.scale ≡ scale) }
     ensures names { AreKept names.old names.new }
 {
     let value = object(path, value)?;
@@ -45,7 +77,7 @@ pub fn read_list(
         return Err(fault(BAD_KIND, path));
     }
     let list = items(path, "/items", field(value, "items"))?;
-    objects_of(alloc, names, known, path, list)
+    objects_of(alloc, scale, names, known, path, list)
 }
 
 fn is_list(value: &Value) -> bool
@@ -56,17 +88,20 @@ fn is_list(value: &Value) -> bool
 
 fn objects_of(
     alloc: Global,
+    scale: Scale,
     names: &mut Names,
     known: &[u32],
     path: &Path,
     list: &[Value],
-) -> Result<Objects, ReadFault>
+) -> Result<Listed, ReadFault>
     requires { length known.now < 2 ^ 32 }
-    ensures gives { Gives (λ objects. ((objects.items, objects.skipped), names.new)) result
-        (walk.list_from names.old known.now path.now 0 [] 0 (items_view list.now)) }
+    ensures gives { Gives (λ listed. ((listed.kept.items, listed.skipped), names.new)) result
+        (walk.list_from scale names.old known.now path.now 0 [] 0 (items_view list.now)) }
+    ensures stands { IfOk result (λ listed. Stands listed.kept) }
+    ensures scale { IfOk result (λ listed. listed.kept.scale ≡ scale) }
     ensures names { AreKept names.old names.new }
 {
-    let mut kept = Kept::new(alloc);
+    let mut kept = Kept::new(alloc, scale);
     let mut skipped: u64 = 0;
     for (place, value) in list.iter().enumerate() {
         match step_in(alloc, names, known, path, place, &mut kept, value) {
@@ -74,10 +109,7 @@ fn objects_of(
             Err(fault) => return Err(fault),
         }
     }
-    Ok(Objects {
-        items: kept.items,
-        skipped,
-    })
+    Ok(Listed { kept, skipped })
 }
 
 /// Adds an item's object, and tells how many were skipped.
@@ -93,8 +125,9 @@ fn step_in(
     requires known { length known.now < 2 ^ 32 }
     requires stands { Stands kept.old }
     ensures gives { Gives (λ skipped. ((kept.new.items, skipped), names.new)) result
-        (walk.list_step names.old known.now (walk.member_path path.now (codes "/items/") place) kept.old.items (view value.now)) }
+        (walk.list_step kept.old.scale names.old known.now (walk.member_path path.now (codes "/items/") place) kept.old.items (view value.now)) }
     ensures stands { OnOk result (Stands kept.new) }
+    ensures scale { kept.new.scale ≡ kept.old.scale }
     ensures few { IfOk result (λ skipped. skipped ≤ 1) }
     ensures names { AreKept names.old names.new }
 {
@@ -114,8 +147,9 @@ fn step(
     requires known { length known.now < 2 ^ 32 }
     requires stands { Stands kept.old }
     ensures gives { Gives (λ skipped. ((kept.new.items, skipped), names.new)) result
-        (walk.list_step names.old known.now path.now kept.old.items (view value.now)) }
+        (walk.list_step kept.old.scale names.old known.now path.now kept.old.items (view value.now)) }
     ensures stands { OnOk result (Stands kept.new) }
+    ensures scale { kept.new.scale ≡ kept.old.scale }
     ensures few { IfOk result (λ skipped. skipped ≤ 1) }
     ensures names { AreKept names.old names.new }
 {

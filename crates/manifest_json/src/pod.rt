@@ -72,22 +72,40 @@ fn tolerations(
 {
     let all = items(path, "/spec/tolerations", field_in(spec, "tolerations"))?;
     let few = hundred(path, "/spec/tolerations", all)?;
-    tolerations_of(alloc, names, path, few)
+    tolerations_of(alloc, names, path, "/spec/tolerations/", few)
+}
+
+/// The tolerations of pods that are alike, by the rules of a Pod's.
+#[tactic(auto, unfolding(crate::specs::Walk::tolerations_under))]
+pub fn read_tolerations(
+    alloc: Global,
+    names: &mut Names,
+    path: &Path,
+    value: &Value,
+) -> Result<Tolerations, ReadFault>
+    ensures gives { Gives (λ tolerations. (tolerations, names.new)) result
+        (walk.tolerations_under names.old path.now (view value.now)) }
+    ensures names { AreKept names.old names.new }
+{
+    let all = items(path, "/tolerations", field(value, "tolerations"))?;
+    let few = hundred(path, "/tolerations", all)?;
+    tolerations_of(alloc, names, path, "/tolerations/", few)
 }
 
 fn tolerations_of(
     alloc: Global,
     names: &mut Names,
     path: &Path,
+    key: &str,
     list: &[Value],
 ) -> Result<Tolerations, ReadFault>
     ensures gives { Gives (λ tolerations. (tolerations, names.new)) result
-        (walk.tolerations_from names.old path.now 0 [] (items_view list.now)) }
+        (walk.tolerations_from names.old path.now key.now 0 [] (items_view list.now)) }
     ensures names { AreKept names.old names.new }
 {
     let mut tolerations = Tolerations::new(alloc);
     for (place, item) in list.iter().enumerate() {
-        match toleration_in(names, path, place, item) {
+        match toleration_in(names, path, key, place, item) {
             Ok(toleration) => tolerations.push(toleration)?,
             Err(fault) => return Err(fault),
         }
@@ -98,14 +116,15 @@ fn tolerations_of(
 fn toleration_in(
     names: &mut Names,
     path: &Path,
+    key: &str,
     place: usize,
     value: &Value,
 ) -> Result<Toleration, ReadFault>
     ensures gives { Gives (λ toleration. (toleration, names.new)) result
-        (walk.toleration_at names.old (walk.member_path path.now (codes "/spec/tolerations/") place) (view value.now)) }
+        (walk.toleration_at names.old (walk.member_path path.now key.now place) (view value.now)) }
     ensures names { AreKept names.old names.new }
 {
-    let path = path.member("/spec/tolerations/", place)?;
+    let path = path.member(key, place)?;
     toleration(names, &path, value)
 }
 

@@ -2,6 +2,7 @@
 ghost use Rattle.std.specs.Prelude.{◌≡◌, ℕ, true, List, map, Ok, IfOk};
 ghost use Rattle.std.specs.List.{list_all};
 ghost use Rattle.serde_json.specs.View.{view};
+ghost use Rattle.manifest_json.specs.declared.scale.Scale.{Scale};
 ghost use Rattle.manifest_json.specs.Readable.{IsReadable};
 ghost use Rattle.manifest_json.specs.Walk.{list_walk};
 ghost use Rattle.manifest_json.specs.Written as written;
@@ -33,8 +34,8 @@ pub fn write_list(
 ) -> Result<Value, NoMemory>
     requires { list_all written.is_writable_item items.now ≡ true }
     ensures value { IfOk result (λ value. view value ≡ written.list_of names.now known.now items.now) }
-    ensures reads_back { IfOk result (λ value. IsReadable names.now known.now items.now → (path : List ℕ)
-        → list_walk names.now known.now path (view value) ≡ Ok ((items.now, 0), names.now)) }
+    ensures reads_back { IfOk result (λ value. (scale : Scale) → IsReadable scale names.now known.now items.now → (path : List ℕ)
+        → list_walk scale names.now known.now path (view value) ≡ Ok ((items.now, 0), names.now)) }
 {
     // Each number that is held has a text of its own.
     let _held = names.len();

@@ -1,6 +1,7 @@
 -- Objects that fit in one list have keys that differ, and no kind has too many of them.
-use Rattle.std.proofs.Common.{◌≡◌, ◌+◌, ◌<◌, ◌≤◌, ◌==◌, ◌||◌, not, nat_lt, Bool, true, false, cond, List, [], ◌∷◌, ◌++◌, map, refl, sym, subst, ◌∙◌, arith, append_assoc, ltb-true}
+use Rattle.std.proofs.Common.{◌≡◌, ℕ, ◌+◌, ◌<◌, ◌≤◌, ◌==◌, ◌||◌, not, nat_lt, Bool, true, false, cond, List, [], ◌∷◌, ◌++◌, map, refl, sym, subst, ◌∙◌, arith, append_assoc, ltb-true}
 use Rattle.std.specs.List.{AllByRecursion, IsDistinct}
+use Rattle.std.proofs.lemmas.Bool.{lt-ltb}
 use Rattle.std.proofs.lemmas.List.{append-nil}
 use Rattle.std.proofs.lemmas.List.Folds.{list_any-append}
 use Rattle.std.proofs.lemmas.List.Sums.{sum_by-append}
@@ -10,9 +11,12 @@ use Rattle.kube_objects.specs.declared.key.Key.{Key}
 use Rattle.kube_objects.specs.declared.key.Kind.{Kind}
 use Rattle.kube_objects.specs.declared.key.Kind.TheVariants as kinds
 use Rattle.kube_objects.specs.declared.object.Object.{Object}
-use Rattle.manifest_json.specs.Readable.{items_fit}
+use Rattle.manifest_json.specs.declared.scale.Scale.{Scale}
+use Rattle.manifest_json.specs.declared.scale.Scale.TheVariants as scales
+use Rattle.manifest_json.specs.Fields.{Texts}
+use Rattle.manifest_json.specs.Readable.{IsReadable, items_fit}
 use Rattle.manifest_json.specs.Walk.{has_key, kind_count, kind_limit}
-use Rattle.manifest_laws.proofs.ReadItems.{three}
+use Rattle.manifest_laws.proofs.ReadItems.{three, three_true}
 
 abbrev pub keys_of : List (Key × Object) → List Key
 keys_of items = map (λ item. item.0) items
@@ -39,17 +43,17 @@ new-parts earlier (y ∷ items) x all =
     let rest = new-parts earlier items x all.1 in
     ((both.0, rest.0), (one.0, rest.1))
 
-apart : (earlier items : List (Key × Object)) → items_fit earlier items ≡ true → IsDistinct key_eq (keys_of items) × AreNew earlier items
+apart : (scale : Scale) (earlier items : List (Key × Object)) → items_fit scale earlier items ≡ true → IsDistinct key_eq (keys_of items) × AreNew earlier items
 unfolding IsDistinct
-apart earlier [] fit = (tt, tt)
-apart earlier (x ∷ items) fit =
-    let parts = three (not (has_key x.0 earlier)) (nat_lt (kind_count x.0.kind earlier) (kind_limit x.0.kind)) (items_fit (earlier ++ x ∷ []) items) fit in
-    let rest = apart (earlier ++ x ∷ []) items parts.2 in
+apart scale earlier [] fit = (tt, tt)
+apart scale earlier (x ∷ items) fit =
+    let parts = three (not (has_key x.0 earlier)) (nat_lt (kind_count x.0.kind earlier) (kind_limit scale x.0.kind)) (items_fit scale (earlier ++ x ∷ []) items) fit in
+    let rest = apart scale (earlier ++ x ∷ []) items parts.2 in
     let new = new-parts earlier items x rest.1 in
     (IsDistinct-cons key_eq x.0 (keys_of items) new.1 rest.0, (not_true (has_key x.0 earlier) parts.0, new.0))
 
-pub keys-apart : (items : List (Key × Object)) → items_fit [] items ≡ true → IsDistinct key_eq (keys_of items)
-keys-apart items fit = (apart [] items fit).0
+pub keys-apart : (scale : Scale) (items : List (Key × Object)) → items_fit scale [] items ≡ true → IsDistinct key_eq (keys_of items)
+keys-apart scale items fit = (apart scale [] items fit).0
 
 -- ---- counts
 
@@ -57,28 +61,49 @@ keys-apart items fit = (apart [] items fit).0
 count-push : (kind : Kind) (items : List (Key × Object)) (x : Key × Object) → kind_count kind (items ++ x ∷ []) ≡ kind_count kind items + cond (kind_rank kind == kind_rank x.0.kind) 1 0
 count-push kind items x = sum_by-append (λ y. cond (kind_rank kind == kind_rank y.0.kind) 1 0) items (x ∷ []) ∙ omega arith
 
-few-push : (kind other : Kind) (items : List (Key × Object)) → kind_count kind items ≤ kind_limit kind → kind_count other items < kind_limit other
-    → kind_count kind items + cond (kind_rank kind == kind_rank other) 1 0 ≤ kind_limit kind
-few-push kinds.Node kinds.Node items few room = omega (arith, room)
-few-push kinds.Node kinds.Lease items few room = omega (arith, few)
-few-push kinds.Node kinds.Pod items few room = omega (arith, few)
-few-push kinds.Lease kinds.Node items few room = omega (arith, few)
-few-push kinds.Lease kinds.Lease items few room = omega (arith, room)
-few-push kinds.Lease kinds.Pod items few room = omega (arith, few)
-few-push kinds.Pod kinds.Node items few room = omega (arith, few)
-few-push kinds.Pod kinds.Lease items few room = omega (arith, few)
-few-push kinds.Pod kinds.Pod items few room = omega (arith, room)
+few-push : (scale : Scale) (kind other : Kind) (items : List (Key × Object)) → kind_count kind items ≤ kind_limit scale kind → kind_count other items < kind_limit scale other
+    → kind_count kind items + cond (kind_rank kind == kind_rank other) 1 0 ≤ kind_limit scale kind
+few-push scale kinds.Node kinds.Node items few room = omega (arith, room)
+few-push scale kinds.Node kinds.Lease items few room = omega (arith, few)
+few-push scale kinds.Node kinds.Pod items few room = omega (arith, few)
+few-push scale kinds.Lease kinds.Node items few room = omega (arith, few)
+few-push scale kinds.Lease kinds.Lease items few room = omega (arith, room)
+few-push scale kinds.Lease kinds.Pod items few room = omega (arith, few)
+few-push scale kinds.Pod kinds.Node items few room = omega (arith, few)
+few-push scale kinds.Pod kinds.Lease items few room = omega (arith, few)
+few-push scale kinds.Pod kinds.Pod items few room = omega (arith, room)
 
-few-after : (kind : Kind) (earlier items : List (Key × Object)) → items_fit earlier items ≡ true → kind_count kind earlier ≤ kind_limit kind → kind_count kind (earlier ++ items) ≤ kind_limit kind
-few-after kind earlier [] fit few = subst (λ xs. kind_count kind xs ≤ kind_limit kind) (sym (append-nil earlier)) few
-few-after kind earlier (x ∷ items) fit few =
-    let parts = three (not (has_key x.0 earlier)) (nat_lt (kind_count x.0.kind earlier) (kind_limit x.0.kind)) (items_fit (earlier ++ x ∷ []) items) fit in
-    let room = ltb-true (kind_count x.0.kind earlier) (kind_limit x.0.kind) parts.1 in
-    let one : kind_count kind (earlier ++ x ∷ []) ≤ kind_limit kind = omega (arith, count-push kind earlier x, few-push kind x.0.kind earlier few room) in
-    subst (λ xs. kind_count kind xs ≤ kind_limit kind) (append_assoc earlier (x ∷ []) items) (few-after kind (earlier ++ x ∷ []) items parts.2 one)
+few-after : (scale : Scale) (kind : Kind) (earlier items : List (Key × Object)) → items_fit scale earlier items ≡ true → kind_count kind earlier ≤ kind_limit scale kind → kind_count kind (earlier ++ items) ≤ kind_limit scale kind
+few-after scale kind earlier [] fit few = subst (λ xs. kind_count kind xs ≤ kind_limit scale kind) (sym (append-nil earlier)) few
+few-after scale kind earlier (x ∷ items) fit few =
+    let parts = three (not (has_key x.0 earlier)) (nat_lt (kind_count x.0.kind earlier) (kind_limit scale x.0.kind)) (items_fit scale (earlier ++ x ∷ []) items) fit in
+    let room = ltb-true (kind_count x.0.kind earlier) (kind_limit scale x.0.kind) parts.1 in
+    let one : kind_count kind (earlier ++ x ∷ []) ≤ kind_limit scale kind = omega (arith, count-push kind earlier x, few-push scale kind x.0.kind earlier few room) in
+    subst (λ xs. kind_count kind xs ≤ kind_limit scale kind) (append_assoc earlier (x ∷ []) items) (few-after scale kind (earlier ++ x ∷ []) items parts.2 one)
 
-pub kinds-few : (kind : Kind) (items : List (Key × Object)) → items_fit [] items ≡ true → kind_count kind items ≤ kind_limit kind
-kinds-few kind items fit = few-after kind [] items fit (least kind)
+pub kinds-few : (scale : Scale) (kind : Kind) (items : List (Key × Object)) → items_fit scale [] items ≡ true → kind_count kind items ≤ kind_limit scale kind
+kinds-few scale kind items fit = few-after scale kind [] items fit least
   where
-    least : (kind : Kind) → 0 ≤ kind_limit kind
-    least kind = omega arith
+    least : 0 ≤ kind_limit scale kind
+    least = omega arith
+
+-- ---- scales
+
+pub limits-grow : (scale : Scale) (kind : Kind) → kind_limit scale kind ≤ kind_limit scales.Large kind
+limits-grow scales.Usual kinds.Node = omega arith
+limits-grow scales.Usual kinds.Lease = omega arith
+limits-grow scales.Usual kinds.Pod = omega arith
+limits-grow scales.Large kind = omega arith
+
+-- what fits at a scale fits at the large one
+fits-large : (scale : Scale) (earlier items : List (Key × Object)) → items_fit scale earlier items ≡ true → items_fit scales.Large earlier items ≡ true
+fits-large scale earlier [] fit = refl
+fits-large scale earlier (x ∷ items) fit =
+    let parts = three (not (has_key x.0 earlier)) (nat_lt (kind_count x.0.kind earlier) (kind_limit scale x.0.kind)) (items_fit scale (earlier ++ x ∷ []) items) fit in
+    let room = ltb-true (kind_count x.0.kind earlier) (kind_limit scale x.0.kind) parts.1 in
+    three_true (not (has_key x.0 earlier)) (nat_lt (kind_count x.0.kind earlier) (kind_limit scales.Large x.0.kind)) (items_fit scales.Large (earlier ++ x ∷ []) items) parts.0
+    (lt-ltb (kind_count x.0.kind earlier) (kind_limit scales.Large x.0.kind) (omega (arith, room, limits-grow scale x.0.kind)))
+    (fits-large scale (earlier ++ x ∷ []) items parts.2)
+
+pub readable-large : (scale : Scale) (names : Texts) (known : List ℕ) (items : List (Key × Object)) → IsReadable scale names known items → IsReadable scales.Large names known items
+readable-large scale names known items h = record { each = h.each; fit = fits-large scale [] items h.fit }

@@ -17,8 +17,9 @@ use Rattle.kube_objects.specs.declared.object.Object.TheVariants as objects
 use Rattle.kube_objects.specs.declared.pod.Toleration.{Toleration}
 use Rattle.manifest_json.specs.declared.codes.TheConstants.{WRONG_JSON}
 use Rattle.manifest_json.specs.Fields.{Texts, is_label, field, field_in, object_at, parent_at, text_at, items_at}
+use Rattle.manifest_json.specs.declared.scale.Scale.{Scale}
 use Rattle.manifest_json.specs.Readable.{AreHeld, IsHeld, IsFilled, IsNameNumber, IsLabelNumber, IsTime, IsWholeSecond, IsReadableTaint, taints_differ, IsReadableReady, IsReadableLease, IsReadableToleration, IsNodeNumber, IsReadableItem, items_fit, IsReadable}
-use Rattle.manifest_json.specs.Walk.{name_text_at, space_text_at, name_at, space_at, spaced_key_at, label_at, effect_at, same_taint, taint_text_at, taint_key_at, text_number_at, taint_at, whole_second, member_path, taints_from, items_len, hundred, taints_at, status_at, ready_at, is_ready_type, condition_at, conditions_from, conditions_at, labels_at, node_at, lease_spec_at, lease_at, operator_at, any_effect_at, is_lawful, toleration_at, tolerations_from, tolerations_at, node_name_at, pod_at, of_kind_at, if_kind, item_at, object_walk, kind_limit, kind_count, has_key, with_found, with_item, list_step, list_from, list_walk}
+use Rattle.manifest_json.specs.Walk.{name_text_at, space_text_at, name_at, space_at, spaced_key_at, label_at, effect_at, same_taint, taint_text_at, taint_key_at, text_number_at, taint_at, whole_second, member_path, taints_from, items_len, hundred, taints_at, status_at, ready_at, is_ready_type, condition_at, conditions_from, conditions_at, labels_at, node_at, lease_spec_at, lease_at, operator_at, any_effect_at, is_lawful, toleration_at, tolerations_from, tolerations_at, tolerations_under, node_name_at, pod_at, of_kind_at, if_kind, item_at, object_walk, kind_limit, kind_count, has_key, with_found, with_item, list_step, list_from, list_walk}
 use Rattle.manifest_json.specs.Written.{is_writable, is_writable_taint, is_writable_condition, is_writable_item}
 use Rattle.manifest_laws.proofs.Getting.{Gets, done, refused, weaker, by_test, and_then, skip}
 use Rattle.manifest_laws.proofs.Growing.{Grows, Grows-none, Grows-then, IsHeld-grows}
@@ -223,13 +224,13 @@ toleration-reads names path value =
     (λ e. done _ (Grows-then k.0 t.0, record { key = IsHeld-grows t.0 key.0 k.1; value = t.1; seconds = s; lawful = e }))
     (λ e. refused _)))))))
 
-tolerations_from-reads : (names : Texts) (path : List ℕ) (place : ℕ) (earlier : List Toleration) (rest : Items) → AllByRecursion (IsReadableToleration names) earlier
-    → Reads names (λ ns ts. AllByRecursion (IsReadableToleration ns) ts × (length ts ≡ length earlier + items_len rest)) (tolerations_from names path place earlier rest)
+tolerations_from-reads : (names : Texts) (path key : List ℕ) (place : ℕ) (earlier : List Toleration) (rest : Items) → AllByRecursion (IsReadableToleration names) earlier
+    → Reads names (λ ns ts. AllByRecursion (IsReadableToleration ns) ts × (length ts ≡ length earlier + items_len rest)) (tolerations_from names path key place earlier rest)
 unfolding tolerations_from
-tolerations_from-reads names path place earlier no_items all = done _ (Grows-none names, (all, omega arith))
-tolerations_from-reads names path place earlier (item d rest) all =
-    and_then (toleration-reads names (member_path path (codes "/spec/tolerations/") place) d) (λ next n.
-    weaker (tolerations_from-reads next.1 path (place + 1) (earlier ++ next.0 ∷ []) rest (all-push _ earlier next.0 (all-weaker _ _ earlier (IsReadableToleration-grows n.0) all) n.1))
+tolerations_from-reads names path key place earlier no_items all = done _ (Grows-none names, (all, omega arith))
+tolerations_from-reads names path key place earlier (item d rest) all =
+    and_then (toleration-reads names (member_path path key place) d) (λ next n.
+    weaker (tolerations_from-reads next.1 path key (place + 1) (earlier ++ next.0 ∷ []) rest (all-push _ earlier next.0 (all-weaker _ _ earlier (IsReadableToleration-grows n.0) all) n.1))
     (λ r h. (Grows-then n.0 h.0, (h.1.0, omega (arith, h.1.1, length-append earlier (next.0 ∷ []))))))
 
 tolerations-reads : (names : Texts) (path : List ℕ) (spec : Option Data) → Reads names (λ ns ts. AllByRecursion (IsReadableToleration ns) ts × (length ts ≤ 100)) (tolerations_at names path spec)
@@ -237,7 +238,14 @@ unfolding tolerations_at
 tolerations-reads names path spec =
     skip (items_at (path ++ codes "/spec/tolerations") (field_in (codes "tolerations") spec)) (λ all.
     and_then (few-in (path ++ codes "/spec/tolerations") all) (λ few f.
-    weaker (tolerations_from-reads names path 0 [] few tt) (λ r h. (h.0, (h.1.0, omega (arith, h.1.1, f))))))
+    weaker (tolerations_from-reads names path (codes "/spec/tolerations/") 0 [] few tt) (λ r h. (h.0, (h.1.0, omega (arith, h.1.1, f))))))
+
+pub alike-reads : (names : Texts) (path : List ℕ) (d : Data) → Reads names (λ ns ts. AllByRecursion (IsReadableToleration ns) ts × (length ts ≤ 100)) (tolerations_under names path d)
+unfolding tolerations_under
+alike-reads names path d =
+    skip (items_at (path ++ codes "/tolerations") (field (codes "tolerations") d)) (λ all.
+    and_then (few-in (path ++ codes "/tolerations") all) (λ few f.
+    weaker (tolerations_from-reads names path (codes "/tolerations/") 0 [] few tt) (λ r h. (h.0, (h.1.0, omega (arith, h.1.1, f))))))
 
 node_name-reads : (names : Texts) (path : List ℕ) (spec : Option Data) → Reads names IsNodeNumber (node_name_at names path spec)
 unfolding node_name_at
@@ -301,53 +309,53 @@ three true true c h = (refl, refl, h)
 three true false c h = absurd cc
 three false b c h = absurd cc
 
-three_true : (a b c : Bool) → a ≡ true → b ≡ true → c ≡ true → (a && b && c) ≡ true
+pub three_true : (a b c : Bool) → a ≡ true → b ≡ true → c ≡ true → (a && b && c) ≡ true
 three_true a b c x y z = rw (x, y, z) refl
 
-abbrev has_room : List (Key × Object) → Key × Object → Bool
-has_room earlier x = nat_lt (kind_count x.0.kind earlier) (kind_limit x.0.kind)
+abbrev has_room : Scale → List (Key × Object) → Key × Object → Bool
+has_room scale earlier x = nat_lt (kind_count x.0.kind earlier) (kind_limit scale x.0.kind)
 
-items_fit-push : (earlier xs : List (Key × Object)) (x : Key × Object) → items_fit earlier xs ≡ true → has_key x.0 (earlier ++ xs) ≡ false → has_room (earlier ++ xs) x ≡ true → items_fit earlier (xs ++ x ∷ []) ≡ true
-items_fit-push earlier [] x fit new room =
+items_fit-push : (scale : Scale) (earlier xs : List (Key × Object)) (x : Key × Object) → items_fit scale earlier xs ≡ true → has_key x.0 (earlier ++ xs) ≡ false → has_room scale (earlier ++ xs) x ≡ true → items_fit scale earlier (xs ++ x ∷ []) ≡ true
+items_fit-push scale earlier [] x fit new room =
     let same = sym (append-nil earlier) in
-    three_true (not (has_key x.0 earlier)) (has_room earlier x) true (ap not (ap (has_key x.0) same ∙ new)) (ap (λ e. has_room e x) same ∙ room) refl
-items_fit-push earlier (y ∷ xs) x fit new room =
-    let parts = three (not (has_key y.0 earlier)) (has_room earlier y) (items_fit (earlier ++ y ∷ []) xs) fit in
+    three_true (not (has_key x.0 earlier)) (has_room scale earlier x) true (ap not (ap (has_key x.0) same ∙ new)) (ap (λ e. has_room scale e x) same ∙ room) refl
+items_fit-push scale earlier (y ∷ xs) x fit new room =
+    let parts = three (not (has_key y.0 earlier)) (has_room scale earlier y) (items_fit scale (earlier ++ y ∷ []) xs) fit in
     let same = append_assoc earlier (y ∷ []) xs in
-    three_true (not (has_key y.0 earlier)) (has_room earlier y) (items_fit (earlier ++ y ∷ []) (xs ++ x ∷ [])) parts.0 parts.1
-    (items_fit-push (earlier ++ y ∷ []) xs x parts.2 (ap (has_key x.0) same ∙ new) (ap (λ e. has_room e x) same ∙ room))
+    three_true (not (has_key y.0 earlier)) (has_room scale earlier y) (items_fit scale (earlier ++ y ∷ []) (xs ++ x ∷ [])) parts.0 parts.1
+    (items_fit-push scale (earlier ++ y ∷ []) xs x parts.2 (ap (has_key x.0) same ∙ new) (ap (λ e. has_room scale e x) same ∙ room))
 
-found-reads : (names : Texts) (known path : List ℕ) (items : List (Key × Object)) (found : Key × Object) → IsReadable names known items → IsReadableItem names known found → Gets (IsReadable names known) (with_found path items found)
-found-reads names known path items found all one =
+pub found-reads : (scale : Scale) (names : Texts) (known path : List ℕ) (items : List (Key × Object)) (found : Key × Object) → IsReadable scale names known items → IsReadableItem names known found → Gets (IsReadable scale names known) (with_found scale path items found)
+found-reads scale names known path items found all one =
     by_test (has_key found.0 items) _ _
     (λ e. refused _)
-    (λ e. by_test (has_room items found) _ _ (λ r. done _ (record { each = all-push _ items found all.each one; fit = items_fit-push [] items found all.fit e r })) (λ r. refused _))
+    (λ e. by_test (has_room scale items found) _ _ (λ r. done _ (record { each = all-push _ items found all.each one; fit = items_fit-push scale [] items found all.fit e r })) (λ r. refused _))
 
-with_item-reads : (names : Texts) (known path : List ℕ) (items : List (Key × Object)) (found : Option (Key × Object)) → IsReadable names known items → IsReadableIf known names found → Gets (λ r. IsReadable names known r.0) (with_item path items found)
-with_item-reads names known path items None all one = done _ all
-with_item-reads names known path items (Some found) all one = and_then (found-reads names known path items found all one) (λ more h. done _ h)
+with_item-reads : (scale : Scale) (names : Texts) (known path : List ℕ) (items : List (Key × Object)) (found : Option (Key × Object)) → IsReadable scale names known items → IsReadableIf known names found → Gets (λ r. IsReadable scale names known r.0) (with_item scale path items found)
+with_item-reads scale names known path items None all one = done _ all
+with_item-reads scale names known path items (Some found) all one = and_then (found-reads scale names known path items found all one) (λ more h. done _ h)
 
-pub IsReadable-grows : {a b : Texts} (g : Grows a b) (known : List ℕ) → AreHeld a known → (items : List (Key × Object)) → IsReadable a known items → IsReadable b known items
+pub IsReadable-grows : {scale : Scale} {a b : Texts} (g : Grows a b) (known : List ℕ) → AreHeld a known → (items : List (Key × Object)) → IsReadable scale a known items → IsReadable scale b known items
 IsReadable-grows g known held items h = record { each = all-weaker _ _ items (IsReadableItem-grows g known held) h.each; fit = h.fit }
 
-step-reads : (names : Texts) (known path : List ℕ) (items : List (Key × Object)) (d : Data) → AreHeld names known → IsReadable names known items → Reads names (λ ns r. IsReadable ns known r.0) (list_step names known path items d)
+step-reads : (scale : Scale) (names : Texts) (known path : List ℕ) (items : List (Key × Object)) (d : Data) → AreHeld names known → IsReadable scale names known items → Reads names (λ ns r. IsReadable scale ns known r.0) (list_step scale names known path items d)
 unfolding list_step
-step-reads names known path items d held all =
+step-reads scale names known path items d held all =
     and_then (item-reads names known path d held) (λ found f.
-    and_then (with_item-reads found.1 known path items found.0 (IsReadable-grows f.0 known held items all) f.1) (λ next n. done _ (f.0, n)))
+    and_then (with_item-reads scale found.1 known path items found.0 (IsReadable-grows f.0 known held items all) f.1) (λ next n. done _ (f.0, n)))
 
-from-reads : (names : Texts) (known path : List ℕ) (place : ℕ) (items : List (Key × Object)) (skipped : ℕ) (rest : Items) → AreHeld names known → IsReadable names known items
-    → Reads names (λ ns r. IsReadable ns known r.0) (list_from names known path place items skipped rest)
+from-reads : (scale : Scale) (names : Texts) (known path : List ℕ) (place : ℕ) (items : List (Key × Object)) (skipped : ℕ) (rest : Items) → AreHeld names known → IsReadable scale names known items
+    → Reads names (λ ns r. IsReadable scale ns known r.0) (list_from scale names known path place items skipped rest)
 unfolding list_from
-from-reads names known path place items skipped no_items held all = done _ (Grows-none names, all)
-from-reads names known path place items skipped (item d rest) held all =
-    and_then (step-reads names known (member_path path (codes "/items/") place) items d held all) (λ next n.
-    weaker (from-reads next.1 known path (place + 1) next.0.0 (skipped + next.0.1) rest (AreHeld-grows n.0 known held) n.1) (λ r h. (Grows-then n.0 h.0, h.1)))
+from-reads scale names known path place items skipped no_items held all = done _ (Grows-none names, all)
+from-reads scale names known path place items skipped (item d rest) held all =
+    and_then (step-reads scale names known (member_path path (codes "/items/") place) items d held all) (λ next n.
+    weaker (from-reads scale next.1 known path (place + 1) next.0.0 (skipped + next.0.1) rest (AreHeld-grows n.0 known held) n.1) (λ r h. (Grows-then n.0 h.0, h.1)))
 
 -- the objects of a List are readable with the names that are held then
-pub list-reads : (names : Texts) (known path : List ℕ) (value : Data) → AreHeld names known → Reads names (λ ns r. IsReadable ns known r.0) (list_walk names known path value)
+pub list-reads : (scale : Scale) (names : Texts) (known path : List ℕ) (value : Data) → AreHeld names known → Reads names (λ ns r. IsReadable scale ns known r.0) (list_walk scale names known path value)
 unfolding list_walk
-list-reads names known path value held = search (skip, from-reads) depth 6
+list-reads scale names known path value held = search (skip, from-reads) depth 6
 
 -- ---- what is readable can be written
 

@@ -56,6 +56,6 @@ module _ (names : Texts) (doc : Doc) (k : ℕ) (are : AreNames names) (lawful : 
           kept item.0 item.1 (stored item.0 (history doc k)) refl (sym (same item.0) ∙ found)
 
 pub states_readable : StatesAreReadable
-states_readable names doc are lawful named k within items ascend same few =
+states_readable names doc are lawful named k within items ascend same scale few =
     let apart = IsDistinct-from_sorted key_cmp (keys_of items) ascend in
-    items_readable names (numbers_of doc.controllers) items (each_kept names doc k are lawful named within items apart same) apart few
+    items_readable scale names (numbers_of doc.controllers) items (each_kept names doc k are lawful named within items apart same) apart few

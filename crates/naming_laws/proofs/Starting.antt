@@ -21,7 +21,8 @@ use Rattle.kube_objects.specs.Kubelet.{next_request, send_next, is_post_call, ro
 use Rattle.kube_objects.specs.Newest.{only_if, has}
 use Rattle.kube_objects.specs.Own.{IsOwn}
 use Rattle.kube_objects.proofs.Own.{expire_as-own, end_term-own}
-use Rattle.history.proofs.Own.{stop-own, react-own, ticks-own}
+use Rattle.history.proofs.Own.{stop-own, react-own}
+use Rattle.history.proofs.Ticks.{ticks_keep}
 use Rattle.kube_objects.specs.Pauses.{is_paused}
 use Rattle.kube_objects.specs.Process.{alive, call_in, counted, ended, is_late, is_restart_due, release_begun}
 use Rattle.kube_objects.specs.Stamps.{stamped}
@@ -209,7 +210,7 @@ module _ (doc : Doc) (lawful : IsLawfulDoc doc) where
       let s2 : Good h2 = good_expiry k p h1 (good_restart k p below (alive p h) h s) in
       let s3 : Good h3 = good_up p (λ q T. end_term doc k q (deadline doc q T) T) (λ q T s. good_end k q (deadline doc q T) T s) (alive p h2) h2 s2 in
       let s4 : Good h4 = good_up p (try doc k) (good_try k) (alive p h3) h3 s3 in
-      subst Good (sym (ticks-own doc own k p h4)) (good_up p (λ q T. (if (acts doc q k T) then tick doc k q T else T)) (λ q T s. good_tick k q (acts doc q k T) T s) (alive p h4) h4 s4)
+      ticks_keep doc k p h4 Good s4 (good_up p (λ q T. (if (acts doc q k T) then tick doc k q T else T)) (λ q T s. good_tick k q (acts doc q k T) T s) (alive p h4) h4 s4)
   good_turn k p below false h s =
       let h1 = expire doc k p h in
       good_up p (round doc k) (good_round k) (alive p h1) h1 (good_expiry k p h s)

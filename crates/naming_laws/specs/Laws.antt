@@ -12,6 +12,7 @@ use Rattle.kube_objects.specs.Stored.{Held, stored}
 use Rattle.kube_objects.specs.Writable.{IsWritable}
 use Rattle.history.specs.History.{history}
 use Rattle.history.specs.Printed.{printed}
+use Rattle.manifest_json.specs.declared.scale.Scale.{Scale}
 use Rattle.manifest_json.specs.Fields.{Texts}
 use Rattle.manifest_json.specs.Readable.{IsReadable}
 use Rattle.manifest_json.specs.Written.{is_writable_item}
@@ -46,7 +47,7 @@ StatesAreReadable =
     (names : Texts) (doc : Doc) → AreNames names → IsLawfulDoc doc → IsWellNamed names doc → (k : ℕ) → k ≤ end_beat doc + 1
     → (items : List (Key × Object)) → IsStrictlySortedBy key_cmp (keys_of items)
     → ((key : Key) → lookup (key_eq key) items ≡ option_map (λ x. x.object) (stored key (history doc k)))
-    → AreWithinLimits items → IsReadable names (numbers_of doc.controllers) items
+    → (scale : Scale) → AreWithinLimits scale items → IsReadable scale names (numbers_of doc.controllers) items
 
 -- so none of its times is after 2261, as `write_list` asks
 abbrev pub ItemsAreTimely : Type 0

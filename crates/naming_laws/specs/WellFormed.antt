@@ -10,6 +10,7 @@ use Rattle.kube_objects.specs.declared.object.Object.{Object}
 use Rattle.kube_objects.specs.declared.object.Object.TheVariants as object
 use Rattle.kube_objects.specs.declared.pod.Pod.{Pod}
 use Rattle.kube_objects.specs.Kinds.{IsOfKind}
+use Rattle.manifest_json.specs.declared.scale.Scale.{Scale}
 use Rattle.manifest_json.specs.Fields.{Texts}
 use Rattle.manifest_json.specs.Readable.{IsLabelNumber, IsNodeNumber, IsTime, IsCount, IsReadableTaint, IsReadableReady, IsReadableHolder, IsReadableToleration, taints_differ}
 use Rattle.manifest_json.specs.Walk.{kind_count, kind_limit}
@@ -56,7 +57,7 @@ IsWithinLimits (object.Node n) = length n.taints ≤ 100
 IsWithinLimits (object.Lease l) = Unit {0}
 IsWithinLimits (object.Pod p) = length p.tolerations ≤ 100
 
--- nor more objects of a kind than a document
-pub record AreWithinLimits (items : List (Key × Object)) : Type 0 where
+-- nor more objects of a kind than a document of this scale
+pub record AreWithinLimits (scale : Scale) (items : List (Key × Object)) : Type 0 where
   pub each : AllByRecursion (λ i. IsWithinLimits i.1) items
-  pub kinds : (kind : Kind) → kind_count kind items ≤ kind_limit kind
+  pub kinds : (kind : Kind) → kind_count kind items ≤ kind_limit scale kind

@@ -11,9 +11,8 @@ use Rattle.kube_objects.specs.Document.{Doc, of_seconds}
 use Rattle.kube_objects.specs.Entry.{Entry, Identity, actor_of}
 use Rattle.kube_objects.specs.Tick.{new_taint}
 use Rattle.kube_objects.specs.Tolerations.{first_tolerating, due_within, due_by, taint_due, earlier, least_due, due}
-use Rattle.kube_objects.proofs.Own.{is_stalled-own, has_settled-own}
 use Rattle.history.specs.Evictions.{due_on, due_of, pod_due, stored_due, due_for, IsDue, NoneDueWithin, NotEarlyAt, NotEarlyIn, after_turn}
-use Rattle.history.specs.History.{history, at_turn}
+use Rattle.history.specs.History.{history}
 use Rattle.history_laws.specs.Tails.{IsTail}
 use Rattle.history_laws.proofs.Plainly.{some_is, none_is}
 use Rattle.history_laws.proofs.Tailed.{tail_of_empty, same_head, same_rest}
@@ -87,7 +86,7 @@ pods_go doc own q t k seconds slow enough dated attended runs is le key kind d =
     none_due =
         subst (λ r. IsDue (wall doc q.process k) (stored_due r doc q key (after_turn doc q.process k)) → ⊥) (ap (λ r. r.evict_from) own.rules)
         (subst (λ n. NoneDueWithin n doc q k (after_turn doc q.process k)) (ap (λ r. r.evict_burst) own.rules)
-        (prompt doc own q k attended.0 (is_stalled-own doc own k) (has_settled-own doc own k q (at_turn doc q.process k)) attended.1 attended.2) key kind)
+        (prompt doc own q k attended.0 attended.4 attended.3 attended.1 attended.2) key kind)
 
     over : whole_second (wall doc q.process t) + seconds * 1000000 ≤ wall doc q.process k
     over = omega (

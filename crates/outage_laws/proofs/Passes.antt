@@ -13,7 +13,7 @@ use Rattle.kube_objects.specs.Newest.{newest, when, or_else}
 use Rattle.kube_objects.specs.Own.{IsOwn}
 use Rattle.kube_objects.specs.Seen.{is_fresh, synced_says, is_synced}
 use Rattle.kube_objects.specs.Tick.{add, whole_pass, phases, evicted, tainted, cleaned}
-use Rattle.kube_objects.proofs.Own.{has_settled-own, pass_period-own}
+use Rattle.kube_objects.proofs.Own.{pass_period-own}
 use Rattle.history.specs.Evictions.{after_turn}
 use Rattle.history.specs.History.{at_turn}
 use Rattle.history.specs.Steps.{elector_turn}
@@ -56,7 +56,7 @@ module _ (doc : Doc) (own : IsOwn doc) (q : Identity) (k : ℕ) (attended : IsAt
 
   synced : is_synced q (synced_at doc q k) ≡ true
   synced =
-      ap (λ b. is_synced q (if (b && (watches doc q.process h && not (is_fresh q h))) then add k q Sync h else h)) (has_settled-own doc own k q h)
+      ap (λ b. is_synced q (if (b && (watches doc q.process h && not (is_fresh q h))) then add k q Sync h else h)) (ready doc own q k attended).settled
       ∙ ap (λ b. is_synced q (if (b && not (is_fresh q h)) then add k q Sync h else h)) (ready doc own q k attended).watching
       ∙ by_test (is_fresh q h) refl
     where

@@ -17,7 +17,6 @@ use Rattle.kube_objects.specs.Seen.{is_fresh, node_names}
 use Rattle.kube_objects.specs.Stored.{Held, node_key, stored}
 use Rattle.kube_objects.specs.Tick.{add, has_settled, marks, set_mode, set_zones, whole_pass, evicted, tainted, cleaned}
 use Rattle.kube_objects.specs.Wire.{loses_requests}
-use Rattle.kube_objects.proofs.Own.{has_settled-own}
 use Rattle.history.specs.Evictions.{after_turn, stored_node}
 use Rattle.history.specs.History.{history, at_turn}
 use Rattle.history.specs.Steps.{elector_turn}
@@ -46,7 +45,7 @@ module _ (doc : Doc) (own : IsOwn doc) (q : Identity) (k : ℕ) (attended : IsAt
 
   synced : Synced q (synced_at doc q k)
   synced =
-      subst (λ b. Synced q (if (b && (watches doc q.process begun && not (is_fresh q begun))) then add k q Sync begun else begun)) (sym (has_settled-own doc own k q begun))
+      subst (λ b. Synced q (if (b && (watches doc q.process begun && not (is_fresh q begun))) then add k q Sync begun else begun)) (sym (ready doc own q k attended).settled)
       (subst (λ b. Synced q (if (b && not (is_fresh q begun)) then add k q Sync begun else begun)) (sym (ready doc own q k attended).watching) (by_test (is_fresh q begun) refl))
     where
       by_test : (b : Bool) → is_fresh q begun ≡ b → Synced q (if (not b) then add k q Sync begun else begun)

@@ -8,7 +8,6 @@ use Rattle.kube_objects.specs.Entry.{Entry, Identity, Ticks, actor_of, entry}
 use Rattle.kube_objects.specs.Identities.{identity, is_by}
 use Rattle.kube_objects.specs.Own.{IsOwn}
 use Rattle.kube_objects.specs.Tick.{tick}
-use Rattle.kube_objects.proofs.Own.{is_stalled-own}
 use Rattle.history.specs.Evictions.{after_turn}
 use Rattle.history.specs.History.{three_steps, history, at_turn}
 use Rattle.history.specs.Steps.{step_one, step_two, if_up, restart, expire, finish, elector_turn, ticks_while, controller_turn, kubelet_turn, unpaused_turn, turn, turns}
@@ -20,12 +19,12 @@ use Rattle.eviction_laws.proofs.Turns.{Ready, ready_at, still, ready_restart, re
 
 module _ (doc : Doc) (own : IsOwn doc) (q : Identity) (k : ℕ) where
   pub ready : IsAttended doc q k → Ready doc q k (elector_turn doc k q.process (at_turn doc q.process k))
-  ready (acting, watching, passing) =
+  ready (acting, watching, passing, settled, goes) =
       let h0 = at_turn doc q.process k in
       let h1 = restart doc k q.process h0 in
       let h2 = expire doc k q.process h1 in
       let h3 = finish doc k q.process h2 in
-      ready_attempts doc own q k h3 (ready_finish doc own q k h2 (ready_expire doc own q k h1 (ready_restart doc own q k h0 (ready_at doc own q k h0 acting.1 watching passing))))
+      ready_attempts doc own q k h3 (ready_finish doc own q k h2 (ready_expire doc own q k h1 (ready_restart doc own q k h0 (ready_at doc own q k h0 acting.1 watching passing settled))))
 
   -- its turn is that of its elector, and the tick
   pub turn_is : IsAttended doc q k → after_turn doc q.process k ≡ tick doc k q (elector_turn doc k q.process (at_turn doc q.process k))
@@ -35,7 +34,7 @@ module _ (doc : Doc) (own : IsOwn doc) (q : Identity) (k : ℕ) where
       let s = ready attended in
       ap (λ b. if b then h0 else unpaused_turn doc k q.process h0) s.awake
       ∙ ap (λ b. if b then controller_turn doc k q.process h0 else kubelet_turn doc k q.process h0) attended.0.0
-      ∙ ap (λ b. ticks_while b doc k q.process h) (is_stalled-own doc own k)
+      ∙ ap (λ b. ticks_while b doc k q.process h) attended.4
       ∙ ap (λ o. if_up q.process (λ q T. if (acts doc q k T) then tick doc k q T else T) o h) s.up
       ∙ ap (λ b. if b then tick doc k q h else h) (still doc own q k h s)
 

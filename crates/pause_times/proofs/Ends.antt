@@ -1,17 +1,23 @@
--- The end of the pause that a beat lies in is that of the last pause that has begun.
-use Rattle.std.proofs.Common.{◌≡◌, ◌<◌, ◌≤◌, ℕ, zero, suc, ◌+◌, ◌-◌, ◌++◌, ◌&&◌, nat_le, nat_lt, leb, Bool, true, false, List, [], ◌∷◌, Option, Some, None, length, get_or, refl, sym, ap, ◌∙◌, subst, leb-true, leb-false, arith}
+-- The end of the pause, or stall, that a beat lies in is that of the last one that has begun.
+use Rattle.std.proofs.Common.{◌≡◌, ◌<◌, ◌≤◌, ℕ, zero, suc, ◌+◌, ◌-◌, ◌++◌, ◌&&◌, nat_le, nat_lt, leb, Bool, true, false, List, [], ◌∷◌, Option, Some, None, length, get_or, take, append_assoc, refl, is_some, sym, ap, ◌∙◌, subst, leb-true, leb-false, arith}
 use Rattle.std.specs.List.Sorted.{IsPartitionPoint, IsNonDecreasingBy}
 use Rattle.std.proofs.lemmas.Bool.{ltb-true, ltb-false}
+use Rattle.std.proofs.lemmas.List.{append-nil, take_more}
+use Rattle.kube_base.specs.declared.numbers.Beat.{Beat}
 use Rattle.kube_objects.specs.declared.script.Event.{Event}
 use Rattle.kube_objects.specs.declared.script.What.{What}
 use Rattle.kube_objects.specs.Document.{Doc}
-use Rattle.kube_objects.specs.Newest.{when}
-use Rattle.kube_objects.specs.Pauses.{pause_of, end_of, last_pause, pause_end, wait_of, last_wait, reading_of, can_at}
+use Rattle.kube_objects.specs.Newest.{has, when}
+use Rattle.kube_objects.specs.Pauses.{pause_of, end_of, last_end, pause_end, wait_of, last_wait, reading_of, can_at}
+use Rattle.kube_objects.specs.Stalls.{stall_of, stall_end}
 use Rattle.kube_objects.proofs.Pauses.{or_earlier, both_none}
-use Rattle.history.specs.Sound.{IsApart, AreApartFrom, AreApart}
-use Rattle.pause_times.specs.declared.pauses.Pause.{Pause}
+use Rattle.history.specs.Sound.{IsApart}
+use Rattle.history.proofs.Pauses.{EndsApartFrom, EndsApart, pauses_apart, stalls_apart}
 use Rattle.pause_times.specs.declared.pauses.Pauses.{Pauses}
-use Rattle.pause_times.specs.Owned.{pause_from, pauses_of, PausesStand}
+use Rattle.pause_times.specs.declared.spans.Pause.{Pause}
+use Rattle.pause_times.specs.declared.stalls.Stalls.{Stalls}
+use Rattle.pause_times.specs.Owned.{beat_of, pause_from, spans_of, pauses_of, stalls_in, stalls_of, PausesStand, StallsStand}
+use Rattle.pause_times.specs.Spans.{end_in, last_in, AreInOrder}
 
 earlier-none : (x : Option ℕ) → x ≡ or_earlier x None
 earlier-none None = refl
@@ -19,52 +25,56 @@ earlier-none (Some k) = refl
 
 -- ---- what the list says
 
--- the end of a pause, where beat k lies in it
-abbrev pub end_in : ℕ → Pause → Option ℕ
-end_in k x = when (nat_le x.begins.0 k && nat_lt k x.ends.0) x.ends.0
-
-abbrev pub last_in : ℕ → List Pause → Option ℕ
-last_in k [] = None
-last_in k (x ∷ xs) = or_earlier (last_in k xs) (end_in k x)
-
-last-is : (p k : ℕ) (es : List Event) → last_in k (pauses_of p es) ≡ last_pause p k es
-last-is p k [] = refl
-last-is p k (e ∷ es) = cases (last-is p k es) (pause_of p e.what)
+last-is : (lasts : What → Option ℕ) (k : ℕ) (es : List Event) → last_in k (spans_of lasts es) ≡ last_end lasts k es
+last-is lasts k [] = refl
+last-is lasts k (e ∷ es) = cases (last-is lasts k es) (lasts e.what)
   where
-    cases : last_in k (pauses_of p es) ≡ last_pause p k es → (o : Option ℕ) → last_in k (pause_from e.beat o ++ pauses_of p es) ≡ or_earlier (last_pause p k es) (end_of k e.beat.0 o)
-    cases rest None = rest ∙ earlier-none (last_pause p k es)
+    cases : last_in k (spans_of lasts es) ≡ last_end lasts k es → (o : Option ℕ) → last_in k (pause_from e.beat o ++ spans_of lasts es) ≡ or_earlier (last_end lasts k es) (end_of k e.beat.0 o)
+    cases rest None = rest ∙ earlier-none (last_end lasts k es)
     cases rest (Some beats) = ap (λ o. or_earlier o (end_of k e.beat.0 (Some beats))) rest
 
 pub ends-are : (doc : Doc) (p k : ℕ) (x : Pauses) → PausesStand doc p x → last_in k x.all.items ≡ pause_end doc p k
-ends-are doc p k x s = ap (last_in k) s.all ∙ last-is p k doc.events
+ends-are doc p k x s = ap (last_in k) s.all ∙ last-is (pause_of p) k doc.events
+
+pub stalls-are : (doc : Doc) (k : ℕ) (x : Stalls) → StallsStand doc x → last_in k x.all.items ≡ stall_end doc k
+stalls-are doc k x s = ap (last_in k) s.all ∙ last-is stall_of k doc.events
+
+stalls-more : (es : List Event) (e : Event) → stalls_of (es ++ e ∷ []) ≡ stalls_of es ++ stalls_in e
+stalls-more [] e = append-nil (stalls_in e)
+stalls-more (x ∷ xs) e = ap (λ ps. stalls_in x ++ ps) (stalls-more xs e) ∙ sym (append_assoc (stalls_in x) (stalls_of xs) (stalls_in e))
+
+pub stalls-taken : (old new : List Pause) (es : List Event) (n : ℕ) (e : Event) → n < length es → e ≡ get_or es n e → old ≡ stalls_of (take n es) → new ≡ old ++ stalls_in e → new ≡ stalls_of (take (n + 1) es)
+stalls-taken old new es n e within is before more =
+    more
+    ∙ ap (λ xs. xs ++ stalls_in e) before
+    ∙ sym (stalls-more (take n es) e)
+    ∙ ap stalls_of (sym (take_more es n e within ∙ ap (λ y. take n es ++ y ∷ []) (sym is)))
 
 -- ---- they are in order
 
--- each begins no earlier than those before it are over
-abbrev pub AreInOrder : List Pause → Type 0
-AreInOrder [] = Unit {0}
-AreInOrder (x ∷ xs) = (x.begins.0 ≤ x.ends.0) × ((i : ℕ) (d : Pause) → i < length xs → x.ends.0 ≤ (get_or xs i d).begins.0) × AreInOrder xs
-
-begins-later : (p at n : ℕ) (w : What) (es : List Event) → AreApartFrom at w es → pause_of p w ≡ Some n → (i : ℕ) (d : Pause) → i < length (pauses_of p es) → at + n ≤ (get_or (pauses_of p es) i d).begins.0
-begins-later p at n w [] apart is i d lt = absurd (omega (arith, lt))
-begins-later p at n w (e ∷ es) apart is i d lt =
-    cases (begins-later p at n w es apart.1 is) (pause_of p e.what) (subst (λ o. IsApart at o e.beat.0 (pause_of p e.what)) is (apart.0 p)) i lt
+begins-later : (lasts : What → Option ℕ) (at n : ℕ) (w : What) (es : List Event) → EndsApartFrom lasts at w es → lasts w ≡ Some n → (i : ℕ) (d : Pause) → i < length (spans_of lasts es) → at + n ≤ (get_or (spans_of lasts es) i d).begins.0
+begins-later lasts at n w [] apart is i d lt = absurd (omega (arith, lt))
+begins-later lasts at n w (e ∷ es) apart is i d lt =
+    cases (begins-later lasts at n w es apart.1 is) (lasts e.what) (subst (λ o. IsApart at o e.beat.0 (lasts e.what)) is apart.0) i lt
   where
-    cases : ((i : ℕ) (d : Pause) → i < length (pauses_of p es) → at + n ≤ (get_or (pauses_of p es) i d).begins.0) → (o : Option ℕ) → IsApart at (Some n) e.beat.0 o → (i : ℕ) → i < length (pause_from e.beat o ++ pauses_of p es) → at + n ≤ (get_or (pause_from e.beat o ++ pauses_of p es) i d).begins.0
+    cases : ((i : ℕ) (d : Pause) → i < length (spans_of lasts es) → at + n ≤ (get_or (spans_of lasts es) i d).begins.0) → (o : Option ℕ) → IsApart at (Some n) e.beat.0 o → (i : ℕ) → i < length (pause_from e.beat o ++ spans_of lasts es) → at + n ≤ (get_or (pause_from e.beat o ++ spans_of lasts es) i d).begins.0
     cases rest None later i lt = rest i d lt
     cases rest (Some m) later zero lt = omega (arith, later)
     cases rest (Some m) later (suc i) lt = rest i d (omega (arith, lt))
 
-in-order : (p : ℕ) (es : List Event) → AreApart es → AreInOrder (pauses_of p es)
-in-order p [] apart = tt
-in-order p (e ∷ es) apart = cases (in-order p es apart.1) (pause_of p e.what) refl
+in-order : (lasts : What → Option ℕ) (es : List Event) → EndsApart lasts es → AreInOrder (spans_of lasts es)
+in-order lasts [] apart = tt
+in-order lasts (e ∷ es) apart = cases (in-order lasts es apart.1) (lasts e.what) refl
   where
-    cases : AreInOrder (pauses_of p es) → (o : Option ℕ) → pause_of p e.what ≡ o → AreInOrder (pause_from e.beat o ++ pauses_of p es)
+    cases : AreInOrder (spans_of lasts es) → (o : Option ℕ) → lasts e.what ≡ o → AreInOrder (pause_from e.beat o ++ spans_of lasts es)
     cases rest None is = rest
-    cases rest (Some n) is = (omega arith, begins-later p e.beat.0 n e.what es apart.0 is, rest)
+    cases rest (Some n) is = (omega arith, begins-later lasts e.beat.0 n e.what es apart.0 is, rest)
 
 pub pauses-in_order : (doc : Doc) (p : ℕ) (x : Pauses) → PausesStand doc p x → AreInOrder x.all.items
-pauses-in_order doc p x s = subst AreInOrder (sym s.all) (in-order p doc.events s.apart)
+pauses-in_order doc p x s = subst AreInOrder (sym s.all) (in-order (pause_of p) doc.events (pauses_apart p doc.events s.apart))
+
+pub stalls-in_order : (doc : Doc) (x : Stalls) → StallsStand doc x → AreInOrder x.all.items
+stalls-in_order doc x s = subst AreInOrder (sym s.all) (in-order stall_of doc.events (stalls_apart doc.events s.apart))
 
 pub rising : (xs : List Pause) → AreInOrder xs → IsNonDecreasingBy (λ (x : Pause). x.begins.0) xs
 rising [] o i j d below inside = absurd (omega (arith, inside))
@@ -146,3 +156,8 @@ none-left (x ∷ xs) is = absurd (omega (arith, is))
 
 pub can-idle : (doc : Doc) (p at : ℕ) (x : Pauses) → PausesStand doc p x → length x.all.items ≡ 0 → can_at doc p at ≡ at
 can-idle doc p at x s none = ap (reading_of doc p at) (no-wait doc p at doc.events (sym s.all ∙ none-left x.all.items none))
+
+-- whether there is one
+pub has-end : (o : Option Beat) (at : Option ℕ) → beat_of o ≡ at → is_some o ≡ has at
+has-end None at is = ap has is
+has-end (Some end) at is = ap has is

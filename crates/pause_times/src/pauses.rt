@@ -5,17 +5,11 @@ ghost use Rattle.kube_objects.specs.Pauses.{can_at as can_of, is_paused as is_pa
 ghost use Rattle.pause_times.specs.Clocked.{IsClockOf};
 ghost use Rattle.pause_times.specs.Owned.{PausesStand, beat_of, pauses_in};
 
+use crate::spans::{Pause, end_among};
 use kube_base::{Beat, Local, NoMemory, ProcId};
 use kube_objects::{Event, What};
 use skew_clock::Clock;
 use std::alloc::Global;
-
-/// A pause: the beat at which it begins, and the one at which it is over.
-#[derive(Clone, Copy, Debug)]
-pub struct Pause {
-    pub begins: Beat,
-    pub ends: Beat,
-}
 
 /// A process's pauses in the order of their beats. None begins before the one before it is over.
 #[derive(Drop)]
@@ -51,16 +45,7 @@ impl Pauses {
     pub fn end_at(&self, beat: Beat) -> Option<Beat>
         ensures { (doc : Doc) (p : ℕ) → PausesStand doc p self.now → beat_of result ≡ pause_end doc p beat.0 }
     {
-        let begun = self.all.partition_point(|pause| pause.begins.0 <= beat.0);
-        if begun == 0 {
-            return None;
-        }
-        let last = self.all[begun - 1];
-        if beat.0 < last.ends.0 {
-            Some(last.ends)
-        } else {
-            None
-        }
+        end_among(&self.all, beat)
     }
 
     /// Whether the process is paused at a beat.

@@ -14,6 +14,7 @@ use Rattle.kube_objects.specs.declared.object.Object.{Object}
 use Rattle.kube_objects.specs.declared.object.Object.TheVariants as objects
 use Rattle.kube_objects.specs.declared.pod.Pod.{Pod}
 use Rattle.manifest_json.specs.declared.codes.TheConstants.{TOP_SHAPE, WRONG_JSON}
+use Rattle.manifest_json.specs.declared.scale.Scale.TheVariants as scales
 use Rattle.manifest_json.specs.Fields.{Texts, field, field_in, items_at, parent_at, text_at, time_at}
 use Rattle.manifest_json.specs.Readable.{IsReadable, IsReadableItem}
 use Rattle.manifest_json.specs.Walk.{kind_count, member_path}
@@ -120,10 +121,10 @@ all-sound names ((key, objects.Node n) ∷ items) h = (h.0.kind, all-sound names
 all-sound names ((key, objects.Lease l) ∷ items) h = (tt, all-sound names items h.1)
 all-sound names ((key, objects.Pod p) ∷ items) h = ((h.0.kind, h.0.few), all-sound names items h.1)
 
-start-fits : (names : Texts) (items : List (Key × Object)) → IsReadable names [] items → Fit no_rows items
+start-fits : (names : Texts) (items : List (Key × Object)) → IsReadable scales.Usual names [] items → Fit no_rows items
 start-fits names items h = record {
-  nodes = omega (arith, kinds-few kinds.Node items h.fit);
-  pods = omega (arith, kinds-few kinds.Pod items h.fit);
+  nodes = omega (arith, kinds-few scales.Usual kinds.Node items h.fit);
+  pods = omega (arith, kinds-few scales.Usual kinds.Pod items h.fit);
   few = All-nil HasFew;
   sound = all-sound names items h.each;
 }
@@ -131,7 +132,7 @@ start-fits names items h = record {
 list-fits : (names : Texts) (d : Data) → Gets FewRows (rows_in names d)
 unfolding rows_in
 list-fits names d =
-    and_then (list-reads names [] (codes "/objects") d tt) (λ found h.
+    and_then (list-reads scales.Usual names [] (codes "/objects") d tt) (λ found h.
     skip (items_at (codes "/objects/items") (field (codes "items") d)) (λ items. rows-fit found.1 0 no_rows found.0.0 items (start-fits found.1 found.0.0 h.1)))
 
 needed-fits : (names : Texts) (o : Option Data) → Gets FewRows (required (codes "/objects") (rows_in names) o)

@@ -18,6 +18,7 @@ use Rattle.kube_objects.specs.declared.object.Object.TheVariants as objects
 use Rattle.kube_objects.specs.declared.pod.Pod.{Pod}
 use Rattle.manifest_json.specs.declared.codes.TheConstants.{WRONG_JSON}
 use Rattle.manifest_json.specs.declared.fault.Refusal.{Refusal}
+use Rattle.manifest_json.specs.declared.scale.Scale.TheVariants as scales
 use Rattle.manifest_json.specs.Faults.{◌>>=◌}
 use Rattle.manifest_json.specs.Fields.{Texts, field, field_in, parent_at, text_at, items_at, time_at, numbered}
 use Rattle.manifest_json.specs.Walk.{whole_second, kind_from, is_text, list_walk, member_path}
@@ -148,6 +149,6 @@ rows_from names place rows found (item d rest) = do
 -- the Nodes and Pods of the value of `objects`. No holder of a Lease is an identity.
 unfoldable pub rows_in : Texts → Data → Result (Rows × Texts) Refusal
 rows_in names d = do
-  found ← list_walk names [] (codes "/objects") d
+  found ← list_walk scales.Usual names [] (codes "/objects") d
   items ← items_at (codes "/objects/items") (field (codes "items") d)
   rows_from found.1 0 no_rows found.0.0 items

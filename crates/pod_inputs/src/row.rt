@@ -13,7 +13,7 @@ use kube_base::{Names, Wall, whole_second};
 use kube_objects::{Key, Kind, Node, Object, Pod};
 use manifest_json::codes::WRONG_JSON;
 use manifest_json::field::{field, field_in, items, parent, text, time};
-use manifest_json::{Path, ReadFault, kind_of, read_list};
+use manifest_json::{Path, ReadFault, Scale, kind_of, read_list};
 use pod_tools::{NodeRow, NodeRows, PodRow, PodRows};
 use script_reader::field::{member_of, path_of};
 use serde_json::Value;
@@ -32,7 +32,7 @@ pub(crate) fn rows_in(alloc: Global, names: &mut Names, value: &Value) -> Result
     ensures { Gives (λ rows. (rows, names.new)) result (spec.rows_in names.old (view value.now)) }
 {
     let path = path_of(alloc, "/objects")?;
-    let found = read_list(alloc, names, &[], value, &path)?;
+    let found = read_list(alloc, Scale::Usual, names, &[], value, &path)?;
     let list = items(&path, "/items", field(value, "items"))?;
     rows_of(alloc, names, found.items.as_slice(), list)
 }

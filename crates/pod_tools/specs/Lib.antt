@@ -1,4 +1,5 @@
 pub mod Collected
 pub mod Feasible
+pub mod Judged
 pub mod Readiness
 pub mod Texts

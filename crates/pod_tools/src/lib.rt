@@ -3,6 +3,7 @@
 
 mod collecting;
 mod defaults;
+mod judged;
 mod oldest;
 mod pick_lines;
 mod placement_lines;

@@ -3,7 +3,9 @@ ghost use Rattle.std.specs.Prelude.{◌≡◌, ◌≤◌, ◌++◌, length, IfOk
 ghost use Rattle.std.specs.List.{list_any, list_all};
 ghost use Rattle.kube_objects.specs.Tolerations.{tolerates};
 ghost use Rattle.pod_tools.specs.Feasible as spec;
+ghost use Rattle.pod_tools.specs.Judged.{AreRight};
 
+use crate::judged::Judgements;
 use crate::{NodeRow, PlaceInput, PodRow, defaulted};
 use kube_base::{ListOf, NoMemory};
 use kube_objects::{Effect, NumberList, Taint, Toleration, Tolerations};
@@ -27,10 +29,12 @@ pub fn place(alloc: Global, input: &PlaceInput) -> Result<Placements, NoMemory>
     ensures { IfOk result (λ placements. placements ≡ spec.placed input.now.nodes input.now.pods) }
 {
     let mut placements = Placements::new(alloc);
+    let mut judgements = Judgements::new(alloc)?;
     for (place, row) in input.pods.as_slice().iter().enumerate() {
         add_placement(
             alloc,
             &mut placements,
+            &mut judgements,
             input.nodes.as_slice(),
             place as u32,
             row,
@@ -43,19 +47,44 @@ pub fn place(alloc: Global, input: &PlaceInput) -> Result<Placements, NoMemory>
 fn add_placement(
     alloc: Global,
     placements: &mut Placements,
+    judgements: &mut Judgements,
     nodes: &[NodeRow],
     place: u32,
     row: &PodRow,
 ) -> Result<(), NoMemory>
     requires nodes { length nodes.now ≤ 1000 }
     requires tolerations { spec.HasFew row.now }
-    ensures { OnOk result (placements.new ≡ placements.old ++ spec.placement_for nodes.now place row.now) }
+    requires right { AreRight nodes.now judgements.now }
+    ensures added { OnOk result (placements.new ≡ placements.old ++ spec.placement_for nodes.now place row.now) }
+    ensures right { OnOk result (AreRight nodes.now judgements.new) }
 {
     if row.pod.node != 0 {
         return Ok(());
     }
-    let placement = placement_of(alloc, nodes, place, &row.pod.tolerations)?;
+    let placement = placement_by(alloc, judgements, nodes, place, &row.pod.tolerations)?;
     placements.push(placement)
+}
+
+/// The answer for the pod at a place: that for a pod with equal tolerations, where it is remembered.
+fn placement_by(
+    alloc: Global,
+    judgements: &mut Judgements,
+    nodes: &[NodeRow],
+    pod: u32,
+    given: &Tolerations,
+) -> Result<Placement, NoMemory>
+    requires nodes { length nodes.now ≤ 1000 }
+    requires tolerations { length given.now ≤ 100 }
+    requires right { AreRight nodes.now judgements.now }
+    ensures placement { IfOk result (λ p. p ≡ spec.placement nodes.now pod given.now) }
+    ensures right { OnOk result (AreRight nodes.now judgements.new) }
+{
+    if let Some(placement) = judgements.recall(pod, given)? {
+        return Ok(placement);
+    }
+    let placement = placement_of(alloc, nodes, pod, given)?;
+    judgements.remember(given, &placement)?;
+    Ok(placement)
 }
 
 /// The answer for the pod at a place.

@@ -23,6 +23,7 @@ use Rattle.kube_objects.specs.Stored.{Held, Write, at_key, holds, last_write, st
 use Rattle.history.specs.History.{history}
 use Rattle.kube_base.specs.Names.{AreNames}
 use Rattle.manifest_json.specs.Readable.{IsReadable}
+use Rattle.manifest_json.specs.declared.scale.Scale.{Scale}
 use Rattle.naming_laws.specs.WellFormed.{AreWithinLimits}
 use Rattle.naming_laws.proofs.Kept.{states_readable}
 use Rattle.object_store.specs.StoreAnswers.{object_of}
@@ -253,10 +254,10 @@ as_objects (Some x) = refl
 
 -- within the limits it is such as a List gives
 pub state-readable : (names : List (List ℕ)) (doc : Doc) (k : ℕ) → AreNames names → IsLawfulDoc doc → IsWellNamed names doc → k ≤ end_beat doc + 1
-    → AreWithinLimits (stored_after (history doc k)) → IsReadable names (numbers_of doc.controllers) (stored_after (history doc k))
-state-readable names doc k are lawful named within few =
+    → (scale : Scale) → AreWithinLimits scale (stored_after (history doc k)) → IsReadable scale names (numbers_of doc.controllers) (stored_after (history doc k))
+state-readable names doc k are lawful named within scale few =
     let h = history doc k in
-    states_readable names doc are lawful named k within (stored_after h) (ordered_at h h) (λ q. lookups h q ∙ as_objects (stored q h)) few
+    states_readable names doc are lawful named k within (stored_after h) (ordered_at h h) (λ q. lookups h q ∙ as_objects (stored q h)) scale few
 
 pub ok-then : {A E : Type 0} {P Q : Type 0} (r : Result A E) → (P → Q) → IfOk r (λ x. P) → IfOk r (λ x. Q)
 ok-then (Ok x) then holds = then holds

@@ -11,6 +11,7 @@ use Rattle.kube_objects.specs.Entry.{Entry}
 use Rattle.kube_objects.specs.Keys.{key_cmp}
 use Rattle.kube_objects.specs.Stored.{Held, Write, stored, write_of}
 use Rattle.history.specs.History.{history}
+use Rattle.manifest_json.specs.declared.scale.Scale.{Scale}
 use Rattle.manifest_json.specs.Fields.{Texts}
 use Rattle.manifest_json.specs.Readable.{IsReadable}
 use Rattle.manifest_json.specs.Walk.{list_walk}
@@ -61,14 +62,14 @@ state_text d b = line_of (state_list d b)
 -- skipped and no new name, wherever it stands in a document with the same names
 pub record IsReadAgain (names : Texts) (known : List ℕ) (items : List (Key × Object)) : Type 0 where
   pub text : read (compact_text (list_of names known items)) ≡ Some (list_of names known items)
-  pub list : IsReadable names known items → (path : List ℕ)
-      → list_walk names known path (list_of names known items) ≡ Ok ((items, 0), names)
+  pub list : (scale : Scale) → IsReadable scale names known items → (path : List ℕ)
+      → list_walk scale names known path (list_of names known items) ≡ Ok ((items, 0), names)
 
--- The line of a state is read so too, where it passes no limit of a document's on objects, taints and tolerations
+-- The line of a state is read so too, at a scale whose limits on objects it doesn't pass, nor those on taints and tolerations
 pub record IsReadBack (names : Texts) (known : List ℕ) (items : List (Key × Object)) : Type 0 where
   pub text : read (compact_text (list_of names known items)) ≡ Some (list_of names known items)
-  pub list : AreWithinLimits items → (path : List ℕ)
-      → list_walk names known path (list_of names known items) ≡ Ok ((items, 0), names)
+  pub list : (scale : Scale) → AreWithinLimits scale items → (path : List ℕ)
+      → list_walk scale names known path (list_of names known items) ≡ Ok ((items, 0), names)
 
 abbrev pub ReadsBack : Document → ℕ → Type 0
 ReadsBack d b = IsReadBack d.names (numbers_of d.controllers) (state (doc_of d) b)

@@ -1,5 +1,5 @@
 -- Judgement at passes: pushes, the queue, buckets that start full, and what a term first sees.
-use Rattle.std.specs.Prelude.{◌≡◌, ℕ, true, false, List, [], ◌∷◌, ◌++◌}
+use Rattle.std.specs.Prelude.{ℕ, true, false, List, [], ◌∷◌, ◌++◌}
 use Rattle.kube_objects.specs.declared.deed.Act.TheVariants as act
 use Rattle.kube_objects.specs.declared.deed.Deed.{Deed}
 use Rattle.kube_objects.specs.declared.node.ReadyStatus.TheVariants as ready

@@ -1,5 +1,5 @@
 -- What the worked examples of rules are made of: the clusters of the other examples, with some rules set.
-use Rattle.std.specs.Prelude.{◌≡◌, ℕ, ◌+◌, ◌*◌, Bool, false, List, [], ◌∷◌, ◌++◌}
+use Rattle.std.specs.Prelude.{◌≡◌, ℕ, ◌+◌, ◌*◌, Bool, false, List}
 use Rattle.kube_base.specs.declared.numbers.Wall.{Wall}
 use Rattle.kube_objects.specs.declared.deed.Deed.{Deed}
 use Rattle.kube_objects.specs.declared.rules.Rules.{Rules}

@@ -4,4 +4,5 @@ pub mod Loops
 pub mod Named
 pub mod OwnDocuments
 pub mod Parsed
+mod SetLoops
 mod Walks

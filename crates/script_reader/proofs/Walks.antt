@@ -14,7 +14,7 @@ use Rattle.manifest_json.specs.Faults.{◌>>=◌, Fails, Gives}
 use Rattle.manifest_json.specs.Fields.{Texts}
 use Rattle.script_reader.specs.declared.table.Version.{Version}
 use Rattle.script_reader.specs.Fields.{default_of, required}
-use Rattle.script_reader.specs.Walk.{Team, settings_at, controllers_in, kubelets_in, objects_in, no_objects, numbers_of, cast_of, scope_of, version_in, top_in, events_at, document_at}
+use Rattle.script_reader.specs.Walk.{Team, settings_at, controllers_in, kubelets_in, objects_at, numbers_of, cast_of, scope_of, version_in, top_in, events_at, document_at}
 
 then-fails : {A B : Type 0} (e : ReadFault) (walk : Result A Refusal) (x : A) (f : A → Result B Refusal) → walk ≡ Ok x → Fails e (f x) → Fails e (walk >>= f)
 then-fails e walk x f is h = subst (λ r. Fails e (r >>= f)) (sym is) h
@@ -28,8 +28,8 @@ module _ (e : ReadFault) (d : Data) (version : Version) (settings : Settings) (c
   pub events-fail : (names : Texts) (known : List ℕ) → names ≡ fixed_names → known ≡ numbers_of c.0.0 → top_in d ≡ Ok d → required (codes "/version") version_in (get (codes "version") d) ≡ Ok version
       → required (codes "/settings") (settings_at version (codes "/settings")) (get (codes "settings") d) ≡ Ok settings
       → required (codes "/controllers") (controllers_in version settings names) (get (codes "controllers") d) ≡ Ok c
-      → default_of ([], c.1) (kubelets_in settings c.1) (get (codes "kubelets") d) ≡ Ok k
-      → default_of (no_objects, k.1) (objects_in k.1 known) (get (codes "objects") d) ≡ Ok o
+      → default_of ([], c.1) (kubelets_in version settings c.1) (get (codes "kubelets") d) ≡ Ok k
+      → objects_at version k.1 known d ≡ Ok o
       → Fails e (events_at (scope_of version settings) (cast_of c.0.0 k.0) o.1 d) → Fails e (document_at d)
   unfolding document_at
   events-fail names known fixed numbers top of_version of_settings of_controllers of_kubelets of_objects h =
@@ -38,5 +38,5 @@ module _ (e : ReadFault) (d : Data) (version : Version) (settings : Settings) (c
       (then-fails e _ settings _ of_settings
       (then-fails e _ c _ (subst (λ names. required (codes "/controllers") (controllers_in version settings names) (get (codes "controllers") d) ≡ Ok c) fixed of_controllers)
       (then-fails e _ k _ of_kubelets
-      (then-fails e _ o _ (subst (λ known. default_of (no_objects, k.1) (objects_in k.1 known) (get (codes "objects") d) ≡ Ok o) numbers of_objects)
+      (then-fails e _ o _ (subst (λ known. objects_at version k.1 known d ≡ Ok o) numbers of_objects)
       (Fails-then e _ _ h))))))

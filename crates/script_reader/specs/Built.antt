@@ -25,7 +25,6 @@ if_own presets.Upstream136 path d = refuse NOT_BUILT (under path (codes "rules")
 
 unfoldable pub judging_built : List ℕ → Data → Result Data Refusal
 judging_built path d = do
-  first_sync_millis ← unless_there path (codes "firstSyncMillis") d
   probe ← unless_there path (codes "probe") d
   judge ← unless_there path (codes "judge") d
   unless_there path (codes "firstSight") d

@@ -10,7 +10,7 @@ use Rattle.script_reader.specs.Walk.{Cast, cast_of, numbers_of}
 pub record Stands (n : Named) : Type 0 where
   pub numbers : n.numbers ≡ numbers_of n.procs
   pub places : (q : ℕ) → get nat_cmp n.places q ≡ position (λ other. q == other) (numbers_of n.procs)
-  pub few : length n.procs ≤ 1000
+  pub few : length n.procs ≤ 15000
 
 -- the processes that events may name
 abbrev pub seen : Players → Cast

@@ -15,9 +15,10 @@ use Rattle.kube_objects.specs.declared.settings.Settings.{Settings}
 use Rattle.kube_objects.specs.Document.{Doc, is_controller, processes, end_beat}
 use Rattle.kube_objects.specs.Keys.{key_eq}
 use Rattle.kube_objects.specs.Kinds.{IsOfKind}
-use Rattle.kube_objects.specs.Own.{own_but_elections}
+use Rattle.kube_objects.specs.Own.{own_but_built}
 use Rattle.kube_objects.specs.Stored.{election}
 use Rattle.history.specs.Sound.{AreApart}
+use Rattle.manifest_json.specs.declared.scale.Scale.TheVariants as scales
 use Rattle.manifest_json.specs.Fields.{Texts}
 use Rattle.manifest_json.specs.Readable.{IsNameNumber, IsReadableItem, AreKeyedApart, IsReadable}
 use Rattle.manifest_json.specs.Walk.{kind_count, kind_limit}
@@ -52,8 +53,8 @@ pub record AreLawful (s : Settings) : Type 0 where
   pub secondary : s.secondary_rate ≤ s.primary_rate
   pub large_zone : s.large_zone ≤ 1000000
   pub percent : s.unhealthy_percent ≤ 100
-  -- but for those of elections, any other rule is refused as not built
-  pub rules : s.rules ≡ own_but_elections s.rules
+  -- but for those of elections, and how long a term waits with its first sync, any other rule is refused as not built
+  pub rules : s.rules ≡ own_but_built s.rules
   pub renew_within_lease : s.renew_deadline_millis < s.lease_duration_seconds * 1000
   pub retry_within_renew : 6 * s.retry_period_millis < 5 * s.renew_deadline_millis
 
@@ -91,8 +92,7 @@ pub record AreWaits (waits : List ℕ) : Type 0 where
 abbrev pub AreNamedApart : List Proc → Type 0
 AreNamedApart procs = IsDistinct (λ a b. a == b) (numbers_of procs)
 
--- an event names processes of the document of the right sort, has its ranges, and leaves the election Lease alone; none stops the store,
--- since that is refused as not built
+-- an event names processes of the document of the right sort, has its ranges, and leaves the election Lease alone
 abbrev pub IsLawfulWhat : Doc → What → Type 0
 IsLawfulWhat doc (Rate id ppm) = (id.0 < processes doc) × (500000 ≤ ppm) × (ppm ≤ 2000000)
 IsLawfulWhat doc (Delay id requests replies) =
@@ -104,7 +104,7 @@ IsLawfulWhat doc (Stop id) = is_controller doc id.0 ≡ true
 IsLawfulWhat doc (Watch id on) = is_controller doc id.0 ≡ true
 IsLawfulWhat doc (Ready id status) = (is_controller doc id.0 ≡ false) × (id.0 < processes doc) × IsPosted status
 IsLawfulWhat doc (Pause id beats) = (id.0 < processes doc) × (1 ≤ beats) × (beats ≤ 604800000)
-IsLawfulWhat doc (Stall beats) = ⊥
+IsLawfulWhat doc (Stall beats) = (1 ≤ beats) × (beats ≤ 604800000)
 IsLawfulWhat doc (Put key object) = (key_eq key election ≡ false) × IsOfKind key object
 IsLawfulWhat doc (Remove key) = key_eq key election ≡ false
 
@@ -124,13 +124,13 @@ pub record IsLawfulDoc (doc : Doc) : Type 0 where
   pub waits : All AreWaits doc.waits
   pub waits_each : length doc.waits ≡ length doc.controllers
   pub kubelets : All IsLawful doc.kubelets
-  pub few_kubelets : length doc.kubelets ≤ 1000
+  pub few_kubelets : length doc.kubelets ≤ 15000
   pub kubelets_apart : AreNamedApart doc.kubelets
   pub objects : All (λ item. IsOfKind item.0 item.1) doc.objects
   pub objects_apart : AreKeyedApart doc.objects
-  pub few_objects : (kind : Kind) → kind_count kind doc.objects ≤ kind_limit kind
+  pub few_objects : (kind : Kind) → kind_count kind doc.objects ≤ kind_limit scales.Large kind
   pub events : AreLawfulFrom doc 0 doc.events
-  pub few_events : length doc.events ≤ 100000
+  pub few_events : length doc.events ≤ 1000000
   pub apart : AreApart doc.events
 
 -- ---- names
@@ -156,5 +156,5 @@ IsReadableWhat names known _ = Unit {0}
 pub record IsWellNamed (names : Texts) (doc : Doc) : Type 0 where
   pub controllers : All (λ p. IsNameNumber names p.name) doc.controllers
   pub kubelets : All (λ p. IsNameNumber names p.name) doc.kubelets
-  pub objects : IsReadable names (numbers_of doc.controllers) doc.objects
+  pub objects : IsReadable scales.Large names (numbers_of doc.controllers) doc.objects
   pub events : All (λ e. IsReadableWhat names (numbers_of doc.controllers) e.what) doc.events

@@ -6,8 +6,11 @@ pub mod Documents
 pub mod Fields
 pub mod Lawful
 pub mod Leases
+pub mod Limits
 pub mod Rules
 pub mod Scripts
+pub mod SetParts
+pub mod Sets
 pub mod Tables
 pub mod Waits
 pub mod Walk

@@ -94,6 +94,13 @@ is_controller_key version key =
 abbrev pub is_kubelet_key : List ℕ → Bool
 is_kubelet_key key = bytes_eq key (codes "node") || is_clock_key key || bytes_eq key (codes "ready")
 
+abbrev pub is_set_key : List ℕ → Bool
+is_set_key key =
+    bytes_eq key (codes "namespace") || bytes_eq key (codes "name") || bytes_eq key (codes "tolerations") || bytes_eq key (codes "on")
+
+abbrev pub is_share_key : List ℕ → Bool
+is_share_key key = bytes_eq key (codes "node") || bytes_eq key (codes "pods")
+
 -- a key of an event of this type, beside its beat and type
 abbrev pub is_type_key : EventType → List ℕ → Bool
 is_type_key types.Rate key = bytes_eq key (codes "process") || bytes_eq key (codes "ratePpm")
@@ -114,6 +121,8 @@ is_key_of (tables.Top sets) key = is_top_key sets key
 is_key_of (tables.Settings version) key = is_settings_key version key
 is_key_of (tables.Controller version) key = is_controller_key version key
 is_key_of tables.Kubelet key = is_kubelet_key key
+is_key_of tables.PodSet key = is_set_key key
+is_key_of tables.Share key = is_share_key key
 is_key_of (tables.Event kind) key = bytes_eq key (codes "beat") || bytes_eq key (codes "type") || is_type_key kind key
 
 abbrev pub all_known : Table → Members → Bool

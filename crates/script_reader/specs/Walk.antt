@@ -13,6 +13,7 @@ use Rattle.kube_base.specs.declared.numbers.Beat.{Beat}
 use Rattle.kube_base.specs.declared.numbers.ProcId.{ProcId}
 use Rattle.kube_objects.specs.Keys.{key_eq}
 use Rattle.kube_objects.specs.Pauses.{pause_of}
+use Rattle.kube_objects.specs.Stalls.{stall_of}
 use Rattle.kube_objects.specs.Stored.{election}
 use Rattle.kube_objects.specs.declared.key.Key.{Key}
 use Rattle.kube_objects.specs.declared.key.Kind.{Kind}
@@ -27,7 +28,7 @@ use Rattle.kube_objects.specs.declared.script.What.TheVariants as whats
 use Rattle.kube_objects.specs.declared.settings.RatePolicy.{RatePolicy}
 use Rattle.kube_objects.specs.declared.rules.Rules.{Rules}
 use Rattle.kube_objects.specs.declared.settings.Settings.{Settings}
-use Rattle.manifest_json.specs.declared.codes.TheConstants.{BAD_JSON, BAD_SETTINGS, DUPLICATE, ELECTION_LEASE_EDIT, EVENT_ORDER, NOT_BUILT}
+use Rattle.manifest_json.specs.declared.codes.TheConstants.{BAD_JSON, BAD_SETTINGS, DUPLICATE, ELECTION_LEASE_EDIT, EVENT_ORDER}
 use Rattle.manifest_json.specs.declared.codes.TheConstants.{OUT_OF_RANGE, TOP_SHAPE, UNKNOWN_PROCESS, WRONG_TYPE}
 use Rattle.manifest_json.specs.declared.fault.Refusal.{Refusal}
 use Rattle.manifest_json.specs.declared.list.Objects.{Objects}
@@ -54,7 +55,9 @@ use Rattle.script_reader.specs.Fields.{needed_text, needed_name, name_at, posted
 use Rattle.script_reader.specs.Built.{unless_there, rules_built}
 use Rattle.script_reader.specs.Choices.{preset_at}
 use Rattle.script_reader.specs.Fields.{object_at, array_in, not_empty}
+use Rattle.script_reader.specs.Limits.{scale_of, kubelet_limit, event_limit}
 use Rattle.script_reader.specs.Rules.{rules_at, agree}
+use Rattle.script_reader.specs.Sets.{sets_in}
 use Rattle.script_reader.specs.Tables.{known_in, is_from_three, is_four}
 use Rattle.script_reader.specs.Waits.{waits_at}
 
@@ -265,9 +268,9 @@ kubelets_from settings names place earlier (item d rest) = do
   next ← kubelet_at settings names (member_path [] (codes "/kubelets/") place) earlier d
   kubelets_from settings next.1 (place + 1) (earlier ++ next.0 ∷ []) rest
 
-unfoldable pub kubelets_in : Settings → Texts → Data → Result (List Proc × Texts) Refusal
-kubelets_in settings names d = do
-  all ← array_in 1_000 (codes "/kubelets") d
+unfoldable pub kubelets_in : Version → Settings → Texts → Data → Result (List Proc × Texts) Refusal
+kubelets_in version settings names d = do
+  all ← array_in (kubelet_limit (scale_of version)) (codes "/kubelets") d
   kubelets_from settings names 0 [] all
 
 -- ---- objects
@@ -275,9 +278,9 @@ kubelets_in settings names d = do
 abbrev pub objects_of : (List (Key × Object) × ℕ) × Texts → Objects × Texts
 objects_of found = (record { items = found.0.0; skipped = found.0.1 }, found.1)
 
-unfoldable pub objects_in : Texts → List ℕ → Data → Result (Objects × Texts) Refusal
-objects_in names known d = do
-  found ← list_walk names known (codes "/objects") d
+unfoldable pub objects_in : Version → Texts → List ℕ → Data → Result (Objects × Texts) Refusal
+objects_in version names known d = do
+  found ← list_walk (scale_of version) names known (codes "/objects") d
   Ok (objects_of found)
 
 -- ---- events
@@ -379,11 +382,10 @@ pause_at cast names path d = do
   beats ← needed_whole 1 604_800_000 path (codes "beats") d
   Ok (whats.Pause who beats)
 
--- a stall of the store is refused at its type, once its keys are those of one
 unfoldable pub stall_at : List ℕ → Data → Result What Refusal
 stall_at path d = do
   beats ← needed_whole 1 604_800_000 path (codes "beats") d
-  refuse NOT_BUILT (under path (codes "type"))
+  Ok (whats.Stall beats)
 
 unfoldable pub put_at : Cast → Texts → List ℕ → Data → Result (What × Texts) Refusal
 put_at cast names path d = do
@@ -472,7 +474,7 @@ edits_election (whats.Stall beats) = false
 edits_election (whats.Put key object) = is_election key
 edits_election (whats.Remove key) = is_election key
 
--- a pause that begins at a beat `from` ends at beat k or later
+-- a pause or stall that begins at a beat `from` ends at beat k or later
 abbrev pub reaches : ℕ → ℕ → Option ℕ → Bool
 reaches k from None = false
 reaches k from (Some beats) = nat_le k (from + beats)
@@ -484,13 +486,22 @@ pauses_up_to p k e = reaches k e.beat.0 (pause_of p e.what)
 abbrev pub is_paused_up_to : ℕ → ℕ → List Event → Bool
 is_paused_up_to p k events = list_any (pauses_up_to p k) events
 
--- a pause at beat k of a process that an earlier event pauses up to that beat or longer, so that it wouldn't go on between both
+-- an event stops the store up to beat k or longer
+abbrev pub stalls_up_to : ℕ → Event → Bool
+stalls_up_to k e = reaches k e.beat.0 (stall_of e.what)
+
+abbrev pub is_stalled_up_to : ℕ → List Event → Bool
+is_stalled_up_to k events = list_any (stalls_up_to k) events
+
+-- a pause at beat k of a process that an earlier event pauses up to that beat or longer, so that it wouldn't go on between both; or so a
+-- stall of the store
 abbrev pub is_too_soon : List Event → ℕ → What → Bool
 is_too_soon earlier k (whats.Pause who beats) = is_paused_up_to who.0 k earlier
+is_too_soon earlier k (whats.Stall beats) = is_stalled_up_to k earlier
 is_too_soon earlier k _ = false
 
--- the own rules of an event: it isn't before an earlier event nor after the end, pauses no process too soon after an earlier pause of it,
--- and leaves the election Lease alone
+-- the own rules of an event: it isn't before an earlier event nor after the end, pauses no process too soon after an earlier pause of it
+-- nor stops the store too soon after an earlier stall, and leaves the election Lease alone
 abbrev pub if_event : ℕ → ℕ → List Event → List ℕ → ℕ → What → Texts → Result (Event × Texts) Refusal
 if_event end last earlier path beat what names =
     if nat_lt beat last || nat_lt end beat then refuse EVENT_ORDER path
@@ -517,7 +528,7 @@ events_from scope cast names place last earlier (item d rest) = do
 
 unfoldable pub events_in : Scope → Cast → Texts → Data → Result (List Event × Texts) Refusal
 events_in scope cast names d = do
-  all ← array_in 100_000 (codes "/events") d
+  all ← array_in (event_limit (scale_of scope.version)) (codes "/events") d
   events_from scope cast names 0 0 [] all
 
 -- ---- the document
@@ -569,11 +580,15 @@ top_in value = do
   d ← object_at TOP_SHAPE (codes "/") value
   known_in (tables.Top (says_four (get (codes "version") d))) (codes "/") d
 
--- the events of a document, which has no sets of pods
-unfoldable pub events_at : Scope → Cast → Texts → Data → Result (List Event × Texts) Refusal
-events_at scope cast names d = do
-  built ← unless_there [] (codes "podSets") d
-  default_of ([], names) (events_in scope cast names) (get (codes "events") d)
+-- the objects, with the Pods of the sets behind them
+unfoldable pub objects_at : Version → Texts → List ℕ → Data → Result (Objects × Texts) Refusal
+objects_at version names known d = do
+  listed ← default_of (no_objects, names) (objects_in version names known) (get (codes "objects") d)
+  all ← default_of (listed.0.items, listed.1) (sets_in (scale_of version) listed.1 listed.0.items) (get (codes "podSets") d)
+  Ok (record { items = all.0; skipped = listed.0.skipped }, all.1)
+
+abbrev pub events_at : Scope → Cast → Texts → Data → Result (List Event × Texts) Refusal
+events_at scope cast names d = default_of ([], names) (events_in scope cast names) (get (codes "events") d)
 
 unfoldable pub document_at : Data → Result Document Refusal
 document_at value = do
@@ -581,8 +596,8 @@ document_at value = do
   version ← required (codes "/version") version_in (get (codes "version") d)
   settings ← required (codes "/settings") (settings_at version (codes "/settings")) (get (codes "settings") d)
   controllers ← required (codes "/controllers") (controllers_in version settings fixed_names) (get (codes "controllers") d)
-  kubelets ← default_of ([], controllers.1) (kubelets_in settings controllers.1) (get (codes "kubelets") d)
-  objects ← default_of (no_objects, kubelets.1) (objects_in kubelets.1 (numbers_of controllers.0.0)) (get (codes "objects") d)
+  kubelets ← default_of ([], controllers.1) (kubelets_in version settings controllers.1) (get (codes "kubelets") d)
+  objects ← objects_at version kubelets.1 (numbers_of controllers.0.0) d
   events ← events_at (scope_of version settings) (cast_of controllers.0.0 kubelets.0) objects.1 d
   Ok (record {
     settings = settings;

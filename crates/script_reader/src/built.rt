@@ -46,7 +46,6 @@ fn if_own(preset: Preset, path: &Path, value: &Value) -> Result<(), ReadFault>
 fn judging_built(path: &Path, value: &Value) -> Result<(), ReadFault>
     ensures { Gives (λ _. view value.now) result (spec.judging_built path.now (view value.now)) }
 {
-    unless_there(path, "firstSyncMillis", value)?;
     unless_there(path, "probe", value)?;
     unless_there(path, "judge", value)?;
     unless_there(path, "firstSight", value)

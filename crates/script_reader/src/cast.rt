@@ -64,7 +64,7 @@ impl Named {
     pub(crate) fn push(&mut self, proc: Proc) -> Result<(), NoMemory>
         requires stands { Stands self.old }
         requires fresh { walk.has_name proc.name self.old.procs ≡ false }
-        requires few { length self.old.procs < 1000 }
+        requires few { length self.old.procs < 15000 }
         ensures procs { OnOk result (self.new.procs ≡ self.old.procs ++ proc ∷ []) }
         ensures stands { OnOk result (Stands self.new) }
     {
@@ -79,7 +79,7 @@ impl Named {
     fn place(&self, name: u32) -> Option<u32>
         requires { Stands self.now }
         ensures value { result ≡ position (λ other. name == other) (walk.numbers_of self.now.procs) }
-        ensures within { IfSome result (λ place. place < 1000) }
+        ensures within { IfSome result (λ place. place < 15000) }
     {
         match self.places.get(&name) {
             Some(place) => Some(*place),
@@ -91,7 +91,7 @@ impl Named {
     pub(crate) fn known(&self) -> &[u32]
         requires { Stands self.now }
         ensures value { result.now ≡ walk.numbers_of self.now.procs }
-        ensures few { length result.now ≤ 1000 }
+        ensures few { length result.now ≤ 15000 }
     {
         self.numbers.as_slice()
     }
@@ -101,7 +101,7 @@ impl Named {
 fn process_of(named: &Named, names: &Names, name: &[u8]) -> Option<u32>
     requires { Stands named.now }
     ensures value { result ≡ manifests.process_of names.now (walk.numbers_of named.now.procs) name.now }
-    ensures within { IfSome result (λ place. place < 1000) }
+    ensures within { IfSome result (λ place. place < 15000) }
 {
     let number = names.find(name)?;
     named.place(number)

@@ -9,6 +9,7 @@ ghost use Rattle.script_reader.specs.Walk as walk;
 
 use crate::cast::Players;
 use crate::field::{array_in, member_of, needed_text, needed_whole, object_at, or_refuse, path_of};
+use crate::limits::event_limit;
 use crate::parts::Scope;
 use crate::script::Script;
 use crate::table::{EventType, Table, Version, is_four, is_from_three, known_in};
@@ -23,7 +24,7 @@ use manifest_json::{Path, ReadFault};
 use serde_json::Value;
 use std::alloc::Global;
 
-/// At most 100,000 events.
+/// No more events than the version allows.
 #[tactic(auto, unfolding(crate::specs::Walk::events_in))]
 pub(crate) fn events_in(
     alloc: Global,
@@ -37,7 +38,7 @@ pub(crate) fn events_in(
         (walk.events_in scope (seen players.now) names.old (view value.now)) }
 {
     let path = path_of(alloc, "/events")?;
-    let all = array_in(100_000, &path, value)?;
+    let all = array_in(event_limit(scope.version), &path, value)?;
     events_of(alloc, players, scope, names, all)
 }
 

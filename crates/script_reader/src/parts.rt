@@ -52,3 +52,10 @@ pub struct Scope {
     pub version: Version,
     pub end: Beat,
 }
+
+/// A member of a set's `on`: a node, and how many of the set's pods are on it.
+#[derive(Clone, Copy, Debug)]
+pub struct Share {
+    pub node: u32,
+    pub pods: u32,
+}

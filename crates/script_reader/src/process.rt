@@ -11,6 +11,7 @@ use crate::field::{
     array_in, fault_under, flag_at, member_of, name_number_at, not_empty, path_of, signed_at,
     status_at, whole_at,
 };
+use crate::limits::kubelet_limit;
 use crate::parts::{Clock, Timings};
 use crate::settings::{is_sound, timings_at, timings_of};
 use crate::table::{Table, Version, object_in};
@@ -157,20 +158,21 @@ fn proc_of(name: u32, clock: Clock, watch: bool, ready: ReadyStatus, timings: Ti
     }
 }
 
-/// At most 1,000 kubelets.
+/// No more kubelets than the version allows.
 #[tactic(auto, unfolding(crate::specs::Walk::kubelets_in))]
 pub(crate) fn kubelets_in(
     alloc: Global,
+    version: Version,
     settings: &Settings,
     names: &mut Names,
     value: &Value,
 ) -> Result<Named, ReadFault>
     ensures gives { Gives (λ named. (named.procs, names.new)) result
-        (walk.kubelets_in settings.now names.old (view value.now)) }
+        (walk.kubelets_in version settings.now names.old (view value.now)) }
     ensures stands { IfOk result Stands }
 {
     let path = path_of(alloc, "/kubelets")?;
-    let all = array_in(1_000, &path, value)?;
+    let all = array_in(kubelet_limit(version), &path, value)?;
     kubelets_of(alloc, settings, names, all)
 }
 
@@ -180,7 +182,7 @@ fn kubelets_of(
     names: &mut Names,
     list: &[Value],
 ) -> Result<Named, ReadFault>
-    requires { length list.now ≤ 1000 }
+    requires { length list.now ≤ 15000 }
     ensures gives { Gives (λ named. (named.procs, names.new)) result
         (walk.kubelets_from settings.now names.old 0 [] (items_view list.now)) }
     ensures stands { IfOk result Stands }

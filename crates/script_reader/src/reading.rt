@@ -3,25 +3,29 @@ ghost use Rattle.std.specs.Prelude.{◌≡◌, ◌≤◌, ◌<◌, ◌^◌, [], 
 ghost use Rattle.serde_json.specs.Find.{get};
 ghost use Rattle.serde_json.specs.View.{view};
 ghost use Rattle.manifest_json.specs.Faults.{Gives};
+ghost use Rattle.manifest_json.specs.Kept as kept;
 ghost use Rattle.script_reader.specs.Cast.{Stands, AreNamed, seen};
-ghost use Rattle.script_reader.specs.Built as unbuilt;
 ghost use Rattle.script_reader.specs.Fields as fields;
+ghost use Rattle.script_reader.specs.Limits as limits;
+ghost use Rattle.script_reader.specs.SetParts.{listed_objects};
+ghost use Rattle.script_reader.specs.Sets.{sets_in};
 ghost use Rattle.script_reader.specs.Walk as walk;
 ghost use Rattle.script_reader.specs.Walk.{document_walk};
 
 use crate::Document;
-use crate::built::unless_there;
 use crate::cast::{Named, Players, Team};
 use crate::event::events_in;
 use crate::field::{fault_at, object_at, path_of};
+use crate::limits::scale_of;
 use crate::parts::Scope;
 use crate::process::{controllers_in, kubelets_in};
+use crate::sets::sets_in;
 use crate::settings::settings_at;
 use crate::table::{Table, Version, known_in};
 use kube_base::{NameHash, Names};
 use kube_objects::{Events, Items, Settings};
 use manifest_json::codes::{BAD_JSON, MISSING_KEY, TOP_SHAPE, WRONG_TYPE};
-use manifest_json::{Objects, Path, ReadFault, read_list};
+use manifest_json::{Kept, Listed, Objects, ReadFault, read_kept};
 use serde_json::Value;
 use std::alloc::Global;
 
@@ -60,8 +64,8 @@ pub fn document_of(alloc: Global, hash: NameHash, value: &Value) -> Result<Docum
     let settings = settings(alloc, version, value)?;
     let mut names = Names::keyed(alloc, hash)?;
     let team = controllers(alloc, version, &settings, &mut names, value)?;
-    let kubelets = kubelets(alloc, &settings, &mut names, value)?;
-    let objects = objects(alloc, &mut names, team.named.known(), value)?;
+    let kubelets = kubelets(alloc, version, &settings, &mut names, value)?;
+    let objects = objects_at(alloc, version, &mut names, team.named.known(), value)?;
     let Team { named, waits } = team;
     let players = Players {
         controllers: named,
@@ -187,34 +191,60 @@ fn controllers(
 
 fn kubelets(
     alloc: Global,
+    version: Version,
     settings: &Settings,
     names: &mut Names,
     value: &Value,
 ) -> Result<Named, ReadFault>
     ensures gives { Gives (λ named. (named.procs, names.new)) result
-        (fields.default_of ([], names.old) (walk.kubelets_in settings.now names.old) (get (codes "kubelets") (view value.now))) }
+        (fields.default_of ([], names.old) (walk.kubelets_in version settings.now names.old) (get (codes "kubelets") (view value.now))) }
     ensures stands { IfOk result Stands }
 {
     match value.get("kubelets") {
-        Some(found) => kubelets_in(alloc, settings, names, found),
+        Some(found) => kubelets_in(alloc, version, settings, names, found),
         None => Ok(Named::new(alloc)),
     }
 }
 
-fn objects(
+/// The objects, with the Pods of the sets behind them.
+#[tactic(auto, unfolding(crate::specs::Walk::objects_at))]
+fn objects_at(
     alloc: Global,
+    version: Version,
     names: &mut Names,
     known: &[u32],
     value: &Value,
 ) -> Result<Objects, ReadFault>
-    requires { length known.now ≤ 1000 }
+    requires { length known.now ≤ 15000 }
     ensures { Gives (λ objects. (objects, names.new)) result
-        (fields.default_of (walk.no_objects, names.old) (walk.objects_in names.old known.now) (get (codes "objects") (view value.now))) }
+        (walk.objects_at version names.old known.now (view value.now)) }
+{
+    let mut listed = listed(alloc, version, names, known, value)?;
+    let skipped = listed.skipped;
+    sets(alloc, names, &mut listed.kept, value)?;
+    Ok(Objects {
+        items: listed.kept.items,
+        skipped,
+    })
+}
+
+fn listed(
+    alloc: Global,
+    version: Version,
+    names: &mut Names,
+    known: &[u32],
+    value: &Value,
+) -> Result<Listed, ReadFault>
+    requires { length known.now ≤ 15000 }
+    ensures gives { Gives (λ listed. (listed_objects listed, names.new)) result
+        (fields.default_of (walk.no_objects, names.old) (walk.objects_in version names.old known.now) (get (codes "objects") (view value.now))) }
+    ensures stands { IfOk result (λ listed. kept.Stands listed.kept) }
+    ensures scale { IfOk result (λ listed. listed.kept.scale ≡ limits.scale_of version) }
 {
     match value.get("objects") {
-        Some(found) => objects_in(alloc, names, known, found),
-        None => Ok(Objects {
-            items: Items::new(alloc),
+        Some(found) => objects_in(alloc, version, names, known, found),
+        None => Ok(Listed {
+            kept: Kept::new(alloc, scale_of(version)),
             skipped: 0,
         }),
     }
@@ -223,43 +253,41 @@ fn objects(
 #[tactic(auto, unfolding(crate::specs::Walk::objects_in))]
 fn objects_in(
     alloc: Global,
+    version: Version,
     names: &mut Names,
     known: &[u32],
     found: &Value,
-) -> Result<Objects, ReadFault>
-    requires { length known.now ≤ 1000 }
-    ensures { Gives (λ objects. (objects, names.new)) result
-        (walk.objects_in names.old known.now (view found.now)) }
+) -> Result<Listed, ReadFault>
+    requires { length known.now ≤ 15000 }
+    ensures gives { Gives (λ listed. (listed_objects listed, names.new)) result
+        (walk.objects_in version names.old known.now (view found.now)) }
+    ensures stands { IfOk result (λ listed. kept.Stands listed.kept) }
+    ensures scale { IfOk result (λ listed. listed.kept.scale ≡ limits.scale_of version) }
 {
     let path = path_of(alloc, "/objects")?;
-    let objects = read_list(alloc, names, known, found, &path)?;
-    Ok(objects)
+    let listed = read_kept(alloc, scale_of(version), names, known, found, &path)?;
+    Ok(listed)
 }
 
-/// The events. There are no sets of pods.
-#[tactic(auto, unfolding(crate::specs::Walk::events_at))]
-fn events(
+/// Adds the Pods of the sets behind the objects.
+fn sets(
     alloc: Global,
-    players: &Players,
-    scope: Scope,
     names: &mut Names,
+    objects: &mut Kept,
     value: &Value,
-) -> Result<Events, ReadFault>
-    requires { AreNamed players.now }
-    ensures { Gives (λ events. (events, names.new)) result
-        (walk.events_at scope (seen players.now) names.old (view value.now)) }
+) -> Result<(), ReadFault>
+    requires { kept.Stands objects.old }
+    ensures { Gives (λ _. (objects.new.items, names.new)) result
+        (fields.default_of (objects.old.items, names.old) (sets_in objects.old.scale names.old objects.old.items)
+        (get (codes "podSets") (view value.now))) }
 {
-    no_sets(alloc, value)?;
-    listed_events(alloc, players, scope, names, value)
+    match value.get("podSets") {
+        Some(found) => sets_in(alloc, names, objects, found),
+        None => Ok(()),
+    }
 }
 
-fn no_sets(alloc: Global, value: &Value) -> Result<(), ReadFault>
-    ensures { Gives (λ _. view value.now) result (unbuilt.unless_there [] (codes "podSets") (view value.now)) }
-{
-    unless_there(&Path::new(alloc), "podSets", value)
-}
-
-fn listed_events(
+fn events(
     alloc: Global,
     players: &Players,
     scope: Scope,

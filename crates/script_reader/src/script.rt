@@ -1,7 +1,7 @@
 // The events of a document as far as they are read.
 ghost use Rattle.std.specs.Prelude.{◌≡◌, ◌++◌, ◌∷◌, [], OnOk};
-ghost use Rattle.kube_objects.specs.declared.script.What.TheVariants.{Pause};
-ghost use Rattle.script_reader.specs.Scripts.{AreEnds, IsIndexed};
+ghost use Rattle.kube_objects.specs.declared.script.What.TheVariants.{Pause, Stall};
+ghost use Rattle.script_reader.specs.Scripts.{AreEnds, IsEnd, IsIndexed};
 ghost use Rattle.script_reader.specs.Walk as walk;
 
 use kube_base::{Beat, NoMemory, ProcId};
@@ -9,13 +9,14 @@ use kube_objects::{Event, Events, What};
 use std::alloc::Global;
 use std::collections::BTreeMap;
 
-/// Events in their order, with the latest end of each process's pauses.
+/// Events in their order, with the latest end of each process's pauses, and of the stalls of the store.
 #[derive(Drop)]
 pub(crate) struct Script {
     pub(crate) events: Events,
     /// The beat of the last one, or 0.
     pub(crate) last: Beat,
     pause_ends: BTreeMap<u32, u64>,
+    stall_end: Option<u64>,
 }
 
 impl Script {
@@ -28,6 +29,7 @@ impl Script {
             events: Events::new(alloc),
             last: Beat(0),
             pause_ends: BTreeMap::new(alloc),
+            stall_end: None,
         }
     }
 
@@ -42,7 +44,18 @@ impl Script {
         }
     }
 
-    /// Whether an event at this beat pauses a process that an earlier one pauses up to this beat or longer.
+    /// Whether an earlier stall of the store ends at this beat or later.
+    fn stalls_up_to(&self, beat: u32) -> bool
+        requires { IsIndexed self.now }
+        ensures { result ≡ walk.is_stalled_up_to beat self.now.events }
+    {
+        match self.stall_end {
+            Some(end) => u64::from(beat) <= end,
+            None => false,
+        }
+    }
+
+    /// Whether an event at this beat pauses a process that an earlier one pauses up to this beat or longer, or so stops the store.
     pub(crate) fn is_too_soon(&self, beat: u32, what: &What) -> bool
         requires { IsIndexed self.now }
         ensures { result ≡ walk.is_too_soon self.now.events beat what.now }
@@ -57,7 +70,7 @@ impl Script {
             What::Stop(_) => false,
             What::Watch(_, _) => false,
             What::Ready(_, _) => false,
-            What::Stall(_) => false,
+            What::Stall(_) => self.stalls_up_to(beat),
             What::Put(_, _) => false,
             What::Remove(_) => false,
         }
@@ -67,6 +80,7 @@ impl Script {
     fn keep_pause(&mut self, id: ProcId, from: Beat, beats: u32) -> Result<(), NoMemory>
         requires { IsIndexed self.old }
         ensures events { self.new.events ≡ self.old.events }
+        ensures stalls { self.new.stall_end ≡ self.old.stall_end }
         ensures ends { OnOk result (AreEnds self.new.pause_ends
             (self.old.events ++ record { beat = from; what = Pause id beats } ∷ [])) }
     {
@@ -79,6 +93,21 @@ impl Script {
         Ok(())
     }
 
+    /// Keeps the end of a stall, unless an earlier one ends later.
+    fn keep_stall(&mut self, from: Beat, beats: u32)
+        requires { IsIndexed self.old }
+        ensures events { self.new.events ≡ self.old.events }
+        ensures pauses { self.new.pause_ends ≡ self.old.pause_ends }
+        ensures ends { IsEnd self.new.stall_end (self.old.events ++ record { beat = from; what = Stall beats } ∷ []) }
+    {
+        let end = u64::from(from.0) + u64::from(beats);
+        let latest = match self.stall_end {
+            Some(earlier) => end.max(earlier),
+            None => end,
+        };
+        self.stall_end = Some(latest);
+    }
+
     /// Adds an event behind the others.
     pub(crate) fn push(&mut self, event: Event) -> Result<(), NoMemory>
         requires { IsIndexed self.old }
@@ -86,8 +115,10 @@ impl Script {
         ensures last { OnOk result (self.new.last ≡ event.beat) }
         ensures indexed { OnOk result (IsIndexed self.new) }
     {
-        if let What::Pause(id, beats) = event.what {
-            self.keep_pause(id, event.beat, beats)?;
+        match event.what {
+            What::Pause(id, beats) => self.keep_pause(id, event.beat, beats)?,
+            What::Stall(beats) => self.keep_stall(event.beat, beats),
+            _ => {}
         }
         self.last = event.beat;
         self.events.push(event)?;

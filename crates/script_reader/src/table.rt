@@ -47,6 +47,9 @@ pub enum Table {
     Settings(Version),
     Controller(Version),
     Kubelet,
+    PodSet,
+    /// A member of a set's `on`.
+    Share,
     Event(EventType),
 }
 
@@ -98,6 +101,8 @@ fn is_key_of(table: Table, key: &str) -> bool
         Table::Settings(version) => is_settings_key(version, key),
         Table::Controller(version) => is_controller_key(version, key),
         Table::Kubelet => is_kubelet_key(key),
+        Table::PodSet => is_set_key(key),
+        Table::Share => key == "node" || key == "pods",
         Table::Event(kind) => key == "beat" || key == "type" || is_type_key(kind, key),
     }
 }
@@ -249,6 +254,12 @@ fn is_kubelet_key(key: &str) -> bool
     ensures { result ≡ spec.is_kubelet_key key.now }
 {
     key == "node" || is_clock_key(key) || key == "ready"
+}
+
+fn is_set_key(key: &str) -> bool
+    ensures { result ≡ spec.is_set_key key.now }
+{
+    key == "namespace" || key == "name" || key == "tolerations" || key == "on"
 }
 
 /// Whether an event of this type has this key, beside its beat and type.

@@ -16,7 +16,7 @@ use crate::field::{
 use crate::table::EventType;
 use kube_base::{Names, ProcId};
 use kube_objects::{Key, Kind, Object, What};
-use manifest_json::codes::{MISSING_KEY, NOT_BUILT, OUT_OF_RANGE, UNKNOWN_PROCESS};
+use manifest_json::codes::{MISSING_KEY, OUT_OF_RANGE, UNKNOWN_PROCESS};
 use manifest_json::{Path, ReadFault, number, read_object};
 use serde_json::Value;
 use std::alloc::Global;
@@ -100,13 +100,12 @@ fn pause_at(players: &Players, names: &Names, path: &Path, value: &Value) -> Res
     Ok(What::Pause(id, beats))
 }
 
-/// A stall of the store is refused at its type as not built, once its keys are those of one.
 #[tactic(auto, unfolding(crate::specs::Walk::stall_at))]
 fn stall_at(path: &Path, value: &Value) -> Result<What, ReadFault>
     ensures { Gives (λ what. what) result (walk.stall_at path.now (view value.now)) }
 {
-    needed_whole(1, 604_800_000, path, "beats", value)?;
-    Err(fault_under(NOT_BUILT, path, "type"))
+    let length = needed_whole(1, 604_800_000, path, "beats", value)?;
+    Ok(What::Stall(length))
 }
 
 /// The process of an event, which is of this sort.

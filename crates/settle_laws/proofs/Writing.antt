@@ -10,11 +10,11 @@ use Rattle.kube_objects.specs.declared.lease.Lease.{Lease}
 use Rattle.kube_objects.specs.declared.object.Object.{Object}
 use Rattle.kube_objects.specs.declared.object.Object.TheVariants as object
 use Rattle.kube_objects.specs.Answers.{answer, written, if_done}
-use Rattle.kube_objects.specs.Document.{Doc, end_beat, is_controller, of_seconds, lease_duration}
+use Rattle.kube_objects.specs.Document.{Doc, end_beat, is_controller, lease_duration}
 use Rattle.kube_objects.specs.Entry.{Entry, Identity, Call, Sends, actor_of}
 use Rattle.kube_objects.specs.Identities.{of_process}
 use Rattle.kube_objects.specs.Keys.{key_eq}
-use Rattle.kube_objects.specs.Newest.{when, has, or_zero}
+use Rattle.kube_objects.specs.Newest.{when, has}
 use Rattle.kube_objects.specs.Stored.{election, key_of, request_write, at_key, write_of, stored}
 use Rattle.kube_objects.specs.Wire.{request_arrival, request_delay}
 use Rattle.history.specs.History.{history}

@@ -7,7 +7,7 @@ use Rattle.kube_objects.specs.Document.{Doc, lease_seconds}
 use Rattle.kube_objects.specs.Elector.{leads, deadline, is_before, is_blocked, respected, observed_at}
 use Rattle.kube_objects.specs.Entry.{Entry, Identity, Stops, Ends, Delivers, entry}
 use Rattle.kube_objects.specs.Identities.{of_process}
-use Rattle.kube_objects.specs.Newest.{join, has, or_zero}
+use Rattle.kube_objects.specs.Newest.{join, has}
 use Rattle.kube_objects.specs.Process.{alive, life_says, life, gone, is_present}
 use Rattle.kube_objects.specs.Stored.{election, at_key, write_of}
 use Rattle.history.specs.History.{history, at_turn}

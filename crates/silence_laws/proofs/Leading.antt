@@ -35,7 +35,6 @@ use Rattle.calm_laws.proofs.Added.{LedBy, leads_by}
 use Rattle.silence_laws.proofs.Looking.{asks_election}
 use Rattle.silence_laws.proofs.Rival.{w}
 use Rattle.silence_laws.proofs.Setting.{restrict}
-use Rattle.silence_laws.proofs.Taken.{ways}
 use Rattle.silence_laws.proofs.Ways.{beat_before}
 
 -- ---- the facts of a lead

@@ -1,6 +1,6 @@
 -- Up to the beat before it falls silent a leader renews its record: after each of its writes there is another one, a retry period and four ways
 -- later at most, if there was time to send it.
-use Rattle.std.proofs.Common.{◌≡◌, ◌⊎◌, ◌<◌, ◌≤◌, ℕ, suc, ◌+◌, ◌-◌, ◌*◌, not, true, cond, List, [], ◌∷◌, Option, Some, None, refl, sym, ap, ◌∙◌, subst, inl, inr, ⊎_elim, arith, ◌&&◌, nat_lt, Bool, false}
+use Rattle.std.proofs.Common.{◌≡◌, ◌⊎◌, ◌<◌, ◌≤◌, ℕ, suc, ◌+◌, ◌-◌, ◌*◌, not, true, cond, List, [], ◌∷◌, Option, Some, None, refl, sym, ap, ◌∙◌, subst, inl, inr, ⊎_elim, arith, nat_lt, Bool, false}
 use Rattle.std.proofs.lemmas.Bool.{eq-eqb, ltb-false, cases_lt}
 use Rattle.std.proofs.Math.Nat.{mul-le-mul_right}
 use Rattle.kube_base.specs.declared.numbers.Version.{Version}
@@ -14,7 +14,7 @@ use Rattle.kube_objects.specs.declared.object.Object.TheVariants as object
 use Rattle.kube_objects.specs.Answers.{lease_in, answer_over, answer, written, written_over, if_done}
 use Rattle.kube_objects.specs.Clocks.{local}
 use Rattle.kube_objects.specs.Document.{Doc, end_beat, renew_deadline, of_seconds, lease_duration}
-use Rattle.kube_objects.specs.Elector.{is_done, Moment, Asks, moment, observed_at, updated, follow, follow_on, succeeds, leads, attempt, Follow, Fails, Succeeds, Shown, told, shown, observed, is_valid, renewed, follow_get, attempt_from}
+use Rattle.kube_objects.specs.Elector.{is_done, Moment, Asks, moment, observed_at, updated, follow, follow_on, succeeds, leads, attempt, Shown, told, shown, observed, is_valid, renewed, attempt_from}
 use Rattle.kube_objects.specs.Entry.{Entry, Identity, Call, Plain, Sends, Answers, Delivers, actor_of, entry, CallKind, Fast}
 use Rattle.kube_objects.specs.Identities.{is_other, identity_of, is_own}
 use Rattle.kube_objects.specs.Newest.{has, when, join, or_zero}
@@ -31,7 +31,6 @@ use Rattle.history_laws.proofs.Order.{entries_are_earlier}
 use Rattle.history_laws.proofs.Plainly.{upper, some_is, none_is, false_is, and_both, same_self}
 use Rattle.history_laws.proofs.Tailed.{tail_all, tail_trans, later_tail}
 use Rattle.lease_laws.proofs.EachKind.{top_stays}
-use Rattle.takeover_laws.specs.Waits.{blocked_for}
 use Rattle.takeover_laws.proofs.Waits.{own_blocked}
 use Rattle.span_laws.proofs.Spans.{goes_most}
 use Rattle.call_laws.specs.Answering.{with_events, IsAnswered}

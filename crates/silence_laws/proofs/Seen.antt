@@ -1,5 +1,5 @@
 -- A version of the election Lease is seen no sooner than it is written, by whoever wrote it too.
-use Rattle.std.proofs.Common.{◌≡◌, ◌⊎◌, ◌≤◌, ℕ, suc, ◌+◌, Bool, true, false, cond, List, [], ◌∷◌, Option, Some, None, refl, sym, ap, ◌∙◌, subst, inl, inr, ⊎_elim, arith}
+use Rattle.std.proofs.Common.{◌≡◌, ◌≤◌, ℕ, suc, ◌+◌, Bool, true, false, cond, List, [], ◌∷◌, Option, Some, None, refl, sym, ap, ◌∙◌, subst, inl, inr, ⊎_elim, arith}
 use Rattle.std.proofs.lemmas.Bool.{eqb-true}
 use Rattle.kube_base.specs.declared.numbers.Version.{Version}
 use Rattle.kube_objects.specs.Answers.{answer}
@@ -11,8 +11,8 @@ use Rattle.kube_objects.specs.Stored.{Held, Write, election, stored, at_key, wri
 use Rattle.history.specs.History.{history}
 use Rattle.history.specs.Sound.{IsSound}
 use Rattle.history_laws.specs.Tails.{IsTail}
-use Rattle.history_laws.proofs.Plainly.{upper, some_is, none_is, true_is}
-use Rattle.history_laws.proofs.Tailed.{tail_all, tail_trans, tails_meet, writes_tail, same_head}
+use Rattle.history_laws.proofs.Plainly.{upper, some_is, none_is}
+use Rattle.history_laws.proofs.Tailed.{tail_all, tail_trans, tails_meet, writes_tail}
 use Rattle.call_laws.proofs.Above.{in_head}
 use Rattle.calm_laws.proofs.Origins.{Origin, origin}
 use Rattle.silence_laws.proofs.Kept.{Kept, kept_of, IsFound, found_kept}

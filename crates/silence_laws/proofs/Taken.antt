@@ -1,14 +1,14 @@
 -- Somebody else comes to lead after a leader has fallen silent: by then the leader's record was taken over, and it wasn't old at the beat of the silence.
-use Rattle.std.proofs.Common.{◌≡◌, ◌⊎◌, ◌<◌, ◌≤◌, ℕ, suc, ◌+◌, ◌-◌, ◌*◌, not, Bool, true, false, List, ◌∷◌, length, Some, IfSome, refl, sym, ap, ◌∙◌, subst, inr, ⊎_elim, arith}
+use Rattle.std.proofs.Common.{◌≡◌, ◌<◌, ◌≤◌, ℕ, suc, ◌+◌, ◌-◌, ◌*◌, not, Bool, true, false, List, ◌∷◌, length, Some, IfSome, refl, sym, ap, ◌∙◌, subst, inr, ⊎_elim, arith}
 use Rattle.std.proofs.Math.Nat.{mul-le-mul_right}
 use Rattle.std.proofs.lemmas.Bool.{cases_lt}
 use Rattle.kube_objects.specs.declared.call.Reply.TheVariants.{Done}
 use Rattle.kube_objects.specs.Clocks.{local}
-use Rattle.kube_objects.specs.Document.{Doc, end_beat, is_controller, of_seconds, lease_duration}
+use Rattle.kube_objects.specs.Document.{Doc, end_beat, is_controller}
 use Rattle.kube_objects.specs.Elector.{succeeds}
 use Rattle.kube_objects.specs.Entry.{Entry, Identity, Answers, actor_of}
 use Rattle.kube_objects.specs.Identities.{is_same, is_other}
-use Rattle.kube_objects.specs.Newest.{has, or_zero}
+use Rattle.kube_objects.specs.Newest.{has}
 use Rattle.kube_objects.specs.Stored.{election, at_key, write_of}
 use Rattle.kube_objects.specs.Wire.{back_of}
 use Rattle.history.specs.History.{history, whole_history}

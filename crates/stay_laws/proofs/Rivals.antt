@@ -6,15 +6,16 @@ use Rattle.kube_objects.specs.declared.lease.Lease.{Lease}
 use Rattle.kube_objects.specs.declared.object.Object.{Object}
 use Rattle.kube_objects.specs.declared.object.Object.TheVariants as object
 use Rattle.kube_objects.specs.Clocks.{local}
-use Rattle.kube_objects.specs.Document.{Doc, end_beat, of_seconds, is_controller, lease_seconds, lease_duration}
+use Rattle.kube_objects.specs.Document.{Doc, end_beat, is_controller, lease_seconds}
 use Rattle.kube_objects.specs.Elector.{succeeds}
 use Rattle.kube_objects.specs.Entry.{Entry, Identity, Answers, actor_of}
 use Rattle.kube_objects.specs.Identities.{is_same, is_by, is_other, of_process, holder_of}
-use Rattle.kube_objects.specs.Newest.{or_zero, or_else, has, when}
+use Rattle.kube_objects.specs.Newest.{or_else, has, when}
 use Rattle.kube_objects.specs.Process.{is_stop, stops}
 use Rattle.kube_objects.specs.Stored.{Held, election, stored, at_key, write_of}
 use Rattle.kube_objects.specs.Wire.{Back, back_of, arrival, request_arrival, request_delay, request_delay_of, loses_requests}
-use Rattle.kube_objects.proofs.Own.{request_arrival-own}
+use Rattle.kube_objects.specs.Stalls.{is_stalled}
+use Rattle.kube_objects.proofs.Stalls.{arrives_now}
 use Rattle.history.specs.History.{history, whole_history}
 use Rattle.history.specs.Premise.{greatest_below}
 use Rattle.history.specs.Safe.{Acts}
@@ -136,7 +137,7 @@ module _ (doc : Doc) (near far a e : ℕ) (sound : IsSound doc) (calm : IsCalm d
 
     -- its request took a while
     way : w.call.sent + near ≤ x.beat
-    way = omega (arith, s.sent, arrival_is (loses_requests w.who.process s.before) s.f.beat (request_delay w.who.process s.before) x.beat (arrives ∙ request_arrival-own doc sound.2 w.who.process s.f.beat s.before), delay, passes.request_least)
+    way = omega (arith, s.sent, arrival_is (loses_requests w.who.process s.before) s.f.beat (request_delay w.who.process s.before) x.beat (arrives ∙ arrives_now doc w.who.process s.f.beat s.before (ap (λ n. is_stalled doc (s.f.beat + n)) delay ∙ passes.goes)), delay, passes.request_least)
       where
         passes : Passes doc near far w.who.process s.f.beat
         passes = rival_steady.passes s.f.beat s.from (omega (arith, s.sent, earlier, x_upto))

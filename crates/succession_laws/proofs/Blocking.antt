@@ -10,8 +10,8 @@ use Rattle.kube_objects.specs.declared.lease.Lease.{Lease}
 use Rattle.kube_objects.specs.declared.object.Object.TheVariants as object
 use Rattle.kube_objects.specs.Answers.{lease_in, versioned, as_kind, answer_get, answer}
 use Rattle.kube_objects.specs.Clocks.{local}
-use Rattle.kube_objects.specs.Document.{Doc, of_seconds, is_controller, lease_seconds, lease_duration}
-use Rattle.kube_objects.specs.Elector.{Fails, Asks, moment, is_valid, updated, follow_get, follow, follow_on, Shown, told, shows, shown, is_known, newly, observed, observed_at, is_blocked}
+use Rattle.kube_objects.specs.Document.{Doc, is_controller, lease_seconds}
+use Rattle.kube_objects.specs.Elector.{Fails, Asks, moment, updated, follow_get, follow, follow_on, Shown, told, shows, shown, is_known, newly, observed, observed_at}
 use Rattle.kube_objects.specs.Entry.{Entry, Identity, Call, Fact, First, Event, Starts, Stops, Sends, Answers, Delivers, Expires, Leads, Ends, Crashes, Stalls, Ticks, entry, StepsDown, ReleaseBegins, ReleaseEnds, ReleaseStops}
 use Rattle.kube_objects.specs.Identities.{is_by, is_same, is_other, holder_of}
 use Rattle.kube_objects.specs.Newest.{only_if, when, or_zero}

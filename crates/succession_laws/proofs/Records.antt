@@ -8,11 +8,11 @@ use Rattle.kube_objects.specs.declared.lease.Lease.{Lease}
 use Rattle.kube_objects.specs.declared.object.Object.{Object}
 use Rattle.kube_objects.specs.declared.object.Object.TheVariants as object
 use Rattle.kube_objects.specs.Answers.{written}
-use Rattle.kube_objects.specs.Document.{Doc, processes, of_seconds, is_controller, lease_seconds, lease_duration}
+use Rattle.kube_objects.specs.Document.{Doc, processes, is_controller, lease_seconds}
 use Rattle.kube_objects.specs.Elector.{succeeds}
 use Rattle.kube_objects.specs.Entry.{Entry, Identity, Call, Sends, Answers, actor_of}
 use Rattle.kube_objects.specs.Identities.{identity_of, of_process, holder_of}
-use Rattle.kube_objects.specs.Newest.{has, join, or_zero}
+use Rattle.kube_objects.specs.Newest.{has, join}
 use Rattle.kube_objects.specs.Stored.{Held, election, stored, at_key, write_of, request_write, next_version, holds, last_write}
 use Rattle.kube_objects.specs.Wire.{request_arrival}
 use Rattle.history.specs.History.{history}

@@ -9,7 +9,7 @@ use Rattle.kube_objects.specs.Keys.{key_eq}
 use Rattle.kube_objects.specs.Newest.{when, has}
 use Rattle.kube_objects.specs.Process.{alive}
 use Rattle.kube_objects.specs.Stored.{election, key_of}
-use Rattle.kube_objects.specs.Wire.{Sent, Back, sent_of, back_of, arrival, reply_delay, reply_arrival}
+use Rattle.kube_objects.specs.Wire.{Sent, Back, sent_of, back_of, reply_delay, reply_arrival}
 use Rattle.kube_objects.specs.Clocks.{local}
 use Rattle.history.specs.History.{history}
 use Rattle.history.specs.Premise.{greatest_below}

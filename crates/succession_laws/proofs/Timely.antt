@@ -7,11 +7,11 @@ use Rattle.kube_objects.specs.declared.call.Reply.TheVariants.{Done}
 use Rattle.kube_objects.specs.declared.object.Object.{Object}
 use Rattle.kube_objects.specs.Answers.{answer, written}
 use Rattle.kube_objects.specs.Clocks.{local}
-use Rattle.kube_objects.specs.Document.{Doc, end_beat, of_seconds, is_controller, lease_duration}
+use Rattle.kube_objects.specs.Document.{Doc, end_beat, is_controller}
 use Rattle.kube_objects.specs.Elector.{succeeds, follow_on, leads, is_before, deadline}
 use Rattle.kube_objects.specs.Entry.{Entry, Identity, Fact, Answers, Delivers, actor_of, entry}
 use Rattle.kube_objects.specs.Identities.{is_same, is_other}
-use Rattle.kube_objects.specs.Newest.{has, or_zero}
+use Rattle.kube_objects.specs.Newest.{has}
 use Rattle.kube_objects.specs.Process.{alive, is_present}
 use Rattle.kube_objects.specs.Stored.{election, at_key, write_of}
 use Rattle.kube_objects.specs.Turns.{with_reply}

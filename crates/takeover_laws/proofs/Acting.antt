@@ -1,13 +1,10 @@
 -- Who writes acts, and what is stored stays while nobody acts.
-use Rattle.std.proofs.Common.{◌≡◌, ◌⊎◌, ◌<◌, ◌≤◌, ℕ, zero, suc, ◌+◌, Bool, true, false, List, ◌∷◌, refl, sym, ap, ◌∙◌, inl, inr, ⊎_elim, arith}
+use Rattle.std.proofs.Common.{◌≡◌, ◌⊎◌, ◌<◌, ◌≤◌, ℕ, zero, suc, ◌+◌, Bool, true, false, ◌∷◌, refl, sym, ap, ◌∙◌, inl, inr, ⊎_elim, arith}
 use Rattle.std.proofs.lemmas.Bool.{cases_lt}
-use Rattle.kube_objects.specs.Document.{Doc, is_controller}
 use Rattle.kube_objects.specs.Elector.{acts}
-use Rattle.kube_objects.specs.Entry.{Entry, Identity}
 use Rattle.history.specs.History.{history, at_turn}
-use Rattle.history.specs.Safe.{Acts}
 use Rattle.history_laws.specs.Tails.{IsTail}
-use Rattle.history_laws.proofs.Plainly.{true_is, false_is}
+use Rattle.history_laws.proofs.Plainly.{false_is}
 use Rattle.history_laws.proofs.Tailed.{tail_trans, later_tail}
 use Rattle.call_laws.proofs.Placing.{in_own_beat}
 use Rattle.takeover_laws.specs.Acting.{ActsBetween, WritersAct, RecordsStay}

@@ -1,19 +1,17 @@
 -- Deadlines: who sets one later than now, whose they are, and what a turn past one does.
-use Rattle.std.proofs.Common.{◌≡◌, ◌⊎◌, ◌<◌, ◌≤◌, ℕ, zero, suc, ◌+◌, ◌==◌, ◌&&◌, not, nat_lt, min, Bool, true, false, List, [], ◌∷◌, Option, Some, None, refl, sym, ap, ◌∙◌, subst, inl, inr, ⊎_elim, arith}
+use Rattle.std.proofs.Common.{◌≡◌, ◌⊎◌, ◌<◌, ◌≤◌, ℕ, zero, suc, ◌+◌, ◌&&◌, not, nat_lt, min, Bool, true, false, List, [], ◌∷◌, Option, Some, None, refl, sym, ap, ◌∙◌, subst, inl, inr, ⊎_elim, arith}
 use Rattle.std.specs.Prelude.{if◌then◌else◌}
-use Rattle.std.proofs.lemmas.Bool.{ltb-true, ltb-false, eq-eqb, cases_eq}
-use Rattle.kube_base.specs.declared.numbers.Version.{Version}
-use Rattle.kube_objects.specs.declared.call.Reply.{Reply}
+use Rattle.std.proofs.lemmas.Bool.{ltb-false, eq-eqb, cases_eq}
 use Rattle.kube_objects.specs.declared.deed.Actor.{Actor}
 use Rattle.kube_objects.specs.declared.key.Key.{Key}
 use Rattle.kube_objects.specs.declared.object.Object.{Object}
 use Rattle.kube_objects.specs.declared.script.Event.{Event}
 use Rattle.kube_objects.specs.Clocks.{local, store_wall, whole_second}
-use Rattle.kube_objects.specs.Document.{Doc, processes, end_beat, is_controller, retry_period, renew_deadline}
+use Rattle.kube_objects.specs.Document.{Doc, end_beat, is_controller, retry_period, renew_deadline}
 use Rattle.kube_objects.specs.Elector.{succeeds, lead_says, leads, deadline_says, deadline, is_before, in_term, acts}
-use Rattle.kube_objects.specs.Entry.{Entry, Identity, Call, Fact, First, Event as Happens, Starts, Stops, Sends, Answers, Delivers, Expires, Leads, Ends, Crashes, Stalls, Ticks, actor_of, entry, script_entry, StepsDown, ReleaseBegins, ReleaseEnds, ReleaseStops}
-use Rattle.kube_objects.specs.Identities.{identity, is_same, is_by, of_process}
-use Rattle.kube_objects.specs.Newest.{newest, added, when, join, has}
+use Rattle.kube_objects.specs.Entry.{Entry, Identity, Call, Fact, First, Event as Happens, Starts, Stops, Sends, Answers, Delivers, Expires, Leads, Ends, Crashes, Stalls, Ticks, entry, script_entry, StepsDown, ReleaseBegins, ReleaseEnds, ReleaseStops}
+use Rattle.kube_objects.specs.Identities.{is_same, is_by, of_process}
+use Rattle.kube_objects.specs.Newest.{newest, when, join, has}
 use Rattle.kube_objects.specs.Pauses.{pause_of, is_paused, is_ahead, wait_of, last_wait, reading_of, can_at}
 use Rattle.kube_objects.specs.Process.{gone, life, alive, is_start, starts, call_in, is_late, release_begun, is_present}
 use Rattle.kube_objects.specs.Stamps.{stamped}
@@ -26,10 +24,10 @@ use Rattle.history.specs.Steps.{if_up, restart_if, restart, expire, finish, turn
 use Rattle.history_laws.specs.Tails.{IsTail}
 use Rattle.history_laws.proofs.Counting.{when_test, when_value}
 use Rattle.history_laws.proofs.Lives.{Counted, Over, counted_more, over_more}
-use Rattle.history_laws.proofs.Plainly.{upper, some_is, none_is, false_is, true_is, and_left, and_right, not_true, same_is, same_self, added_more, and_both}
+use Rattle.history_laws.proofs.Plainly.{upper, some_is, none_is, false_is, and_left, and_right, not_true, same_is, added_more, and_both}
 use Rattle.history_laws.proofs.Tailed.{tail_all, tail_trans}
 use Rattle.history_laws.proofs.Ticks.{walk_tick}
-use Rattle.history_laws.proofs.Walk.{Anyone, KeepsTurn, KeepsReleaseTurn, Keeps, KeepsRelease, IsNext, LeadIsUp, StartIsNext, all_kinds, all_release, all_turns, all_release_turns, no_release_turn, walk_history, walk_at_turn, walk_any_turns, walk_any_after_end}
+use Rattle.history_laws.proofs.Walk.{Anyone, KeepsTurn, KeepsReleaseTurn, Keeps, KeepsRelease, LeadIsUp, StartIsNext, all_kinds, all_release, all_turns, all_release_turns, no_release_turn, walk_history, walk_at_turn, walk_any_turns, walk_any_after_end}
 use Rattle.call_laws.proofs.Above.{Above}
 use Rattle.call_laws.proofs.Making.{MadeAs, are_made}
 

@@ -1,36 +1,35 @@
 -- While nobody acts, the record that was stored as a calm began stays.
-use Rattle.std.proofs.Common.{◌≡◌, ◌⊎◌, ◌<◌, ◌≤◌, ℕ, zero, suc, ◌+◌, nat_lt, Bool, true, false, List, [], ◌∷◌, length, Option, Some, None, IfSome, refl, sym, ap, ◌∙◌, subst, inl, inr, ⊎_elim, arith}
+use Rattle.std.proofs.Common.{◌≡◌, ◌<◌, ◌≤◌, ℕ, zero, suc, ◌+◌, Bool, true, false, List, [], ◌∷◌, length, Option, Some, None, IfSome, refl, sym, ap, ◌∙◌, subst, inl, inr, ⊎_elim, arith}
 use Rattle.std.proofs.lemmas.Bool.{ltb-true, eq-eqb, cases_eq, cases_lt}
 use Rattle.kube_objects.specs.declared.call.Request.{Request}
 use Rattle.kube_objects.specs.declared.deed.Actor.{Actor}
 use Rattle.kube_objects.specs.declared.object.Object.{Object}
 use Rattle.kube_objects.specs.Clocks.{rate}
 use Rattle.kube_objects.specs.Document.{Doc, processes, end_beat, is_controller}
-use Rattle.kube_objects.specs.Entry.{Entry, Identity, Call, Fact, First as FirstPut, Event as Happens, Starts, Stops, Sends, Answers, Delivers, Expires, Leads, Ends, Crashes, Stalls, Ticks, actor_of, entry, StepsDown, ReleaseBegins, ReleaseEnds, ReleaseStops}
+use Rattle.kube_objects.specs.Entry.{Entry, Identity, Call, Fact, First as FirstPut, Event as Happens, Starts, Stops, Sends, Answers, Delivers, Expires, Leads, Ends, Crashes, Stalls, Ticks, actor_of, StepsDown, ReleaseBegins, ReleaseEnds, ReleaseStops}
 use Rattle.kube_objects.specs.Identities.{of_process}
 use Rattle.kube_objects.specs.Keys.{key_eq}
 use Rattle.kube_objects.specs.Newest.{when, join, has}
 use Rattle.kube_objects.specs.Stored.{election, key_of, request_write, event_write, at_key, write_of, holds, last_write, stored}
-use Rattle.kube_objects.specs.Wire.{Sent, Back, sent_of, back_of, request_arrival}
-use Rattle.history.specs.History.{history, at_turn}
+use Rattle.kube_objects.specs.Wire.{Sent, Back, back_of, request_arrival}
+use Rattle.history.specs.History.{history}
 use Rattle.history.specs.Safe.{Acts}
 use Rattle.history.specs.Sound.{IsSound}
 use Rattle.history.specs.Steps.{stamp}
 use Rattle.history_laws.specs.Tails.{In, IsTail}
 use Rattle.history_laws.proofs.Order.{entries_are_earlier}
-use Rattle.history_laws.proofs.Plainly.{upper, some_is, none_is, true_is, false_is}
+use Rattle.history_laws.proofs.Plainly.{upper, none_is, true_is}
 use Rattle.history_laws.proofs.Tailed.{tail_all, tail_trans, in_tail, later_tail}
 use Rattle.lease_laws.proofs.EachKind.{elsewhere}
 use Rattle.lease_laws.proofs.Histories.{turn_right}
-use Rattle.lease_laws.proofs.Invariant.{Inv, EntryRight, BackRight, view}
+use Rattle.lease_laws.proofs.Invariant.{BackRight, view}
 use Rattle.lease_laws.proofs.Quiet.{stored_tick}
 use Rattle.lease_laws.proofs.Steps.{AtMost, sound_of}
-use Rattle.call_laws.proofs.Above.{Above, next_above, in_head, place_of}
-use Rattle.call_laws.proofs.Making.{MadeAs, MadeAnswer, are_made}
+use Rattle.call_laws.proofs.Above.{next_above, in_head, place_of}
+use Rattle.call_laws.proofs.Making.{MadeAs, are_made}
 use Rattle.call_laws.proofs.Once.{due_at}
 use Rattle.call_laws.proofs.Placing.{from_beat, in_own_beat, messages_travel}
 use Rattle.takeover_laws.specs.Calm.{IsSteady, IsQuiet, IsCalm, IsInTime, WritesElection}
-use Rattle.takeover_laws.proofs.Standing.{controllers_first}
 use Rattle.takeover_laws.proofs.Writers.{writer_acts}
 
 -- ---- some bound on all rates

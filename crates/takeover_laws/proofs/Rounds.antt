@@ -1,23 +1,21 @@
 -- A call of a controller whose messages pass is answered and its reply comes, each in time.
-use Rattle.std.proofs.Common.{◌≡◌, ◌⊎◌, ◌<◌, ◌≤◌, ℕ, zero, suc, ◌+◌, ◌*◌, Bool, true, false, List, [], ◌∷◌, Option, Some, None, IfSome, refl, sym, ap, ◌∙◌, subst, inl, inr, ⊎_elim, arith}
-use Rattle.kube_objects.specs.declared.call.Reply.{Reply}
-use Rattle.kube_objects.specs.declared.deed.Actor.{Actor}
+use Rattle.std.proofs.Common.{◌≡◌, ◌<◌, ◌≤◌, ℕ, suc, ◌+◌, Bool, false, List, ◌∷◌, Option, Some, None, IfSome, refl, ap, ◌∙◌, subst, arith}
 use Rattle.kube_objects.specs.declared.script.What.{What}
 use Rattle.kube_objects.specs.Answers.{answer, written}
 use Rattle.kube_objects.specs.Document.{Doc}
-use Rattle.kube_objects.specs.Entry.{Entry, Identity, Call, Fact, Sends, Answers, actor_of, entry}
+use Rattle.kube_objects.specs.Entry.{Entry, Identity, Call, Sends, Answers, actor_of, entry}
 use Rattle.kube_objects.specs.Identities.{identity_of}
 use Rattle.kube_objects.specs.Newest.{has, or_else}
 use Rattle.kube_objects.specs.Pauses.{pause_end, is_paused, resume, held_up}
-use Rattle.kube_objects.specs.Wire.{Sent, Back, sent_as, sent_of, back_of, in_force, request_delay_of, reply_delay_of, request_loss_of, reply_loss_of, request_delay, reply_delay, loses_requests, loses_replies, arrival, request_arrival, reply_arrival}
+use Rattle.kube_objects.specs.Wire.{Sent, Back, sent_as, sent_of, in_force, request_delay_of, reply_delay_of, request_loss_of, reply_loss_of, request_delay, reply_delay, arrival, request_arrival, reply_arrival}
 use Rattle.kube_objects.specs.Own.{IsOwn}
-use Rattle.kube_objects.proofs.Own.{request_arrival-own}
+use Rattle.kube_objects.specs.Stalls.{is_stalled}
+use Rattle.kube_objects.proofs.Stalls.{arrives_now}
 use Rattle.history.specs.History.{history}
-use Rattle.history.specs.Steps.{answered, delivered}
 use Rattle.history_laws.specs.Tails.{In, IsTail}
 use Rattle.history_laws.proofs.Plainly.{true_is}
 use Rattle.history_laws.proofs.Tailed.{tail_all, tail_trans, in_tail, later_tail, two_adds}
-use Rattle.call_laws.specs.Answering.{with_events, with_answers, IsAnswered, IsDelivered}
+use Rattle.call_laws.specs.Answering.{with_events, with_answers, IsAnswered}
 use Rattle.call_laws.proofs.Above.{in_head}
 use Rattle.call_laws.proofs.Answering.{before_events, requests_are_answered, replies_are_delivered}
 use Rattle.call_laws.proofs.Placing.{in_own_beat, forces_stand, messages_travel}
@@ -32,7 +30,7 @@ Forces doc k h = ((f : What → Option ℕ) → in_force f h ≡ in_force f (wit
 
 pub request_passes : (doc : Doc) → IsOwn doc → (near far p k : ℕ) (h : List Entry) → Passes doc near far p k → Forces doc k h → request_arrival doc p k h ≡ Some (k + request_delay p (with_events doc k))
 request_passes doc rules near far p k h passes force =
-    request_arrival-own doc rules p k h
+    arrives_now doc p k h (ap (λ n. is_stalled doc (k + n)) (ap (or_else 1) (force.0 (request_delay_of p))) ∙ passes.goes)
     ∙ ap (λ b. arrival b k (request_delay p h)) (ap (or_else false) (force.1 (request_loss_of p)) ∙ passes.requests)
     ∙ ap (λ n. Some (k + n)) (ap (or_else 1) (force.0 (request_delay_of p)))
 

@@ -1,19 +1,16 @@
 -- A write on the stored record is accepted, so somebody acts.
-use Rattle.std.proofs.Common.{◌≡◌, ◌≤◌, ℕ, suc, ◌+◌, ◌*◌, ◌==◌, Bool, true, false, cond, List, ◌∷◌, Option, Some, None, IfSome, refl, sym, ap, ◌∙◌, subst, inl, inr, arith}
+use Rattle.std.proofs.Common.{◌≡◌, ◌≤◌, suc, ◌+◌, true, cond, List, ◌∷◌, Option, Some, None, IfSome, refl, sym, ap, ◌∙◌, subst, inr, arith}
 use Rattle.std.proofs.lemmas.Bool.{eq-eqb}
 use Rattle.kube_base.specs.declared.numbers.Version.{Version}
 use Rattle.kube_objects.specs.declared.call.Request.{Request}
 use Rattle.kube_objects.specs.declared.call.Request.TheVariants.{Get, Create, Update, PostStatus}
-use Rattle.kube_objects.specs.declared.key.Key.{Key}
-use Rattle.kube_objects.specs.declared.lease.Lease.{Lease}
 use Rattle.kube_objects.specs.declared.object.Object.TheVariants as object
 use Rattle.kube_objects.specs.declared.call.Reply.TheVariants.{Done, Conflict}
 use Rattle.kube_objects.specs.Answers.{answer, answer_over, written, written_over, if_done}
-use Rattle.kube_objects.specs.Document.{Doc}
-use Rattle.kube_objects.specs.Entry.{Entry, Identity, Call, Answers, actor_of, entry}
+use Rattle.kube_objects.specs.Entry.{Entry, Answers, entry}
 use Rattle.kube_objects.specs.Newest.{has}
-use Rattle.kube_objects.specs.Stored.{Held, election, key_of, request_write, at_key, stored, next_version}
-use Rattle.kube_objects.specs.Wire.{sent_of, request_arrival, reply_arrival}
+use Rattle.kube_objects.specs.Stored.{Held, election, request_write, at_key, stored, next_version}
+use Rattle.kube_objects.specs.Wire.{request_arrival, reply_arrival}
 use Rattle.history.specs.History.{history}
 use Rattle.history_laws.specs.Tails.{IsTail}
 use Rattle.history_laws.proofs.Tailed.{tail_all, tail_trans, later_tail}

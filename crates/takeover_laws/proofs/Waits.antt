@@ -1,5 +1,5 @@
 -- Each wait of a candidate lies between the shortest and the longest; and how a respected record blocks.
-use Rattle.std.proofs.Common.{◌≡◌, ◌≤◌, ◌<◌, ℕ, zero, suc, ◌+◌, ◌*◌, ◌/◌, ◌%◌, ◌&&◌, nat_lt, Bool, true, false, List, [], ◌∷◌, length, slice_get, Option, Some, None, min, max, refl, sym, ap, ◌∙◌, subst, arith}
+use Rattle.std.proofs.Common.{◌≡◌, ◌≤◌, ◌<◌, ℕ, zero, suc, ◌+◌, ◌*◌, ◌/◌, ◌%◌, ◌&&◌, nat_lt, Bool, true, false, List, [], ◌∷◌, length, slice_get, Some, min, max, refl, ap, ◌∙◌, arith}
 use Rattle.std.proofs.Math.Nat.{mul-le-mul_left, mod-lt}
 use Rattle.kube_objects.specs.declared.lease.Lease.{Lease}
 use Rattle.kube_objects.specs.declared.rules.RespectRule.{RespectRule}
@@ -10,8 +10,6 @@ use Rattle.kube_objects.specs.Elector.{failures, retry_at, respected, is_blocked
 use Rattle.kube_objects.specs.Entry.{Entry, Identity}
 use Rattle.kube_objects.specs.Identities.{is_other}
 use Rattle.kube_objects.specs.Newest.{or_else, or_zero}
-use Rattle.kube_objects.specs.Retries.{wait_after}
-use Rattle.kube_objects.specs.Rules.{own_waits}
 use Rattle.history_laws.proofs.Plainly.{true_is}
 use Rattle.lease_laws.specs.Respects.{respected_time}
 use Rattle.takeover_laws.specs.Waits.{greatest_from, least_from, greatest_of, least_of, longest_wait, shortest_wait, WaitsAreBetween, OwnWaitsAreWhole, blocked_under, blocked_for}

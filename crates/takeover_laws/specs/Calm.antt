@@ -1,12 +1,12 @@
 -- Calm spans of beats: the messages of each controller pass, or it writes no election Lease. Source: profile.
-use Rattle.std.specs.Prelude.{◌≡◌, ◌⊎◌, ℕ, suc, ◌+◌, ◌*◌, ◌≤◌, ◌<◌, true, false, List, Option, IfSome}
-use Rattle.kube_objects.specs.declared.object.Object.{Object}
+use Rattle.std.specs.Prelude.{◌≡◌, ◌⊎◌, ℕ, suc, ◌+◌, ◌*◌, ◌≤◌, ◌<◌, true, false, IfSome}
 use Rattle.kube_objects.specs.Document.{Doc, is_controller, call_timeout, renew_deadline}
-use Rattle.kube_objects.specs.Entry.{Entry, Call, Fact, Crashes, Stops, Ends, Answers}
+use Rattle.kube_objects.specs.Entry.{Entry, Fact, Crashes, Stops, Ends, Answers}
 use Rattle.kube_objects.specs.Identities.{of_process}
 use Rattle.kube_objects.specs.Keys.{key_eq}
 use Rattle.kube_objects.specs.Newest.{has}
 use Rattle.kube_objects.specs.Pauses.{is_paused}
+use Rattle.kube_objects.specs.Stalls.{is_stalled}
 use Rattle.kube_objects.specs.Stored.{election, key_of, request_write, at_key}
 use Rattle.kube_objects.specs.Wire.{loses_requests, loses_replies, request_delay, reply_delay, sent_of, back_of}
 use Rattle.history.specs.History.{history}
@@ -14,7 +14,8 @@ use Rattle.history_laws.specs.Tails.{In}
 use Rattle.span_laws.specs.Spans.{RunsAtMost}
 use Rattle.call_laws.specs.Answering.{with_events}
 
--- with what is in force after a beat's events, a process's messages aren't lost and take from near to far beats, and it isn't paused
+-- with what is in force after a beat's events, a process's messages aren't lost and take from near to far beats, and it isn't paused; the
+-- store goes where a request arrives that it sends then
 pub record Passes (doc : Doc) (near far p k : ℕ) : Type 0 where
   pub requests : loses_requests p (with_events doc k) ≡ false
   pub replies : loses_replies p (with_events doc k) ≡ false
@@ -23,6 +24,7 @@ pub record Passes (doc : Doc) (near far p k : ℕ) : Type 0 where
   pub reply_least : near ≤ reply_delay p (with_events doc k)
   pub reply_most : reply_delay p (with_events doc k) ≤ far
   pub awake : is_paused doc p k ≡ false
+  pub goes : is_stalled doc (k + request_delay p (with_events doc k)) ≡ false
 
 -- the beats at which such an entry of a process stands up to beat e
 abbrev pub AllBeats : Doc → ℕ → ℕ → Fact → (ℕ → Type 0) → Type 0

@@ -1,10 +1,10 @@
 -- The way of a call to the store and back. Source: profile.
-use Rattle.std.specs.Prelude.{◌≡◌, ◌≤◌, ◌<◌, Option, ℕ, suc, ◌+◌, ◌*◌, List, ◌∷◌, Some, true}
+use Rattle.std.specs.Prelude.{◌≡◌, ◌≤◌, Option, ℕ, suc, ◌+◌, ◌*◌, List, ◌∷◌, Some, true}
 use Rattle.kube_objects.specs.declared.call.Reply.{Reply}
 use Rattle.kube_objects.specs.Answers.{answer}
 use Rattle.kube_objects.specs.Document.{Doc, is_controller}
 use Rattle.kube_objects.specs.Entry.{Entry, Identity, Call, Sends, Delivers, actor_of, entry}
-use Rattle.kube_objects.specs.Process.{alive, open_as}
+use Rattle.kube_objects.specs.Process.{alive}
 use Rattle.kube_objects.specs.Wire.{reply_arrival}
 use Rattle.kube_objects.specs.Own.{IsOwn}
 use Rattle.history.specs.History.{history}

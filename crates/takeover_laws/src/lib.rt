@@ -1,5 +1,5 @@
-//! How calls go, who acts, and what stays stored in a calm span, under the project's own rules but for those of elections: laws of every
-//! history. Each is the contract of a function with an empty body.
+//! How calls go, who acts, and what stays stored in a calm span, under the project's own rules but for those of elections and of a term's
+//! first sync: laws of every history. Each is the contract of a function with an empty body.
 #![tactic(auto)]
 
 ghost use Rattle.takeover_laws.specs.Acting.{RecordsStay, WritersAct};

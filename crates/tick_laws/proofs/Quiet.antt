@@ -12,7 +12,7 @@ use Rattle.kube_objects.specs.Keys.{key_cmp}
 use Rattle.kube_objects.specs.Modes.{place_cmp, nodes, places}
 use Rattle.kube_objects.specs.Seen.{is_fresh, is_synced, node_names, pod_keys}
 use Rattle.kube_objects.specs.Tainting.{waits, queued, queued_as, first, Queued, head_of}
-use Rattle.kube_objects.specs.Tick.{add, for_each, sync, pass, clean, cleaned, taint, tainted, evict, evicted, tick_after, tick, whole_pass, phases}
+use Rattle.kube_objects.specs.Tick.{add, for_each, has_settled, sync, pass, clean, cleaned, taint, tainted, evict, evicted, tick_after, tick, whole_pass, phases}
 use Rattle.kube_objects.specs.Tokens.{has_token}
 use Rattle.kube_objects.specs.Own.{IsOwn}
 use Rattle.kube_objects.proofs.Own.{cleaned-own, tainted-own, evicted-own}
@@ -25,7 +25,6 @@ use Rattle.tick_laws.proofs.Evicting.{by_now_seen, due_seen, evict_adds, evict_e
 use Rattle.tick_laws.proofs.Named.{node_is_named, pod_is_named}
 use Rattle.tick_laws.proofs.Orders.{names_strict, keys_strict, places_strict}
 use Rattle.tick_laws.proofs.Phases.{pass_rest}
-use Rattle.tick_laws.proofs.Syncing.{sync_own}
 use Rattle.tick_laws.proofs.Tainting.{taint_no_token, taint_nobody, taint_adds, taint_either, taint_end, since_waits, waiting, waiting_place}
 use Rattle.tick_laws.proofs.Heads.{head_waits}
 use Rattle.tick_laws.proofs.Ticked.{ticked_keeps, sync_ticked, pass_ticked, cleaned_ticked, tainted_ticked, evicted_ticked, clean_ticked, taint_ticked, evict_ticked}
@@ -73,11 +72,11 @@ head_some q place h n wanted now (m ∷ ms) (inr there) = by_first (queued_as (q
 
 -- under the project's own rules
 module _ (doc : Doc) (own : IsOwn doc) (k : ℕ) (q : Identity) (h : List Entry) where
-  pub sync_none : (watches doc q.process h && not (is_fresh q h)) ≡ false → sync doc k q h ≡ h
-  sync_none is = sync_own doc own k q h ∙ ap (λ b. (if b then add k q Sync h else h)) is
+  pub sync_none : (has_settled doc k q h && (watches doc q.process h && not (is_fresh q h))) ≡ false → sync doc k q h ≡ h
+  sync_none is = ap (λ b. (if b then add k q Sync h else h)) is
 
-  pub sync_grows : (watches doc q.process h && not (is_fresh q h)) ≡ true → length h < length (sync doc k q h)
-  sync_grows is = subst (λ g. length h < length g) (sym (sync_own doc own k q h ∙ ap (λ b. (if b then add k q Sync h else h)) is)) (omega arith)
+  pub sync_grows : (has_settled doc k q h && (watches doc q.process h && not (is_fresh q h))) ≡ true → length h < length (sync doc k q h)
+  sync_grows is = subst (λ b. length h < length (if b then add k q Sync h else h)) (sym is) (omega arith)
 
   pub pass_none : is_pass_due doc k q h ≡ false → pass doc k q h ≡ h
   pass_none is = ap (λ b. (if b then whole_pass doc k q h else h)) is
@@ -241,10 +240,10 @@ module _ (doc : Doc) (own : IsOwn doc) (k : ℕ) (q : Identity) where
   pub still_is_quiet : (h : List Entry) → tick doc k q h ≡ h → IsQuietTick doc k q h
   still_is_quiet h still = record { sync = unsynced; term = by_synced }
     where
-      unsynced : (watches doc q.process h && not (is_fresh q h)) ≡ false
-      unsynced = is_no (watches doc q.process h && not (is_fresh q h)) busy
+      unsynced : (has_settled doc k q h && (watches doc q.process h && not (is_fresh q h))) ≡ false
+      unsynced = is_no (has_settled doc k q h && (watches doc q.process h && not (is_fresh q h))) busy
         where
-          busy : (watches doc q.process h && not (is_fresh q h)) ≡ true → ⊥
+          busy : (has_settled doc k q h && (watches doc q.process h && not (is_fresh q h))) ≡ true → ⊥
           busy due = omega (arith, ap length still, sync_grows doc own k q h due, term_longer (sync doc k q h) (is_synced q (sync doc k q h)))
 
       by_synced : is_synced q h ≡ true → IsQuietTerm doc k q h

@@ -1,5 +1,5 @@
 -- What was written since the last sync, and what a sync changes.
-use Rattle.std.proofs.Common.{◌≡◌, ◌∙◌, ℕ, ◌+◌, ◌≤◌, ◌==◌, ◌&&◌, ◌++◌, not, Bool, true, false, cond, List, [], ◌∷◌, length, drop, take, Option, Some, None, refl, sym, ap, subst, arith}
+use Rattle.std.proofs.Common.{◌≡◌, ◌∙◌, ℕ, ◌+◌, ◌≤◌, ◌==◌, ◌&&◌, ◌++◌, Bool, true, false, cond, List, [], ◌∷◌, length, drop, take, Option, Some, None, refl, sym, ap, subst, arith}
 use Rattle.std.specs.Prelude.{if◌then◌else◌}
 use Rattle.std.proofs.lemmas.Bool.{eqb-true, eq-eqb}
 use Rattle.std.proofs.lemmas.Bool.Decides.{nat_tests}
@@ -8,19 +8,15 @@ use Rattle.kube_base.specs.declared.numbers.Version.{Version}
 use Rattle.kube_objects.specs.declared.deed.Actor.{Actor}
 use Rattle.kube_objects.specs.declared.key.Key.{Key}
 use Rattle.kube_objects.specs.declared.pod.Pod.{Pod}
-use Rattle.kube_objects.specs.Document.{Doc}
 use Rattle.kube_objects.specs.Entry.{Entry, Identity, Place, Fact, Ticks, Tick, Sync}
 use Rattle.kube_objects.specs.Feeds.{is_among}
 use Rattle.kube_objects.specs.Identities.{is_by}
-use Rattle.kube_objects.specs.InForce.{watches}
 use Rattle.kube_objects.specs.Modes.{mode}
 use Rattle.kube_objects.specs.Newest.{newest, added, has, when, or_else, or_zero}
-use Rattle.kube_objects.specs.Own.{IsOwn}
 use Rattle.kube_objects.specs.Seen.{seen, seen_node, seen_pod, fresh_says, is_fresh, synced_says, is_synced, is_stale}
 use Rattle.kube_objects.specs.Stored.{Write, write_of, tick_write, writes, stored, node_key}
 use Rattle.kube_objects.specs.Tainting.{waits}
-use Rattle.kube_objects.specs.Tick.{add, sync}
-use Rattle.kube_objects.proofs.Own.{has_settled-own}
+use Rattle.kube_objects.specs.Tick.{add}
 use Rattle.history_laws.proofs.Plainly.{false_is}
 use Rattle.tick_laws.specs.Judged.{shown, is_dirty, seen_due}
 use Rattle.tick_laws.specs.Since.{is_sync_of, keys_since, is_node_among}
@@ -31,13 +27,6 @@ use Rattle.watch_cache.specs.Stands.{sync_says, synced_writes, and_key, written_
 use Rattle.watch_cache.proofs.Frames.{upper, last_synced, last_sync}
 use Rattle.watch_cache.proofs.Syncs.{synced_few, unlisted, written-count}
 use Rattle.watch_cache.proofs.Ticks.{same_self}
-
--- ---- a sync comes where the watch is on and something was written: under the project's own rules a term needs no time to settle
-
-pub sync_own : (doc : Doc) → IsOwn doc → (k : ℕ) (q : Identity) (h : List Entry)
-    → sync doc k q h ≡ (if (watches doc q.process h && not (is_fresh q h)) then add k q Sync h else h)
-sync_own doc own k q h =
-    ap (λ b. (if (b && (watches doc q.process h && not (is_fresh q h))) then add k q Sync h else h)) (has_settled-own doc own k q h)
 
 -- ---- the changes from the position of the last sync on are those written since
 

@@ -1,4 +1,4 @@
--- A tick that adds nothing. The beat comes in by the reading, for passes and tokens, and by the time of day, for pods.
+-- A tick that adds nothing. The beat comes in by the reading, for first syncs, passes and tokens, and by the time of day, for pods.
 use Rattle.std.specs.Prelude.{◌≡◌, ◌&&◌, ℕ, not, true, false, List, None}
 use Rattle.kube_objects.specs.declared.key.Key.{Key}
 use Rattle.kube_objects.specs.Clocks.{wall}
@@ -8,6 +8,7 @@ use Rattle.kube_objects.specs.Health.{is_pass_due}
 use Rattle.kube_objects.specs.InForce.{watches}
 use Rattle.kube_objects.specs.Seen.{is_fresh, is_synced}
 use Rattle.kube_objects.specs.Tainting.{waits}
+use Rattle.kube_objects.specs.Tick.{has_settled}
 use Rattle.kube_objects.specs.Tokens.{has_token}
 use Rattle.tick_laws.specs.Judged.{is_dirty, seen_due, is_by_now}
 
@@ -19,5 +20,5 @@ pub record IsQuietTerm (doc : Doc) (k : ℕ) (q : Identity) (h : List Entry) : T
   pub pods : (key : Key) → is_by_now (wall doc q.process k) (seen_due q key h) ≡ false
 
 pub record IsQuietTick (doc : Doc) (k : ℕ) (q : Identity) (h : List Entry) : Type 0 where
-  pub sync : (watches doc q.process h && not (is_fresh q h)) ≡ false
+  pub sync : (has_settled doc k q h && (watches doc q.process h && not (is_fresh q h))) ≡ false
   pub term : is_synced q h ≡ true → IsQuietTerm doc k q h

@@ -49,6 +49,7 @@ fn settings(row: &Row) -> TickSettings
     ensures { result.secondary_rate ≤ result.primary_rate }
 {
     TickSettings {
+        first_sync_millis: 0,
         monitor_period_millis: 5_000,
         grace_period_millis: row.grace_millis,
         startup_grace_millis: 60_000,
@@ -197,6 +198,7 @@ fn lead(rt: &HostRuntime, row: &Row, span: Span, scene: &mut Scene) -> io::Resul
     let Some(leading) = leader(reading(row.pace, span.from), time(row.pace, span.from)) else {
         return Ok(());
     };
+    term.lead(reading(row.pace, span.from));
     for beat in span.from..span.to.saturating_add(1) {
         scene.change(alloc, row, beat).map_err(out_of_memory)?;
         let Some(acting) = leading.acting(reading(row.pace, beat)) else {

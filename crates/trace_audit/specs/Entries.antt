@@ -53,6 +53,7 @@ role_of (says.Untaint node answer) = Acts
 role_of (says.Evict pod due answer) = Acts
 role_of says.Start = Idles
 role_of (says.Pause beats) = Idles
+role_of (says.Stall beats) = Idles
 role_of (says.Election verb answer transitions) = Idles
 role_of (says.NodeLease verb node answer) = Idles
 role_of (says.Status node ready answer) = Idles

@@ -25,6 +25,7 @@ pub(crate) fn role_of<'a>(says: &Says<&'a [u8]>) -> Role<&'a [u8]>
         Says::Evict(_, _, _) => Role::Acts,
         Says::Start => Role::Idles,
         Says::Pause(_) => Role::Idles,
+        Says::Stall(_) => Role::Idles,
         Says::Election(_, _, _) => Role::Idles,
         Says::NodeLease(_, _, _) => Role::Idles,
         Says::Status(_, _, _) => Role::Idles,

@@ -192,10 +192,20 @@ evict text = do
   if is_spaced pod.0 then Some (says.Evict pod.0 time answer) else None
 
 -- `beats=N`, 1 to 604,800,000
+unfoldable pub some_beats : List ℕ → Option ℕ
+some_beats text = do
+  beats ← labelled_number (codes "beats") 604800000 text
+  if beats == 0 then None else Some beats
+
 unfoldable pub pause : List ℕ → Option (Says (List ℕ))
 pause text = do
-  beats ← labelled_number (codes "beats") 604800000 text
-  if beats == 0 then None else Some (says.Pause beats)
+  beats ← some_beats text
+  Some (says.Pause beats)
+
+unfoldable pub stall : List ℕ → Option (Says (List ℕ))
+stall text = do
+  beats ← some_beats text
+  Some (says.Stall beats)
 
 -- ---- what is said, by the sort of the actor
 
@@ -221,7 +231,10 @@ remove text = do
   Some (says.Remove write.0 write.1)
 
 unfoldable pub by_script : List ℕ → List ℕ → Option (Says (List ℕ))
-by_script word text = if bytes_eq word (codes "put") then put text else (if bytes_eq word (codes "remove") then remove text else None)
+by_script word text =
+    if bytes_eq word (codes "put") then put text
+    else (if bytes_eq word (codes "remove") then remove text
+    else (if bytes_eq word (codes "stall") then stall text else None))
 
 unfoldable pub by_kubelet : List ℕ → List ℕ → Option (Says (List ℕ))
 by_kubelet word text =

@@ -20,6 +20,7 @@ said says.Crash = says.Crash
 said says.Stop = says.Stop
 said says.End = says.End
 said (says.Pause beats) = says.Pause beats
+said (says.Stall beats) = says.Stall beats
 said (says.Lead version) = says.Lead version
 said (says.Election verb answer transitions) = says.Election verb answer transitions
 said (says.NodeLease verb node answer) = says.NodeLease verb node.now answer

@@ -133,9 +133,19 @@ fn by_script<'a>(word: &[u8], text: &'a [u8]) -> Option<Says<&'a [u8]>>
         put(text)
     } else if is(word, b"remove") {
         remove(text)
+    } else if is(word, b"stall") {
+        stall(text)
     } else {
         None
     }
+}
+
+#[tactic(auto, unfolding(crate::specs::Forms::stall))]
+fn stall(text: &[u8]) -> Option<Says<&[u8]>>
+    ensures { Reads said result (spec.stall text.now) }
+{
+    let beats = some_beats(text)?;
+    Some(Says::Stall(beats))
 }
 
 #[tactic(auto, unfolding(crate::specs::Forms::put))]
@@ -184,17 +194,21 @@ fn by_kubelet<'a>(word: &[u8], text: &'a [u8]) -> Option<Says<&'a [u8]>>
     }
 }
 
-/// `beats=N`, 1 to 604,800,000
 #[tactic(auto, unfolding(crate::specs::Forms::pause))]
 fn pause(text: &[u8]) -> Option<Says<&[u8]>>
     ensures { Reads said result (spec.pause text.now) }
 {
+    let beats = some_beats(text)?;
+    Some(Says::Pause(beats))
+}
+
+/// `beats=N`, 1 to 604,800,000
+#[tactic(auto, unfolding(crate::specs::Forms::some_beats))]
+fn some_beats(text: &[u8]) -> Option<u32>
+    ensures { result ≡ spec.some_beats text.now }
+{
     let beats = labelled_number(text, b"beats", LAST_BEAT)?;
-    if beats == 0 {
-        None
-    } else {
-        Some(Says::Pause(beats as u32))
-    }
+    if beats == 0 { None } else { Some(beats as u32) }
 }
 
 #[tactic(auto, unfolding(crate::specs::Forms::status))]

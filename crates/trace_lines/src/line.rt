@@ -29,6 +29,8 @@ pub enum Says<T> {
     End,
     /// For how many beats a process stands still.
     Pause(u32),
+    /// For how many beats the store stands still.
+    Stall(u32),
     /// The version of the success.
     Lead(u64),
     /// A write of the election Lease: how it was answered, and the transitions written, 0 where it wasn't taken.

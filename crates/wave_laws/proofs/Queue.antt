@@ -13,7 +13,7 @@ use Rattle.kube_objects.specs.Tainting.{waits, before_tick, begins_row, queued}
 use Rattle.kube_objects.specs.Tick.{add, pass, taint, evicted}
 use Rattle.kube_objects.specs.Tokens.{is_base, base}
 use Rattle.kube_objects.specs.Wire.{loses_requests}
-use Rattle.kube_objects.proofs.Own.{has_settled-own, tainted-own}
+use Rattle.kube_objects.proofs.Own.{tainted-own}
 use Rattle.history.specs.Evictions.{after_turn}
 use Rattle.history.specs.History.{history, at_turn}
 use Rattle.history.specs.Steps.{elector_turn}
@@ -105,7 +105,7 @@ current_more q k t h s = record { mirrors = mirrors_more q h k t s.mirrors; pass
 
 synced_current : (doc : Doc) → IsOwn doc → (q : Identity) (k : ℕ) → IsAttended doc q k → Current q (synced_at doc q k)
 synced_current doc own q k attended =
-    subst (λ b. Current q (if (b && (watches doc q.process h && not (is_fresh q h))) then add k q Sync h else h)) (sym (has_settled-own doc own k q h))
+    subst (λ b. Current q (if (b && (watches doc q.process h && not (is_fresh q h))) then add k q Sync h else h)) (sym (ready doc own q k attended).settled)
     (subst (λ b. Current q (if (b && not (is_fresh q h)) then add k q Sync h else h)) (sym (ready doc own q k attended).watching) (by_test (is_fresh q h) refl))
   where
     h : List Entry

@@ -19,7 +19,7 @@ use Rattle.kube_objects.specs.Stored.{node_key, next_version}
 use Rattle.kube_objects.specs.Tainting.{Wanted, wants}
 use Rattle.kube_objects.specs.Tick.{add, for_each, new_taint, swapped, clean}
 use Rattle.kube_objects.specs.Tries.{try_node}
-use Rattle.kube_objects.proofs.Own.{has_settled-own, cleaned-own}
+use Rattle.kube_objects.proofs.Own.{cleaned-own}
 use Rattle.history.specs.Evictions.{after_turn}
 use Rattle.history.specs.History.{history, at_turn}
 use Rattle.history_laws.specs.Tails.{IsTail}
@@ -57,7 +57,7 @@ module _ (doc : Doc) (own : IsOwn doc) (q : Identity) (k : ℕ) (here : IsAttend
 
   synced_unstale : is_stale q key (synced_at doc q k) ≡ false
   synced_unstale =
-      subst (λ b. is_stale q key (if (b && (watches doc q.process (begun doc q k) && not (is_fresh q (begun doc q k)))) then add k q Sync (begun doc q k) else begun doc q k) ≡ false) (sym (has_settled-own doc own k q (begun doc q k)))
+      subst (λ b. is_stale q key (if (b && (watches doc q.process (begun doc q k) && not (is_fresh q (begun doc q k)))) then add k q Sync (begun doc q k) else begun doc q k) ≡ false) (sym (ready doc own q k here).settled)
       (subst (λ b. is_stale q key (if (b && not (is_fresh q (begun doc q k))) then add k q Sync (begun doc q k) else begun doc q k) ≡ false) (sym (ready doc own q k here).watching) (by_test (is_fresh q (begun doc q k)) refl))
     where
       by_test : (b : Bool) → is_fresh q (begun doc q k) ≡ b → is_stale q key (if (not b) then add k q Sync (begun doc q k) else begun doc q k) ≡ false

@@ -5,7 +5,7 @@ use Rattle.kube_objects.specs.declared.script.What.TheVariants.{Delay, Loss}
 use Rattle.kube_objects.specs.Entry.{Entry, Fact, Event, Sends, Answers}
 use Rattle.kube_objects.specs.InFlight.{requests_due, replies_due}
 use Rattle.kube_objects.specs.Newest.{count}
-use Rattle.kube_objects.specs.Wire.{Sent, Back, arrival, request_delay, reply_delay, loses_requests, loses_replies}
+use Rattle.kube_objects.specs.Wire.{Sent, Back, request_delay, reply_delay, loses_requests, loses_replies}
 use Rattle.wire_calls.specs.InFlight.{pending, IsLive}
 use Rattle.wire_calls.specs.declared.link.Link.{Link}
 use Rattle.wire_calls.specs.declared.message.Sent as code_sent
@@ -51,10 +51,6 @@ link_in p h =
       loses_requests = loses_requests p h;
       loses_replies = loses_replies p h;
     }
-
--- the beat at which a request arrives that is sent at beat k, where it isn't lost and the store doesn't stand still then
-abbrev pub request_travel : ℕ → ℕ → List Entry → Option ℕ
-request_travel p k h = arrival (loses_requests p h) k (request_delay p h)
 
 -- ---- the relation
 

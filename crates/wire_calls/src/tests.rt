@@ -20,8 +20,9 @@ fn sends_and_loses(rt: HostRuntime) -> Result<(), Fail> {
     let mut wire = Wire::new(rt.alloc(), 2)?;
     let who = ProcId(1);
     assert_eq!(rt; wire.next(), None);
-    let sent = wire.send(who, 1, ask(1), Beat(5))?;
-    assert_eq!(rt; sent, Fate::InFlight(Beat(6)));
+    let travels = wire.request_travel(who, Beat(5));
+    assert_eq!(rt; travels, Fate::InFlight(Beat(6)));
+    wire.send(who, 1, ask(1), travels)?;
     assert_eq!(rt; wire.next(), Some(Beat(6)));
     assert!(rt; !wire.has_request(Beat(5)));
     assert_eq!(rt; wire.arrival(Beat(5)), None);
@@ -41,7 +42,8 @@ fn sends_and_loses(rt: HostRuntime) -> Result<(), Fail> {
     wire.set_loss(who, true, false);
     assert!(rt; !wire.passes(who));
     assert!(rt; wire.passes(ProcId(0)));
-    assert_eq!(rt; wire.send(who, 1, ask(2), Beat(6))?, Fate::Lost);
+    assert_eq!(rt; wire.request_travel(who, Beat(6)), Fate::Lost);
+    wire.send(who, 1, ask(2), Fate::Lost)?;
     assert_eq!(rt; wire.next(), None);
     Ok(())
 }
@@ -51,8 +53,9 @@ fn keeps_the_order_of_sending(rt: HostRuntime) -> Result<(), Fail> {
     let mut wire = Wire::new(rt.alloc(), 2)?;
     wire.set_delay(ProcId(0), 3, 1);
     for (who, number, now, arrives) in [(0, 1, 0, 3), (0, 2, 1, 4), (1, 3, 2, 3), (1, 4, 3, 4)] {
-        let sent = wire.send(ProcId(who), 1, ask(number), Beat(now))?;
-        assert_eq!(rt; sent, Fate::InFlight(Beat(arrives)), "{number}");
+        let travels = wire.request_travel(ProcId(who), Beat(now));
+        assert_eq!(rt; travels, Fate::InFlight(Beat(arrives)), "{number}");
+        wire.send(ProcId(who), 1, ask(number), travels)?;
     }
     // A delay that is set later doesn't move what was sent before.
     wire.set_delay(ProcId(0), 9, 1);
@@ -72,7 +75,7 @@ fn replies_and_loses(rt: HostRuntime) -> Result<(), Fail> {
     let mut wire = Wire::new(rt.alloc(), 1)?;
     let who = ProcId(0);
     wire.set_delay(who, 1, 60);
-    wire.send(who, 2, ask(7), Beat(0))?;
+    wire.send(who, 2, ask(7), Fate::InFlight(Beat(1)))?;
     let Some(arrived) = wire.arrival(Beat(1)) else {
         assert!(rt; false, "it arrives");
         return Ok(());

@@ -8,18 +8,20 @@ use Rattle.kube_objects.specs.Document.{Doc, processes, end_beat, is_controller,
 use Rattle.kube_objects.specs.Entry.{Entry}
 use Rattle.kube_objects.specs.Own.{IsOwn}
 use Rattle.kube_objects.specs.Pauses.{is_paused}
+use Rattle.kube_objects.specs.Stalls.{is_stalled}
 use Rattle.history.specs.History.{history}
 use Rattle.history.specs.Sound.{AreApart}
 use Rattle.history_laws.proofs.Plainly.{some_is, true_is, not_true, and_left, and_right, and_both}
 use Rattle.agenda_laws.specs.Ahead.{IsAhead, IsSilent, IsNextStart, IsNextEvent, IsNextMessage, IsNextBelow, IsNextBeat, NoTurnsAreFirst, TurnsAreAdded}
 use Rattle.agenda_laws.specs.Standing.{StandsAt}
 use Rattle.agenda_laws.specs.Times.{is_early, sooner}
-use Rattle.agenda_laws.specs.Waking.{AreAsleep, NextBeatsWake, acts_as}
+use Rattle.agenda_laws.specs.Waking.{AreAsleep, IsAsleep, NextBeatsWake, acts_as, turn_wakes, wakes_of, wakes_while}
+use Rattle.world_process.specs.Beats.{own_reading_as}
 use Rattle.world_core.specs.declared.wakes.Wakes.{Wakes}
-use Rattle.world_core.specs.Waits.{WakesStand, beat_of, reading_of, starts_now}
-use Rattle.world_agenda.specs.Woken.{IsDue, IsLooked, IsNextDue, IsWithTurn, IsWoken, OnlyTurns, goes_now, not_before, resumed}
+use Rattle.world_core.specs.Waits.{TurnWakesStand, WakesStand, beat_of, reading_of, starts_now}
+use Rattle.world_agenda.specs.Woken.{IsDue, IsGoing, IsLooked, IsNextDue, IsStalledFrom, IsWithTurn, IsWoken, OnlyTurns, goes_now, is_going, not_before, resumed}
 use Rattle.world_agenda.proofs.Acting.{acting_wakes, nobody_acts_first}
-use Rattle.world_agenda.proofs.Resuming.{turns_resume}
+use Rattle.world_agenda.proofs.Resuming.{one-of, turns_go, turns_resume}
 
 -- ---- not before a beat
 
@@ -84,7 +86,7 @@ or-some true b is = inl refl
 or-some false b is = inr is
 
 -- something of the process's is due exactly where its turn, were it not paused, would add something
-next-due : (doc : Doc) (k p : ℕ) (h : List Entry) (w : Wakes) (due : Option Beat) → starts_now doc k p ≡ false → WakesStand doc k p h w → IsDue doc k p w due → IsNextDue doc k p h (beat_of due)
+pub next-due : (doc : Doc) (k p : ℕ) (h : List Entry) (w : Wakes) (due : Option Beat) → starts_now doc k p ≡ false → WakesStand doc k p h w → IsDue doc k p w due → IsNextDue doc k p (wakes_of doc p h) (beat_of due)
 next-due doc k p h w due idle s d =
     record {
       quiet = λ j from within early.
@@ -110,8 +112,8 @@ next-due doc k p h w due idle s d =
 pub idle-one : (doc : Doc) (k p : ℕ) (h : List Entry) (w : Wakes) → WakesStand doc k p h w → goes_now doc k p w ≡ false → starts_now doc k p ≡ false
 idle-one doc k p h w s stays = by_wake w.at_once refl stays
   where
-    by_wake : (b : Bool) → w.at_once ≡ b → (b && ((k == 0) || not (is_paused doc p k))) ≡ false → starts_now doc k p ≡ false
-    by_wake true is stays = ap (λ b. b && is_up_first doc p) (or-none (k == 0) (not (is_paused doc p k)) stays)
+    by_wake : (b : Bool) → w.at_once ≡ b → (b && ((k == 0) || is_going doc k p)) ≡ false → starts_now doc k p ≡ false
+    by_wake true is stays = ap (λ b. b && is_up_first doc p) (or-none (k == 0) (is_going doc k p) stays)
     by_wake false is stays = or-none (starts_now doc k p) (acts_as doc k p (is_controller doc p) h) (sym s.at_once ∙ is)
 
 -- ---- all below a process
@@ -131,11 +133,53 @@ looked-first doc k h event message both law e m is =
         let at : (k == 0) ≡ true = grind (arith, nat_tests) in
         sym (ap (λ b. b && is_up_first doc p) at) ∙ idle
 
--- the sooner of a beat and the one at which the process goes on
+-- the sooner of a beat and the one at which the process goes on, where the store goes then
 pub with-turn : (doc : Doc) (k p : ℕ) (h : List Entry) (w : Wakes) (next due both : Option Beat) → AreApart doc.events → starts_now doc k p ≡ false → WakesStand doc k p h w → IsDue doc k p w due
-    → beat_of both ≡ sooner (beat_of next) (resumed doc p (beat_of due)) → IsWithTurn doc k p h (beat_of next) (beat_of both)
-with-turn doc k p h w next due both apart idle s d is =
-    record { turn = resumed doc p (beat_of due); first = turns_resume doc k p h (beat_of due) apart (next-due doc k p h w due idle s d); sooner = is }
+    → IsStalledFrom doc p (beat_of due) None → beat_of both ≡ sooner (beat_of next) (resumed doc p (beat_of due)) → IsWithTurn doc k p h (beat_of next) (beat_of both)
+with-turn doc k p h w next due both apart idle s d goes is =
+    record { turn = resumed doc p (beat_of due); first = turns_resume doc k p h (beat_of due) apart (next-due doc k p h w due idle s d) (goes.none refl); sooner = is }
+
+turn-asleep : (doc : Doc) (j p : ℕ) (b : Bool) (h : List Entry) → is_early (local doc p j) (own_reading_as doc p b h) ≡ true → IsAsleep doc j p (turn_wakes doc p b h)
+turn-asleep doc j p true h early = record { at_once = refl; local = early; wall = refl }
+turn-asleep doc j p false h early = record { at_once = refl; local = early; wall = refl }
+
+asleep-turn : (doc : Doc) (j p : ℕ) (b : Bool) (h : List Entry) → IsAsleep doc j p (turn_wakes doc p b h) → is_early (local doc p j) (own_reading_as doc p b h) ≡ true
+asleep-turn doc j p true h asleep = asleep.local
+asleep-turn doc j p false h asleep = asleep.local
+
+turn-due : (doc : Doc) (k p : ℕ) (h : List Entry) (w : Wakes) (due : Option Beat) → TurnWakesStand doc p h w → IsDue doc k p w due → IsNextDue doc k p (turn_wakes doc p (is_controller doc p) h) (beat_of due)
+turn-due doc k p h w due t d =
+    record {
+      quiet = λ j from within early.
+          let all = sym (d.reached j from within) ∙ early in
+          let both = and_right (not w.at_once) (is_early (local doc p j) (reading_of w) && is_early (wall doc p j) w.wall) all in
+          let own = and_left (is_early (local doc p j) (reading_of w)) (is_early (wall doc p j) w.wall) both in
+          turn-asleep doc j p (is_controller doc p) h (ap (is_early (local doc p j)) (sym t.reading) ∙ own);
+      there = λ j from within late asleep.
+          let own : is_early (local doc p j) (reading_of w) ≡ true = ap (is_early (local doc p j)) t.reading ∙ asleep-turn doc j p (is_controller doc p) h asleep in
+          let both = and_both (is_early (local doc p j) (reading_of w)) (is_early (wall doc p j) w.wall) own (ap (is_early (wall doc p j)) t.time) in
+          true_is
+          (sym (and_both (not w.at_once) (is_early (local doc p j) (reading_of w) && is_early (wall doc p j) w.wall) (ap not t.at_once) both)
+          ∙ (sym (d.reached j from within) ∙ late));
+      ahead = d.ahead;
+    }
+
+sooner-first : (a b c : Option ℕ) → sooner (sooner a b) c ≡ sooner a (sooner b c)
+sooner-first None b c = refl
+sooner-first (Some a) None c = refl
+sooner-first (Some a) (Some b) None = refl
+sooner-first (Some a) (Some b) (Some c) = let same : min (min a b) c ≡ min a (min b c) = omega arith in ap (λ (n : ℕ). Some n) same
+
+-- and where the store stands still then
+pub with-stalled : (doc : Doc) (k p : ℕ) (h : List Entry) (w : Wakes) (due : Option ℕ) (next turn mid going both : Option Beat) (from : ℕ) → AreApart doc.events → IsNextDue doc k p (wakes_of doc p h) due → resumed doc p due ≡ Some from
+    → TurnWakesStand doc p h w → IsDue doc k p w turn → beat_of mid ≡ sooner (beat_of next) (resumed doc p (beat_of turn)) → IsGoing doc p from (beat_of going) → beat_of both ≡ sooner (beat_of mid) (beat_of going)
+    → IsWithTurn doc k p h (beat_of next) (beat_of both)
+with-stalled doc k p h w due next turn mid going both from apart d some t own mid_is g is =
+    record {
+      turn = sooner (resumed doc p (beat_of turn)) (beat_of going);
+      first = turns_go doc k p h due apart d (beat_of turn) (beat_of going) from (turn-due doc k p h w turn t own) some g;
+      sooner = is ∙ ap (λ o. sooner o (beat_of going)) mid_is ∙ sooner-first (beat_of next) (resumed doc p (beat_of turn)) (beat_of going);
+    }
 
 pub turn-added : (doc : Doc) (k p : ℕ) (h : List Entry) (next both : Option ℕ) → TurnsAreAdded → p < processes doc → IsNextBelow doc k p h next → IsWithTurn doc k p h next both → IsNextBelow doc k (p + 1) h both
 turn-added doc k p h next both law inside below t =
@@ -179,39 +223,31 @@ at-once doc own k p w at wakes start inside s goes now =
     acts_in : (k ≡ 0) → acts_as doc k p (is_controller doc p) (history doc k) ≡ true → ⊥
     acts_in zero acts = true_is (sym acts ∙ subst (λ n. acts_as doc k p (is_controller doc p) (history doc n) ≡ false) (sym zero) (nobody_acts_first doc k p))
 
-    by_time : AreAsleep doc k (history doc k) → acts_as doc k p (is_controller doc p) (history doc k) ≡ true → ((k == 0) ≡ true) ⊎ (not (is_paused doc p k) ≡ true) → ⊥
+    by_time : AreAsleep doc k (history doc k) → acts_as doc k p (is_controller doc p) (history doc k) ≡ true → ((k == 0) ≡ true) ⊎ (is_going doc k p ≡ true) → ⊥
     by_time asleep acts (inl zero) = acts_in (eqb-true k 0 zero) acts
-    by_time asleep acts (inr unpaused) =
+    by_time asleep acts (inr going) =
+        let stands = not_true (is_stalled doc k) (and_right (not (is_paused doc p k)) (not (is_stalled doc k)) going) in
         ⊎_elim
-        (λ paused. true_is (sym paused ∙ not_true (is_paused doc p k) unpaused))
-        (λ sleeps. acting_wakes doc k k p (history doc k) acts sleeps)
+        (λ paused. true_is (sym paused ∙ not_true (is_paused doc p k) (and_left (not (is_paused doc p k)) (not (is_stalled doc k)) going)))
+        (λ sleeps. acting_wakes doc k k p (history doc k) acts (subst (λ b. IsAsleep doc k p (wakes_while b doc p (is_controller doc p) (history doc k))) stands sleeps))
         (asleep.turns p inside)
 
     by_cause : AreAsleep doc k (history doc k) → (starts_now doc k p ≡ true) ⊎ (acts_as doc k p (is_controller doc p) (history doc k) ≡ true) → ⊥
     by_cause asleep (inl starts) =
         true_is (sym (and_right (k == 0) (is_up_first doc p) starts) ∙ asleep.events.starts (eqb-true k 0 (and_left (k == 0) (is_up_first doc p) starts)) p inside)
-    by_cause asleep (inr acts) = by_time asleep acts (or-some (k == 0) (not (is_paused doc p k)) (and_right w.at_once ((k == 0) || not (is_paused doc p k)) goes))
+    by_cause asleep (inr acts) = by_time asleep acts (or-some (k == 0) (is_going doc k p) (and_right w.at_once ((k == 0) || is_going doc k p) goes))
 
     awake : ¬ AreAsleep doc k (history doc k)
     awake asleep =
         by_cause asleep
         (or-some (starts_now doc k p) (acts_as doc k p (is_controller doc p) (history doc k))
-        (sym s.at_once ∙ and_left w.at_once ((k == 0) || not (is_paused doc p k)) goes))
+        (sym s.at_once ∙ and_left w.at_once ((k == 0) || is_going doc k p) goes))
 
 -- ---- an event or a message is there
 
 early-later : (k j : ℕ) (b : Option ℕ) → k ≤ j → is_early k b ≡ false → is_early j b ≡ true → ⊥
 early-later k j None from late early = true_is late
 early-later k j (Some n) from late early = let less = ltb-true j n early in let more : n ≤ k = grind (arith, nat_tests) in omega (arith, from, less, more)
-
-pub one-of : (a b : Option ℕ) (n : ℕ) → sooner a b ≡ Some n → (a ≡ Some n) ⊎ (b ≡ Some n)
-one-of None b n is = inr is
-one-of (Some a) None n is = inl is
-one-of (Some a) (Some b) n is = by_order (cases_lt a b)
-  where
-    by_order : (a < b) ⊎ (b ≤ a) → (Some a ≡ Some n) ⊎ (Some b ≡ Some n)
-    by_order (inl less) = let e = some_is (min a b) n is in let same : a ≡ n = omega (arith, e, less) in inl (ap (λ (m : ℕ). Some m) same)
-    by_order (inr more) = let e = some_is (min a b) n is in let same : b ≡ n = omega (arith, e, more) in inr (ap (λ (m : ℕ). Some m) same)
 
 pub late-at : (k n : ℕ) (b : Option ℕ) (r : Bool) → r ≡ not (is_early n b) → r ≡ true → n ≡ k → is_early k b ≡ false
 late-at k n b r is holds at = subst (λ m. is_early m b ≡ false) at (not_true (is_early n b) (sym is ∙ holds))

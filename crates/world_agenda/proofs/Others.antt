@@ -9,10 +9,11 @@ use Rattle.agenda_laws.specs.Ahead.{IsAhead, IsNextBelow}
 use Rattle.agenda_laws.specs.Times.{is_early, sooner}
 use Rattle.agenda_laws.specs.Waking.{AreAsleep, IsAsleep, Rests, wakes_as, wakes_of}
 use Rattle.agenda_laws.proofs.Between.{sooner_both}
+use Rattle.agenda_laws.proofs.Waking.{rests_while}
 use Rattle.world_process.specs.Beats.{own_reading, own_reading_as}
 use Rattle.world_core.specs.Waits.{IsFirstTurn, IsPassed}
 use Rattle.world_agenda.specs.Woken.{IsWithTurn, OnlyTurns}
-use Rattle.world_agenda.proofs.Looking.{one-of}
+use Rattle.world_agenda.proofs.Resuming.{one-of}
 
 -- ---- a turn is taken in, and the others still are to come
 
@@ -47,7 +48,7 @@ passed-over doc k from to h next found others below first most passed =
   where
     by_place : (j : ℕ) → j ≤ end_beat doc → is_early j next ≡ true → ((i : ℕ) → i < from → Rests doc j i h) → (p : ℕ) → p < to → (p < from) ⊎ (from ≤ p) → Rests doc j p h
     by_place j within early before p less (inl sooner) = before p sooner
-    by_place j within early before p less (inr more) = inr (waits-alone doc j p h (others.kubelets p more) (first.passed p more (omega (arith, less, most)) (passed p less) j within early))
+    by_place j within early before p less (inr more) = rests_while doc j p h (waits-alone doc j p h (others.kubelets p more) (first.passed p more (omega (arith, less, most)) (passed p less) j within early))
 
 pub only-later : (doc : Doc) (k from to : ℕ) → from ≤ to → OnlyTurns doc k from → OnlyTurns doc k to
 only-later doc k from to up others =

@@ -6,9 +6,11 @@ use Rattle.kube_objects.specs.Document.{Doc, processes, end_beat, is_controller}
 use Rattle.kube_objects.specs.Entry.{Entry}
 use Rattle.kube_objects.specs.Newest.{when}
 use Rattle.kube_objects.specs.Pauses.{is_paused, resume}
+use Rattle.kube_objects.specs.Stalls.{is_stalled}
 use Rattle.agenda_laws.specs.Ahead.{IsAhead, IsNextBelow, IsNextTurn}
 use Rattle.agenda_laws.specs.Times.{is_early, sooner as soonest}
-use Rattle.agenda_laws.specs.Waking.{IsAsleep, wakes_of}
+use Rattle.agenda_laws.specs.Waking as waking
+use Rattle.agenda_laws.specs.Waking.{IsAsleep}
 use Rattle.skew_clock.specs.Clocking.{Clocking, wall_of}
 use Rattle.world_core.specs.declared.wakes.Wakes.{Wakes}
 use Rattle.world_core.specs.Waits.{beat_of, reading_of, starts_now}
@@ -29,10 +31,10 @@ pub record IsWoken (doc : Doc) (p : ℕ) (w : Wakes) (b : Option Beat) : Type 0 
       → is_early j (beat_of b) ≡ (is_early (local doc p j) (reading_of w) && is_early (wall doc p j) w.wall)
   pub within : (n : ℕ) → beat_of b ≡ Some n → n ≤ end_beat doc
 
--- the first beat from beat k to the end at which something is there that the process waits for, paused or not
-pub record IsNextDue (doc : Doc) (k p : ℕ) (h : List Entry) (due : Option ℕ) : Type 0 where
-  pub quiet : (j : ℕ) → k ≤ j → j ≤ end_beat doc → is_early j due ≡ true → IsAsleep doc j p (wakes_of doc p h)
-  pub there : (j : ℕ) → k ≤ j → j ≤ end_beat doc → is_early j due ≡ false → ¬ IsAsleep doc j p (wakes_of doc p h)
+-- the first beat from beat k to the end at which something is there of what the process waits for, paused or not
+pub record IsNextDue (doc : Doc) (k p : ℕ) (w : waking.Wakes) (due : Option ℕ) : Type 0 where
+  pub quiet : (j : ℕ) → k ≤ j → j ≤ end_beat doc → is_early j due ≡ true → IsAsleep doc j p w
+  pub there : (j : ℕ) → k ≤ j → j ≤ end_beat doc → is_early j due ≡ false → ¬ IsAsleep doc j p w
   pub ahead : (n : ℕ) → due ≡ Some n → IsAhead doc k n
 
 -- the first beat from this one on at which the process isn't paused, where that comes no later than the end
@@ -40,9 +42,23 @@ abbrev pub resumed : Doc → ℕ → Option ℕ → Option ℕ
 resumed doc p None = None
 resumed doc p (Some n) = when (nat_le (resume doc p n) (end_beat doc)) (resume doc p n)
 
--- the process does something in beat k that is there at once: it starts in beat 0, or it isn't paused
+-- neither the process nor the store stands still
+abbrev pub is_going : Doc → ℕ → ℕ → Bool
+is_going doc k p = not (is_paused doc p k) && not (is_stalled doc k)
+
+-- the first beat from this one to the end at which neither the process nor the store stands still
+pub record IsGoing (doc : Doc) (p from : ℕ) (b : Option ℕ) : Type 0 where
+  pub held : (j : ℕ) → from ≤ j → j ≤ end_beat doc → is_early j b ≡ true → is_going doc j p ≡ false
+  pub goes : (n : ℕ) → b ≡ Some n → (from ≤ n) × (n ≤ end_beat doc) × (is_going doc n p ≡ true)
+
+-- where the process goes on after something is due, the store stands still at this beat; None where it goes
+pub record IsStalledFrom (doc : Doc) (p : ℕ) (due stalled : Option ℕ) : Type 0 where
+  pub there : (n : ℕ) → stalled ≡ Some n → resumed doc p due ≡ Some n
+  pub none : stalled ≡ None → (n : ℕ) → resumed doc p due ≡ Some n → is_stalled doc n ≡ false
+
+-- the process does something in beat k that is there at once: it starts in beat 0, or neither it nor the store stands still
 abbrev pub goes_now : Doc → ℕ → ℕ → Wakes → Bool
-goes_now doc k p w = w.at_once && ((k == 0) || not (is_paused doc p k))
+goes_now doc k p w = w.at_once && ((k == 0) || is_going doc k p)
 
 -- the beat is the first from beat k to the end at which something is there that the process waits for
 pub record IsDue (doc : Doc) (k p : ℕ) (w : Wakes) (b : Option Beat) : Type 0 where

@@ -1,14 +1,17 @@
 // The next beat of a world at which something happens.
-ghost use Rattle.std.specs.Prelude.{◌≡◌, ◌<◌, ◌≤◌, not, ℕ, List, false, min};
+ghost use Rattle.std.specs.Prelude.{◌≡◌, ◌+◌, ◌<◌, ◌≤◌, not, ℕ, List, Option, Some, false, max, min};
 ghost use Rattle.kube_objects.specs.Document.{Doc, end_beat, processes};
 ghost use Rattle.kube_objects.specs.Entry.{Entry};
+ghost use Rattle.kube_objects.specs.Pauses.{resume as resume_of};
+ghost use Rattle.kube_objects.specs.Stalls.{awake as awake_of};
 ghost use Rattle.history.specs.History.{history};
 ghost use Rattle.agenda_laws.specs.Ahead.{IsNextBeat, IsNextBelow};
 ghost use Rattle.agenda_laws.specs.Times.{is_early, sooner as soonest};
+ghost use Rattle.agenda_laws.specs.Waking.{wakes_of};
 ghost use Rattle.script_reader.specs.Lawful.{AreLawfulFrom};
 ghost use Rattle.world_core.specs.Waits.{WakesStand, beat_of, starts_now};
 ghost use Rattle.world_core.specs.Worlds.{IsReady, WorldStands, at_of, count_of, end_of};
-ghost use Rattle.world_agenda.specs.Woken.{IsDue, IsTimeBeat, IsWithTurn, IsWoken, OnlyTurns, goes_now, not_before as since, resumed};
+ghost use Rattle.world_agenda.specs.Woken.{IsDue, IsGoing, IsNextDue, IsStalledFrom, IsTimeBeat, IsWithTurn, IsWoken, OnlyTurns, goes_now, not_before as since, resumed};
 
 use agenda_laws::{beats_wake_by_causes, next_beats_are_soonest};
 use kube_base::{Beat, ProcId, Wall};
@@ -105,7 +108,87 @@ fn with_turn(
         → IsWithTurn doc at.0 who.0 h (beat_of next) (beat_of result) }
 {
     let due = due_beat(world, who, wakes, at);
-    sooner_turn(world, who, due, next)
+    match stalled_from(world, who, due) {
+        None => sooner_turn(world, who, due, next),
+        Some(from) => with_stalled(world, who, at, from, next),
+    }
+}
+
+// The same for one that goes on at a beat at which the store stands still: its turn comes where that is due, and its tick where both go.
+#[inline(never)]
+fn with_stalled(
+    world: &World,
+    who: ProcId,
+    at: Beat,
+    from: Beat,
+    next: Option<Beat>,
+) -> Option<Beat>
+    requires ready { IsReady world.now }
+    requires within { at.0 ≤ end_of world.now }
+    requires process { who.0 < count_of world.now }
+    ensures { (doc : Doc) (h : List Entry) (due : Option ℕ) → WorldStands doc at.0 h world.now → end_of world.now ≡ end_beat doc
+        → IsNextDue doc at.0 who.0 (wakes_of doc who.0 h) due → resumed doc who.0 due ≡ Some from.0
+        → IsWithTurn doc at.0 who.0 h (beat_of next) (beat_of result) }
+{
+    let turn = due_beat(world, who, &world.turn_wakes(who), at);
+    let next = sooner_turn(world, who, turn, next);
+    sooner_beat(next, first_going(world, who, from))
+}
+
+// The beat at which a process goes on for which something is due, where the store stands still at it: then its turn may come before its tick.
+fn stalled_from(world: &World, who: ProcId, due: Option<Beat>) -> Option<Beat>
+    requires ready { IsReady world.now }
+    requires process { who.0 < count_of world.now }
+    ensures { (doc : Doc) (k : ℕ) (h : List Entry) → WorldStands doc k h world.now → end_of world.now ≡ end_beat doc
+        → IsStalledFrom doc who.0 (beat_of due) (beat_of result) }
+{
+    let Some(due) = due else {
+        return None;
+    };
+    let end = world.clock(who).end();
+    if end.0 < due.0 {
+        return None;
+    }
+    let resumes = world.resume(who, due);
+    if end.0 < resumes.0 {
+        return None;
+    }
+    if world.awake(resumes).0 == resumes.0 {
+        return None;
+    }
+    Some(resumes)
+}
+
+// The first beat from one on at which neither a process nor the store stands still.
+fn first_going(world: &World, who: ProcId, from: Beat) -> Option<Beat>
+    requires ready { IsReady world.now }
+    requires process { who.0 < count_of world.now }
+    ensures { (doc : Doc) (k : ℕ) (h : List Entry) → WorldStands doc k h world.now → end_of world.now ≡ end_beat doc
+        → IsGoing doc who.0 from.0 (beat_of result) }
+{
+    let end = world.clock(who).end();
+    let mut beat = from;
+    'held: while beat.0 <= end.0 {
+        let until = held_until(world, who, beat);
+        if until.0 <= beat.0 {
+            return Some(beat);
+        }
+        beat = until;
+    }
+    None
+}
+
+// The later one of the beats at which a process and the store go that stand still at a beat; that beat, where neither does.
+fn held_until(world: &World, who: ProcId, at: Beat) -> Beat
+    requires ready { IsReady world.now }
+    requires within { at.0 ≤ end_of world.now }
+    requires process { who.0 < count_of world.now }
+    ensures { (doc : Doc) (k : ℕ) (h : List Entry) → WorldStands doc k h world.now → end_of world.now ≡ end_beat doc
+        → result.0 ≡ min (max (resume_of doc who.0 at.0) (awake_of doc at.0)) (end_beat doc + 1) }
+{
+    let resumes = world.resume(who, at);
+    let wakes = world.awake(at);
+    if resumes.0 < wakes.0 { wakes } else { resumes }
 }
 
 // Whether there is a beat, and it comes no later than another.
@@ -118,7 +201,8 @@ fn is_there(first: Option<Beat>, at: Beat) -> bool
     }
 }
 
-// Whether a process does something in the next beat that is there at once: it starts in beat 0, also in a pause, and else it isn't paused.
+// Whether a process does something in the next beat that is there at once: it starts in beat 0, also in a pause or a stall, and else neither
+// it nor the store stands still.
 fn goes_at_once(world: &World, who: ProcId, wakes: &Wakes, at: Beat) -> bool
     requires ready { IsReady world.now }
     requires within { at.0 ≤ end_of world.now }
@@ -126,7 +210,7 @@ fn goes_at_once(world: &World, who: ProcId, wakes: &Wakes, at: Beat) -> bool
     ensures { (doc : Doc) (k : ℕ) (h : List Entry) → WorldStands doc k h world.now → end_of world.now ≡ end_beat doc
         → result ≡ goes_now doc at.0 who.0 wakes.now }
 {
-    wakes.at_once && (at.0 == 0 || world.resume(who, at).0 == at.0)
+    wakes.at_once && (at.0 == 0 || held_until(world, who, at).0 == at.0)
 }
 
 // The first beat from the next one on at which something is there that a process waits for, paused or not.

@@ -8,11 +8,11 @@ use Rattle.kube_base.specs.declared.numbers.Local.{Local}
 use Rattle.kube_objects.specs.Clocks.{local, wall}
 use Rattle.kube_objects.specs.Document.{Doc, end_beat, is_controller, is_up_first}
 use Rattle.kube_objects.specs.Elector.{in_term, deadline, is_before}
-use Rattle.kube_objects.specs.Entry.{Entry}
+use Rattle.kube_objects.specs.Entry.{Entry, Identity}
 use Rattle.kube_objects.specs.Identities.{identity}
 use Rattle.kube_objects.specs.Newest.{has, only_if}
 use Rattle.kube_objects.specs.Process.{alive, is_present}
-use Rattle.agenda_laws.specs.Ticking.{is_due_at_once, term_reading, term_time}
+use Rattle.agenda_laws.specs.Ticking.{is_due_at_once, sync_at, synced_reading, term_reading, term_time}
 use Rattle.agenda_laws.specs.Times.{is_early, sooner, if_up, elector_reading, kubelet_reading}
 use Rattle.agenda_laws.specs.Waking as waking
 use Rattle.agenda_laws.specs.Waking.{IsAsleep, acts_at_once, leads_at_once, wakes_as, wakes_of}
@@ -277,6 +277,14 @@ its-term doc k p i h up s =
       reading = ap (λ b. acting_reading doc k p b h) s.sort ∙ ap (if_up p (λ q. only_if (in_term doc q k h) (term_reading doc q h))) up ∙ ap (λ b. only_if b (term_reading doc (identity p i) h)) s.term;
       time = ap (λ b. acting_time doc k p b h) s.sort ∙ ap (if_up p (λ q. only_if (in_term doc q k h) (term_time q h))) up ∙ ap (λ b. only_if b (term_time (identity p i) h)) s.term;
     }
+
+-- what a term waits for is its sync and all else
+pub term-reading : (doc : Doc) (q : Identity) (h : List Entry) (sync synced both : Option Local) → local_of both ≡ sooner (local_of sync) (local_of synced) → beats.reading_of sync ≡ sync_at doc q h → beats.reading_of synced ≡ synced_reading doc q h
+    → beats.reading_of both ≡ term_reading doc q h
+term-reading doc q h sync synced both is first rest =
+    sym (readings-alike both) ∙ is
+    ∙ ap (λ o. sooner o (local_of synced)) (readings-alike sync ∙ first)
+    ∙ ap (sooner (sync_at doc q h)) (readings-alike synced ∙ rest)
 
 pub acting-stands : (doc : Doc) (k p i : ℕ) (h : List Entry) (c : Clocking) (wake term : Option Local) (w : Wakes) → ClockStands doc p c → starts_now doc k p ≡ false → ItsTerm doc k p i h → beats.reading_of wake ≡ own_reading doc p h
     → w.at_once ≡ is_due_at_once doc (identity p i) h → reading_of w ≡ sooner (local_of wake) (local_of term)

@@ -6,7 +6,9 @@ use Rattle.kube_objects.specs.Document.{Doc, processes, is_up_first}
 use Rattle.kube_objects.specs.Entry.{Entry}
 use Rattle.kube_objects.specs.InFlight.{requests_due, replies_due, is_due}
 use Rattle.kube_objects.specs.Pauses.{held_up, resume}
+use Rattle.kube_objects.specs.Stalls.{at_store, awake}
 use Rattle.kube_objects.proofs.Pauses.{resume_later}
+use Rattle.kube_objects.proofs.Stalls.{awake_later}
 use Rattle.kube_objects.specs.Wire.{Sent, reply_delay, loses_replies, arrival, reply_arrival}
 use Rattle.history.specs.History.{beat, three_steps}
 use Rattle.history.specs.Steps.{start_first, starts_below, first_starts, step_one, answered, step_three, turns, answer_all, deliver_all}
@@ -47,22 +49,22 @@ replies-starts doc (suc k) j h = refl
 
 -- ---- what is answered at a beat comes back later
 
-never-now : (k delay : ℕ) → 1 ≤ delay → ((k + delay) == k) ≡ false
-never-now k delay later = grind (arith, nat_tests)
-
-pub not_due : (lost : Bool) (k delay : ℕ) → 1 ≤ delay → is_due k (arrival lost k delay) ≡ false
-not_due true k delay later = refl
-not_due false k delay later = never-now k delay later
-
 never-later : (k n : ℕ) → k < n → (n == k) ≡ false
 never-later k n later = grind (arith, nat_tests)
 
--- nor where it waits for who is paused
+-- also where it waits for who is paused
 held_later : (doc : Doc) (p k : ℕ) (lost : Bool) (delay : ℕ) → 1 ≤ delay → is_due k (held_up doc p (arrival lost k delay)) ≡ false
 held_later doc p k true delay later = refl
 held_later doc p k false delay later =
     let from = resume_later doc p (k + delay) in
     never-later k (resume doc p (k + delay)) (omega (arith, later, from))
+
+-- what is asked arrives later, also where it waits for the store
+pub stalled_later : (doc : Doc) (k : ℕ) (lost : Bool) (delay : ℕ) → 1 ≤ delay → is_due k (at_store doc (arrival lost k delay)) ≡ false
+stalled_later doc k true delay later = refl
+stalled_later doc k false delay later =
+    let from = awake_later doc (k + delay) in
+    never-later k (awake doc (k + delay)) (omega (arith, later, from))
 
 replies-answered : (doc : Doc) (k : ℕ) (s : Sent) (h : List Entry) → 1 ≤ reply_delay s.who.process h → replies_due k (answered doc k s h) ≡ replies_due k h
 replies-answered doc k s h later = ap (λ b. cond b (replies_due k h ++ record { who = s.who; call = s.call; reply = answer s.call.request h; comes = reply_arrival doc s.who.process k h } ∷ []) (replies_due k h)) (held_later doc s.who.process k (loses_replies s.who.process h) (reply_delay s.who.process h) later)
@@ -117,7 +119,7 @@ world-next doc k h w s placed unticked =
     record {
       within = record {
         rest = record {
-          document = record { at = ap (λ n. n + 1) d.at; restart = d.restart; count = d.count; epoch = d.epoch; micros = d.micros; events = d.events; controllers = d.controllers; own = d.own };
+          document = record { at = ap (λ n. n + 1) d.at; restart = d.restart; count = d.count; epoch = d.epoch; micros = d.micros; events = d.events; controllers = d.controllers; stalls = d.stalls; own = d.own };
           plain = s.rest.plain;
           store = s.rest.store;
           wire = wire-next-beat (processes doc) k h w.wire s.rest.wire;

@@ -12,6 +12,7 @@ use Rattle.history.specs.History.{history, beat}
 use Rattle.history_laws.specs.Calls.{CallsAreFew}
 use Rattle.history_laws.specs.Starts.{StartsAreFew}
 use Rattle.beat_laws.specs.Names.{NodesAreFew}
+use Rattle.manifest_json.specs.declared.scale.Scale.TheVariants as scales
 use Rattle.manifest_json.specs.Walk.{kind_count, kind_limit}
 use Rattle.world_process.specs.Plain.{IsFew}
 
@@ -29,14 +30,14 @@ kinds-counted (item ∷ items) =
     let pods = sum_by-cons (λ (i : Key × Object). cond (2 == kind_rank i.0.kind) 1 0) item items in
     omega (arith, kinds-counted items, nodes, leases, pods, one-kind item.0.kind)
 
-pub objects-most : (items : List (Key × Object)) → ((kind : Kind) → kind_count kind items ≤ kind_limit kind) → length items ≤ 33000
+pub objects-most : (items : List (Key × Object)) → ((kind : Kind) → kind_count kind items ≤ kind_limit scales.Large kind) → length items ≤ 495000
 objects-most items few =
-    let nodes : kind_count kinds.Node items ≤ 1000 = few kinds.Node in
-    let leases : kind_count kinds.Lease items ≤ 2000 = few kinds.Lease in
-    let pods : kind_count kinds.Pod items ≤ 30000 = few kinds.Pod in
+    let nodes : kind_count kinds.Node items ≤ 15000 = few kinds.Node in
+    let leases : kind_count kinds.Lease items ≤ 30000 = few kinds.Lease in
+    let pods : kind_count kinds.Pod items ≤ 450000 = few kinds.Pod in
     omega (arith, kinds-counted items, nodes, leases, pods)
 
-pub few-beat : (doc : Doc) → IsOwn doc → (k : ℕ) → CallsAreFew → StartsAreFew → NodesAreFew → k ≤ 604800000 → length doc.objects ≤ 33000 → length doc.events ≤ 100000 → IsFew (beat doc (history doc k) k)
+pub few-beat : (doc : Doc) → IsOwn doc → (k : ℕ) → CallsAreFew → StartsAreFew → NodesAreFew → k ≤ 604800000 → length doc.objects ≤ 495000 → length doc.events ≤ 1000000 → IsFew (beat doc (history doc k) k)
 few-beat doc own k calls starts nodes within objects events =
     record {
       calls = λ q. (let most = calls doc (ap (λ r. r.release) own.rules) q (suc k) in omega (arith, most, within));

@@ -15,15 +15,14 @@ use Rattle.kube_objects.specs.Newest.{only_if}
 use Rattle.kube_objects.specs.Own.{IsOwn}
 use Rattle.kube_objects.specs.Pauses.{is_paused}
 use Rattle.kube_objects.specs.Process.{alive}
-use Rattle.kube_objects.specs.Wire.{Sent, Back, arrival, request_delay, loses_requests, next_call}
-use Rattle.kube_objects.proofs.Own.{request_arrival-own}
+use Rattle.kube_objects.specs.Wire.{Sent, Back, request_arrival, request_delay, loses_requests, next_call}
 use Rattle.history.specs.Steps.{start_if_down, crash, stall, released, stop, happens, happen_all}
 use Rattle.history.proofs.Own.{stop-own}
 use Rattle.script_reader.specs.Lawful.{IsLawfulWhat, AreLawfulFrom}
 use Rattle.world_core.specs.declared.world.World.{World}
 use Rattle.world_process.specs.Plain.{IsFew}
 use Rattle.world_core.specs.Worlds.{DocStands, IsPlaced, MidBeat, Scripted}
-use Rattle.world_core.proofs.Beats.{not_due}
+use Rattle.world_core.proofs.Beats.{stalled_later}
 use Rattle.world_core.proofs.Events.{drop-at, drop-past, happens-now, happen-earlier, happen-later, lawful-later, lawful-rest, lawful-what, earlier-more}
 use Rattle.world_process.proofs.Grows.{grows-happen_all, few-before}
 
@@ -41,17 +40,16 @@ requests-stall : (j k p beats : ℕ) (up : Option ℕ) (h : List Entry) → requ
 requests-stall j k p beats None h = refl
 requests-stall j k p beats (Some i) h = refl
 
-requests-released : (doc : Doc) → IsOwn doc → (k : ℕ) (q : Identity) (request : Option Request) (h : List Entry) → 1 ≤ request_delay q.process h → requests_due k (released doc k q request h) ≡ requests_due k h
-requests-released doc own k q None h later = refl
-requests-released doc own k q (Some request) h later =
-    ap (λ o. requests_due k (entry k 1 q (Sends (next_call q k Release request h) o) ∷ h)) (request_arrival-own doc own q.process k h)
-    ∙ ap (λ b. cond b (requests_due k h ++ record { who = q; call = next_call q k Release request h; arrives = arrival (loses_requests q.process h) k (request_delay q.process h) } ∷ []) (requests_due k h)) (not_due (loses_requests q.process h) k (request_delay q.process h) later)
+requests-released : (doc : Doc) (k : ℕ) (q : Identity) (request : Option Request) (h : List Entry) → 1 ≤ request_delay q.process h → requests_due k (released doc k q request h) ≡ requests_due k h
+requests-released doc k q None h later = refl
+requests-released doc k q (Some request) h later =
+    ap (λ b. cond b (requests_due k h ++ record { who = q; call = next_call q k Release request h; arrives = request_arrival doc q.process k h } ∷ []) (requests_due k h)) (stalled_later doc k (loses_requests q.process h) (request_delay q.process h) later)
 
 requests-stop : (doc : Doc) → IsOwn doc → (k p : ℕ) (up : Option ℕ) (before h : List Entry) → 1 ≤ request_delay p h → requests_due k (stop doc k p up before h) ≡ requests_due k h
 requests-stop doc own k p None before h later = refl
 requests-stop doc own k p (Some i) before h later =
     ap (requests_due k) (stop-own doc own k (identity p i) before h)
-    ∙ requests-released doc own k (identity p i) (release doc (identity p i) k before) (entry k 1 (identity p i) Stops ∷ h) later
+    ∙ requests-released doc k (identity p i) (release doc (identity p i) k before) (entry k 1 (identity p i) Stops ∷ h) later
 
 requests-happens : (doc : Doc) → IsOwn doc → (k : ℕ) (event : What) (h : List Entry) → ((p : ℕ) → 1 ≤ request_delay p h) → requests_due k (happens doc k event h) ≡ requests_due k h
 requests-happens doc own k (what.Rate id ppm) h later = refl

@@ -27,7 +27,7 @@ use Rattle.world_core.specs.Worlds.{IsReady, SameDocument, Keeps, EachStands, Mi
 use Rattle.world_core.specs.Waits.{awake_turn, turn_if}
 use Rattle.world_process.proofs.Grows.{Grows, grows-on, grows-same, grows-entry, grows-delivered, grows-more_starts, grows-more_turns, grows-ticks, few-before}
 use Rattle.world_core.proofs.Known.{sent-later, back-later}
-use Rattle.world_core.proofs.MidBeat.{Unmoved, doc-same, answered-running}
+use Rattle.world_core.proofs.MidBeat.{Unmoved, doc-same, answered-running, same_document}
 
 -- ---- requests
 
@@ -152,13 +152,14 @@ same-on u w v a b =
       events = b.events ∙ a.events;
       names = b.names ∙ a.names;
       controllers = b.controllers ∙ a.controllers;
+      stalls = b.stalls ∙ a.stalls;
     }
 
 pub keeps-on : (u w v : World) → Keeps u w → Keeps w v → Keeps u v
 keeps-on u w v a b = record { ready = b.ready; same = same-on u w v a.same b.same; place = b.place ∙ a.place; count = b.count ∙ a.count }
 
 pub keeps-same : (w : World) → IsReady w → Keeps w w
-keeps-same w ready = record { ready = ready; same = (record { beat = refl; end = refl; restart = refl; epoch = refl; micros = refl; events = refl; names = refl; controllers = refl }); place = refl; count = refl }
+keeps-same w ready = record { ready = ready; same = same_document; place = refl; count = refl }
 
 pub few-starts : (doc : Doc) (i n : ℕ) (h : List Entry) → i < n → IsFew (starts_below doc n h) → IsFew (starts_below doc (suc i) h)
 few-starts doc i n h less few =

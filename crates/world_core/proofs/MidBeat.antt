@@ -1,5 +1,5 @@
 -- Layer 3, the world around one process: one process has moved, and the world stands again.
-use Rattle.std.proofs.Common.{All, ◌≡◌, ℕ, ◌+◌, ◌<◌, ◌≤◌, ◌==◌, ◌++◌, Bool, true, false, List, ◌∷◌, Option, Some, None, slice_get, slice_set, length, refl, sym, ap, ◌∙◌, subst, append_assoc, vec_len, arith, if◌then◌else◌}
+use Rattle.std.proofs.Common.{All, Vec, Global, ◌≡◌, ℕ, ◌+◌, ◌<◌, ◌≤◌, ◌==◌, ◌++◌, Bool, true, false, List, ◌∷◌, Option, Some, None, slice_get, slice_set, length, refl, sym, ap, ◌∙◌, subst, append_assoc, vec_len, arith, if◌then◌else◌}
 use Rattle.std.proofs.lemmas.List.{append-nil}
 use Rattle.std.proofs.lemmas.Option.{slice_get_within}
 use Rattle.beat_tree.specs.declared.tree.BeatTree.{BeatTree}
@@ -12,12 +12,15 @@ use Rattle.kube_objects.specs.Document.{Doc, processes, is_up_first}
 use Rattle.kube_objects.specs.Entry.{Entry, Identity, CallKind, Sends, Answers, Delivers, entry, actor_of}
 use Rattle.kube_objects.specs.Identities.{identity}
 use Rattle.kube_objects.specs.Process.{starts}
-use Rattle.kube_objects.specs.Wire.{Sent, Back, send, next_call, reply_arrival}
-use Rattle.kube_objects.proofs.Own.{request_arrival-own}
+use Rattle.kube_objects.specs.Wire.{Sent, Back, send, next_call, request_arrival, reply_arrival}
 use Rattle.history.specs.Printed.{printed, deeds_of, answer_act}
 use Rattle.history.specs.Steps.{answered, delivered, start_first, start}
+use Rattle.object_store.specs.declared.store.Store.{Store}
 use Rattle.object_store.proofs.Keeps.{store-beside}
-use Rattle.wire_calls.specs.WireStands.{WireStands, request_travel}
+use Rattle.pause_times.specs.Owned.{StallsStand}
+use Rattle.wire_calls.specs.declared.wire.Wire.{Wire}
+use Rattle.wire_calls.specs.WireStands.{WireStands}
+use Rattle.world_process.specs.declared.in_force.InForce.{InForce}
 use Rattle.world_process.specs.declared.process.Process.{Process}
 use Rattle.world_process.specs.declared.moves.Received.{Received}
 use Rattle.world_process.specs.declared.moves.Turn.{Turn}
@@ -35,6 +38,11 @@ use Rattle.object_store.specs.Stands.{StoreStands}
 use Rattle.world_process.proofs.Names.{eq-is, eq-isnt, eq-self}
 use Rattle.world_process.proofs.Plainly.{plain-entry, known-later, starts-start}
 
+-- a step of a beat changes these of a world alone
+pub same_document : {w : World} {store : Store} {wire : Wire} {processes : Vec Process Global} {turn_beats : BeatTree} {in_force : InForce} {place : ℕ}
+    → SameDocument w (record w { store = store; wire = wire; processes = processes; turn_beats = turn_beats; in_force = in_force; place = place })
+same_document = record { beat = refl; end = refl; restart = refl; epoch = refl; micros = refl; events = refl; names = refl; controllers = refl; stalls = refl }
+
 -- the world with process i moved; its wire may have changed too
 pub record Moved (i : ℕ) (c0 c1 : Process) (w v : World) : Type 0 where
   pub was : slice_get w.processes.items i ≡ Some c0
@@ -44,13 +52,18 @@ pub record Moved (i : ℕ) (c0 c1 : Process) (w v : World) : Type 0 where
   pub store : v.store ≡ w.store
   pub in_force : v.in_force ≡ w.in_force
 
+-- process i was written back; no more of the world changed than its wire and what is noted of its turn
+pub one_process_moved : {i : ℕ} {c0 c1 : Process} {w : World} {wire : Wire} {processes : Vec Process Global} {turn_beats : BeatTree} → slice_get w.processes.items i ≡ Some c0
+    → processes.items ≡ slice_set w.processes.items i c1 → Moved i c0 c1 w (record w { wire = wire; processes = processes; turn_beats = turn_beats })
+one_process_moved was now = record { was = was; now = now; same = same_document; place = refl; store = refl; in_force = refl }
+
 -- the processes and what was read of the document are as before
 pub record Unmoved (w v : World) : Type 0 where
   pub same : SameDocument w v
   pub processes : v.processes ≡ w.processes
 
-pub unmoved-self : (w : World) → Unmoved w w
-unmoved-self w = record { same = record { beat = refl; end = refl; restart = refl; epoch = refl; micros = refl; events = refl; names = refl; controllers = refl }; processes = refl }
+pub unmoved : {w : World} {store : Store} {wire : Wire} {in_force : InForce} {place : ℕ} → Unmoved w (record w { store = store; wire = wire; in_force = in_force; place = place })
+unmoved = record { same = same_document; processes = refl }
 
 each-set : (doc : Doc) (i : ℕ) (h : List Entry) (cs : List Process) (c0 c1 : Process) → slice_get cs i ≡ Some c0 → OthersStand doc i h cs → ProcessStands doc i h c1 → EachStands doc h (slice_set cs i c1)
 each-set doc i h cs c0 c1 was others own p c is = by_place (p == i) refl
@@ -76,6 +89,7 @@ doc-same doc k w v same count s =
       micros = same.micros ∙ s.micros;
       events = same.events ∙ s.events;
       controllers = same.controllers ∙ s.controllers;
+      stalls = subst (StallsStand doc) (sym same.stalls) s.stalls;
       own = s.own;
     }
 
@@ -98,31 +112,31 @@ within-moved doc k i arriving coming h c0 c1 w v m wire a own =
     }
 
 -- a request was sent
-within-sent : (doc : Doc) (k step i : ℕ) (arriving : List Sent) (coming : List Back) (h next : List Entry) (c0 c1 : Process) (w v : World) (ask : Ask) → Moved i c0 c1 w v → SendsAsked k (identity i (incarnation_of c1)) (Some ask) w.wire v.wire →
+within-sent : (doc : Doc) (k step i : ℕ) (arriving : List Sent) (coming : List Back) (h next : List Entry) (c0 c1 : Process) (w v : World) (ask : Ask) → Moved i c0 c1 w v → SendsAsked k (identity i (incarnation_of c1)) (Some ask) w.stalls w.wire v.wire →
     Around doc k i arriving coming h w → i < processes doc → AsksOn doc k step i h next c1 (Some ask) → WorldWithin doc k arriving coming next v
 within-sent doc k step i arriving coming h next c0 c1 w v ask m sends a within asked =
     let q = identity i (incarnation_of c1) in
     let call = next_call q k asked.kind ask.request h in
-    let d = Sends call (request_travel i k h) in
+    let d = Sends call (request_arrival doc i k h) in
     let e = entry k step q d in
     let last : incarnation_of c1 ≡ starts i h = process-incarnation doc i (entry k step q (Sends call None) ∷ h) c1 (asked.stands None) in
     let known : IsKnown (processes doc) h q = record { within = within; started = omega (arith, last) } in
-    let sent : next ≡ e ∷ h = asked.sent ∙ ap (λ o. entry k step q (Sends call o) ∷ h) (request_arrival-own doc a.rest.document.own i k h) in
+    let sent : next ≡ e ∷ h = asked.sent in
     subst (λ x. WorldWithin doc k arriving coming x v) (sym sent)
     (record {
       rest = record {
         document = doc-moved doc k i c0 c1 w v m a.rest.document;
         plain = plain-entry (processes doc) k step q d h (known-later (processes doc) e h q known) a.rest.plain;
         store = subst (λ s. StoreStands (e ∷ h) s) (sym m.store) (store-beside h e w.store a.rest.store refl);
-        wire = sends (processes doc) step arriving coming h call a.rest.wire (sym asked.number) refl;
+        wire = sends doc (processes doc) step arriving coming h call a.rest.document.stalls a.rest.wire (sym asked.number) refl;
         in_force = subst (InForceStands doc (e ∷ h)) (sym m.in_force) (in_force-beside doc e h w.in_force refl a.rest.in_force);
       };
       processes = subst (EachStands doc (e ∷ h)) (sym m.now)
-          (each-set doc i (e ∷ h) w.processes.items c0 c1 m.was (λ p c other is. process-others doc p k step q d h c (λ same. other (sym same)) refl (a.others p c other is)) (asked.stands (request_travel i k h)));
+          (each-set doc i (e ∷ h) w.processes.items c0 c1 m.was (λ p c other is. process-others doc p k step q d h c (λ same. other (sym same)) refl (a.others p c other is)) (asked.stands (request_arrival doc i k h)));
     })
 
 -- what a process asks was sent, where it asks
-pub within-asked : (doc : Doc) (k step i : ℕ) (arriving : List Sent) (coming : List Back) (h next : List Entry) (c0 c1 : Process) (w v : World) (ask : Option Ask) → Moved i c0 c1 w v → SendsAsked k (identity i (incarnation_of c1)) ask w.wire v.wire →
+pub within-asked : (doc : Doc) (k step i : ℕ) (arriving : List Sent) (coming : List Back) (h next : List Entry) (c0 c1 : Process) (w v : World) (ask : Option Ask) → Moved i c0 c1 w v → SendsAsked k (identity i (incarnation_of c1)) ask w.stalls w.wire v.wire →
     Around doc k i arriving coming h w → i < processes doc → AsksOn doc k step i h next c1 ask → WorldWithin doc k arriving coming next v
 within-asked doc k step i arriving coming h next c0 c1 w v None m same a within asks =
     subst (λ g. WorldWithin doc k arriving coming g v) (sym asks.0) (within-moved doc k i arriving coming h c0 c1 w v m same a asks.1)
@@ -153,7 +167,7 @@ told-turn doc k i before deeds h c t told turned =
     sym (append_assoc before (deeds ++ s) e) ∙ ap (λ x. x ++ e) (sym (append_assoc before deeds s)) ∙ ap (λ x. x ++ s ++ e) told ∙ sym turned.told
 
 pub running-turned : (doc : Doc) (k i : ℕ) (before deeds new : List Deed) (arriving : List Sent) (coming : List Back) (h : List Entry) (c0 c1 : Process) (w v : World) (t : Turn) → MidBeat doc k before arriving coming h w deeds →
-    i < processes doc → Moved i c0 c1 w v → SendsAsked k (identity i (incarnation_of c1)) t.ask w.wire v.wire → Turned doc k i h c1 t → new ≡ turn_told k (identity i (incarnation_of c1)) t deeds →
+    i < processes doc → Moved i c0 c1 w v → SendsAsked k (identity i (incarnation_of c1)) t.ask w.stalls w.wire v.wire → Turned doc k i h c1 t → new ≡ turn_told k (identity i (incarnation_of c1)) t deeds →
     MidBeat doc k before arriving coming (own_turn doc k i h) v new
 running-turned doc k i before deeds new arriving coming h c0 c1 w v t r within m sends turned new_is =
     let base = before_asking doc k i h in
@@ -169,7 +183,7 @@ abbrev pub reply_told : ℕ → Identity → Received → List Deed → List Dee
 reply_told k q r deeds = deeds ++ lead_deeds k q r.lead
 
 within-replied : (doc : Doc) (k i : ℕ) (arriving : List Sent) (coming : List Back) (b : Back) (h : List Entry) (c0 c1 : Process) (w v : World) (ask : Option Ask) → b.who.process ≡ i → i < processes doc → IsKnown (processes doc) h b.who →
-    Moved i c0 c1 w v → SendsAsked k (identity i (incarnation_of c1)) ask w.wire v.wire → Around doc k i arriving coming h w → AsksOnReply doc k (identity i (incarnation_of c1)) b h (λ g. ProcessStands doc i g c1) ask →
+    Moved i c0 c1 w v → SendsAsked k (identity i (incarnation_of c1)) ask w.stalls w.wire v.wire → Around doc k i arriving coming h w → AsksOnReply doc k (identity i (incarnation_of c1)) b h (λ g. ProcessStands doc i g c1) ask →
     WorldWithin doc k arriving coming (delivered doc k b h) v
 within-replied doc k i arriving coming b h c0 c1 w v None process within known m same a on =
     let next = with_facts k 3 b.who on.facts h in
@@ -184,7 +198,7 @@ within-replied doc k i arriving coming b h c0 c1 w v (Some ask) process within k
     within-sent doc k 3 i arriving coming g (delivered doc k b h) c0 c1 w v ask m sends (around-own doc k i k 3 arriving coming q d h w refl refl known_g a) within on.asked
 
 pub running-replied : (doc : Doc) (k i : ℕ) (before deeds new : List Deed) (arriving : List Sent) (coming : List Back) (b : Back) (h : List Entry) (c0 c1 : Process) (w v : World) (x : Received) → MidBeat doc k before arriving coming h w deeds →
-    b.who.process ≡ i → i < processes doc → IsKnown (processes doc) h b.who → Moved i c0 c1 w v → SendsAsked k (identity i (incarnation_of c1)) x.ask w.wire v.wire → Replied doc k i b h c1 x → new ≡ reply_told k (identity i (incarnation_of c1)) x deeds →
+    b.who.process ≡ i → i < processes doc → IsKnown (processes doc) h b.who → Moved i c0 c1 w v → SendsAsked k (identity i (incarnation_of c1)) x.ask w.stalls w.wire v.wire → Replied doc k i b h c1 x → new ≡ reply_told k (identity i (incarnation_of c1)) x deeds →
     MidBeat doc k before arriving coming (delivered doc k b h) v new
 running-replied doc k i before deeds new arriving coming b h c0 c1 w v x r process within known m sends replied new_is =
     record {
@@ -203,7 +217,7 @@ ready-same w v same count clocks kept noted ready =
       epoch = subst (λ e. e.0 < 7258118400000000) (sym same.epoch) ready.epoch;
       micros = subst (λ n. n ≤ 1000000) (sym same.micros) ready.micros;
       events = subst (All (λ e. IsFit e.what)) (sym same.events) ready.events;
-      few = subst (λ n. n ≤ 1016) (sym count) ready.few;
+      few = subst (λ n. n ≤ 15016) (sym count) ready.few;
       clocks = λ i c is. clocks i c is ∙ ap (λ e. e.0) (sym same.end);
       controllers = subst (λ n. n ≤ vec_len v.processes) (sym same.controllers) (subst (λ n. w.controllers ≤ n) (sym count) ready.controllers);
       kept = kept;

@@ -9,6 +9,7 @@ use Rattle.kube_objects.specs.declared.deed.Actor.TheVariants as actor
 use Rattle.kube_objects.specs.Document.{Doc, processes}
 use Rattle.kube_objects.specs.Entry.{actor_of}
 use Rattle.kube_objects.specs.Identities.{identity}
+use Rattle.pause_times.specs.declared.stalls.Stalls.{Stalls}
 use Rattle.wire_calls.specs.declared.wire.Wire.{Wire}
 use Rattle.world_process.specs.declared.process.Process.{Process}
 use Rattle.world_core.specs.declared.world.World.{World}
@@ -34,12 +35,12 @@ pub actor-is : (p : ℕ) (x : Process) (who : Actor) → who ≡ actor.Proc (me_
 actor-is p x who is me = is ∙ ap (λ (n : ℕ). let id : ProcId = record { 0 = n } in actor.Proc id (incarnation_of x)) me
 
 -- what the wire did with what a process asks
-pub sends-as : (k now i incarnation : ℕ) (who : ProcId) (x : Process) (ask : Option Ask) (old new : Wire) → now ≡ k → who ≡ me_of x → incarnation ≡ incarnation_of x → (me_of x).0 ≡ i → SendsAsked now (identity who.0 incarnation) ask old new →
-    SendsAsked k (identity i (incarnation_of x)) ask old new
-sends-as k now i incarnation who x ask old new at who_is incarnation_is me sends =
-    subst (λ n. SendsAsked n (identity i (incarnation_of x)) ask old new) at
-    (subst (λ n. SendsAsked now (identity i n) ask old new) incarnation_is
-    (subst (λ n. SendsAsked now (identity n incarnation) ask old new) (ap (λ p. p.0) who_is ∙ me) sends))
+pub sends-as : (k now i incarnation : ℕ) (who : ProcId) (x : Process) (ask : Option Ask) (stalls : Stalls) (old new : Wire) → now ≡ k → who ≡ me_of x → incarnation ≡ incarnation_of x → (me_of x).0 ≡ i → SendsAsked now (identity who.0 incarnation) ask stalls old new →
+    SendsAsked k (identity i (incarnation_of x)) ask stalls old new
+sends-as k now i incarnation who x ask stalls old new at who_is incarnation_is me sends =
+    subst (λ n. SendsAsked n (identity i (incarnation_of x)) ask stalls old new) at
+    (subst (λ n. SendsAsked now (identity i n) ask stalls old new) incarnation_is
+    (subst (λ n. SendsAsked now (identity n incarnation) ask stalls old new) (ap (λ p. p.0) who_is ∙ me) sends))
 
 pub on-ok : {A E : Type 0} (r : Result A E) (P Q : Type 0) → (P → Q) → OnOk r P → OnOk r Q
 on-ok (Ok x) P Q f p = f p

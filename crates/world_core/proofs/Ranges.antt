@@ -1,12 +1,14 @@
 -- Layer 1, lists, ranges and places: the ranges of a document that the world keeps.
-use Rattle.std.proofs.Common.{◌≡◌, ℕ, ◌+◌, ◌*◌, ◌<◌, ◌≤◌, Bool, true, false, nat_lt, IsTrue, ◌↔◌, List, [], ◌∷◌, All, refl, sym, ◌∙◌, arith}
+use Rattle.std.proofs.Common.{◌≡◌, ℕ, ◌+◌, ◌*◌, ◌^◌, ◌<◌, ◌≤◌, IfSome, Bool, true, false, nat_lt, IsTrue, ◌↔◌, List, [], ◌∷◌, All, refl, sym, ◌∙◌, arith}
 use Rattle.std.proofs.lemmas.Bool.Decides.{nat_tests}
 use Rattle.std.proofs.Math.Nat.{le-mul_of_pos_right}
 use Rattle.std.proofs.lemmas.List.Elements.{All-cons}
 use Rattle.kube_objects.specs.declared.script.Event.{Event}
 use Rattle.kube_objects.specs.declared.script.What.{What}
 use Rattle.kube_objects.specs.declared.script.What.TheVariants as what
-use Rattle.kube_objects.specs.Document.{Doc}
+use Rattle.kube_objects.specs.Document.{Doc, end_beat}
+use Rattle.kube_objects.specs.Stalls.{stall_of}
+use Rattle.pause_times.specs.Owned.{AreStallsFit}
 use Rattle.script_reader.specs.Lawful.{IsLawfulWhat, AreLawfulFrom}
 use Rattle.world_core.specs.Worlds.{IsFit}
 use Rattle.world_process.proofs.Names.{le-from, lt-from}
@@ -31,6 +33,25 @@ fit doc (what.Remove key) lawful = tt
 pub all-fit : (doc : Doc) (from : ℕ) (es : List Event) → AreLawfulFrom doc from es → All (λ e. IsFit e.what) es
 all-fit doc from [] lawful = λ k d less. absurd (omega (arith, less))
 all-fit doc from (e ∷ es) lawful = All-cons (λ x. IsFit x.what) e es (fit doc e.what lawful.2) (all-fit doc e.beat.0 es lawful.3)
+
+stall-fits : (doc : Doc) (at : ℕ) (event : What) → at ≤ 604800000 → IsLawfulWhat doc event → IfSome (stall_of event) (λ beats. at + beats < 2 ^ 32)
+stall-fits doc at (what.Rate id ppm) within lawful = tt
+stall-fits doc at (what.Delay id requests replies) within lawful = tt
+stall-fits doc at (what.Loss id requests replies) within lawful = tt
+stall-fits doc at (what.Crash id) within lawful = tt
+stall-fits doc at (what.Start id) within lawful = tt
+stall-fits doc at (what.Stop id) within lawful = tt
+stall-fits doc at (what.Watch id on) within lawful = tt
+stall-fits doc at (what.Ready id status) within lawful = tt
+stall-fits doc at (what.Pause id beats) within lawful = tt
+stall-fits doc at (what.Stall beats) within lawful = omega (arith, within, lawful.1)
+stall-fits doc at (what.Put key object) within lawful = tt
+stall-fits doc at (what.Remove key) within lawful = tt
+
+pub stalls-fit : (doc : Doc) (from : ℕ) (es : List Event) → end_beat doc ≤ 604800000 → AreLawfulFrom doc from es → AreStallsFit es
+stalls-fit doc from [] most lawful = λ k d less. absurd (omega (arith, less))
+stalls-fit doc from (e ∷ es) most lawful =
+    All-cons (λ x. IfSome (stall_of x.what) (λ beats. x.beat.0 + beats < 2 ^ 32)) e es (stall-fits doc e.beat.0 e.what (omega (arith, lawful.1, most)) lawful.2) (stalls-fit doc e.beat.0 es most lawful.3)
 
 -- ---- whether the end is passed
 

@@ -35,7 +35,7 @@ use Rattle.world_process.proofs.Names.{lt-from, eq-isnt}
 use Rattle.world_process.proofs.Plainly.{known-later}
 use Rattle.world_process.proofs.Processes.{process-event, process-stalled}
 use Rattle.world_process.proofs.Scripted.{plain-script}
-use Rattle.world_core.proofs.MidBeat.{Moved, Unmoved, doc-same, within-asked, within-moved, printed-asked, told-more, unmoved-self}
+use Rattle.world_core.proofs.MidBeat.{Moved, Unmoved, doc-same, within-asked, within-moved, printed-asked, told-more, unmoved}
 
 pub controller-within : (doc : Doc) (p : ℕ) → is_controller doc p ≡ true → p < processes doc
 controller-within doc p is = let less = lt-from p (length doc.controllers) is in omega (arith, less, length-append doc.controllers doc.kubelets)
@@ -69,7 +69,7 @@ pub running-plain : (doc : Doc) (k : ℕ) (before deeds : List Deed) (arriving :
     event_act event None ≡ None → ((p : ℕ) → cancels doc p k event ≡ false) → MidBeat doc k before arriving coming (scripted k event None h) w deeds
 running-plain doc k before deeds arriving coming h w event r wire write standing untold beside =
     let e = script_entry k 1 (Event event None) in
-    running-event doc k before deeds deeds arriving coming h w w event None r beside (unmoved-self w) (in_force-beside doc e h w.in_force standing r.world.rest.in_force)
+    running-event doc k before deeds deeds arriving coming h w w event None r beside unmoved (in_force-beside doc e h w.in_force standing r.world.rest.in_force)
     (store-beside h e w.store r.world.rest.store write) (wire-beside (processes doc) k arriving coming h e w.wire wire r.world.rest.wire)
     (sym (append-nil deeds) ∙ ap (λ a. deeds ++ deeds_of k actor.Script a) (sym untold))
 
@@ -175,7 +175,7 @@ running-moved doc k i before deeds new more arriving coming h next c0 c1 w v r m
 
 -- what it asks was sent, where it asks
 pub running-asked : (doc : Doc) (k i : ℕ) (before deeds new more : List Deed) (arriving : List Sent) (coming : List Back) (h base next : List Entry) (c0 c1 : Process) (w v : World) (ask : Option Ask) → MidBeat doc k before arriving coming h w deeds →
-    i < processes doc → Moved i c0 c1 w v → SendsAsked k (identity i (incarnation_of c1)) ask w.wire v.wire → Around doc k i arriving coming base w → AsksOn doc k 1 i base next c1 ask → printed base ≡ printed h ++ more → new ≡ deeds ++ more →
+    i < processes doc → Moved i c0 c1 w v → SendsAsked k (identity i (incarnation_of c1)) ask w.stalls w.wire v.wire → Around doc k i arriving coming base w → AsksOn doc k 1 i base next c1 ask → printed base ≡ printed h ++ more → new ≡ deeds ++ more →
     MidBeat doc k before arriving coming next v new
 running-asked doc k i before deeds new more arriving coming h base next c0 c1 w v ask r within m sends around asks printed_is new_is =
     record {

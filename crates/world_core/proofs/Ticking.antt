@@ -30,7 +30,7 @@ use Rattle.world_process.specs.Processes.{ProcessStands, Ticked, in_term_as, in_
 use Rattle.world_process.proofs.Forces.{in_force-beside}
 use Rattle.world_process.proofs.Grows.{Grows, few-before, grows-same, grows-ticks}
 use Rattle.world_process.proofs.Plainly.{known-later, plain-entry}
-use Rattle.world_process.proofs.Acting.{ticks-none, ticks-paused}
+use Rattle.world_process.proofs.Acting.{ticks-none, ticks-paused, ticks-stalled}
 use Rattle.world_process.proofs.Processes.{process-others}
 use Rattle.world_core.specs.declared.world.World.{World}
 use Rattle.world_core.specs.Worlds.{IsReady, Keeps, MidBeat, OthersStand, WorldWithin}
@@ -68,8 +68,8 @@ few-ticks doc k p q h few =
     let least = nodes_are_named doc k q h in
     omega (arith, most, least)
 
-pub can-tick : (doc : Doc) (k p : ℕ) (h : List Entry) → IsUntickedFrom k p h → IsFew (own_ticks doc k p h) → CanTick doc k p h
-can-tick doc k p h unticked few = record { fresh = λ q own. unticked q (omega (arith, own)); few = λ q. few-ticks doc k p q h few }
+pub can-tick : (doc : Doc) (k p : ℕ) (h : List Entry) → is_stalled doc k ≡ false → IsUntickedFrom k p h → IsFew (own_ticks doc k p h) → CanTick doc k p h
+can-tick doc k p h goes unticked few = record { fresh = λ q own. unticked q (omega (arith, own)); few = λ q. few-ticks doc k p q h few; goes = goes }
 
 -- ---- the world around a process that ticks
 
@@ -129,7 +129,7 @@ around-ticks doc k p arriving coming h w s within r store =
     let b = beside-ticks doc k p arriving coming w h within (record { plain = r.rest.plain; wire = r.rest.wire; in_force = r.rest.in_force; others = λ o x other is. r.processes o x is }) in
     record {
       rest = record {
-        document = record { at = d.at; restart = d.restart; count = d.count; epoch = d.epoch; micros = d.micros; events = d.events; controllers = d.controllers; own = d.own };
+        document = record { at = d.at; restart = d.restart; count = d.count; epoch = d.epoch; micros = d.micros; events = d.events; controllers = d.controllers; stalls = d.stalls; own = d.own };
         plain = b.plain;
         store = store;
         wire = b.wire;
@@ -154,7 +154,7 @@ keeps-stored w v s keeps r =
     let d = k.same in
     record {
       ready = k.ready;
-      same = record { beat = d.beat; end = d.end; restart = d.restart; epoch = d.epoch; micros = d.micros; events = d.events; names = d.names; controllers = d.controllers };
+      same = record { beat = d.beat; end = d.end; restart = d.restart; epoch = d.epoch; micros = d.micros; events = d.events; names = d.names; controllers = d.controllers; stalls = d.stalls };
       place = k.place;
       count = k.count;
     }
@@ -163,6 +163,11 @@ keeps-stored w v s keeps r =
 pub running-unticked : (doc : Doc) (k p : ℕ) (before deeds : List Deed) (arriving : List Sent) (coming : List Back) (h : List Entry) (w : World) → in_term_now doc k p h ≡ false
     → MidBeat doc k before arriving coming h w deeds → MidBeat doc k before arriving coming (own_ticks doc k p h) w deeds
 running-unticked doc k p before deeds arriving coming h w none r = subst (λ g. MidBeat doc k before arriving coming g w deeds) (sym (ticks-none doc r.world.rest.document.own k p h none)) r
+
+-- nor while the store stands still
+pub running-stalled : (doc : Doc) (k p : ℕ) (before deeds : List Deed) (arriving : List Sent) (coming : List Back) (h : List Entry) (w : World) → is_stalled doc k ≡ true
+    → MidBeat doc k before arriving coming h w deeds → MidBeat doc k before arriving coming (own_ticks doc k p h) w deeds
+running-stalled doc k p before deeds arriving coming h w stands r = subst (λ g. MidBeat doc k before arriving coming g w deeds) (sym (ticks-stalled doc k p h stands)) r
 
 -- ---- a turn is its tick after the rest
 

@@ -54,7 +54,7 @@ abbrev pub acting_time : Doc → ℕ → ℕ → Bool → List Entry → Option 
 acting_time doc k p true h = if_up p (λ q. only_if (in_term doc q k h) (term_time q h)) (alive p h)
 acting_time doc k p false h = None
 
--- the least reading from which on the turn adds an entry for another cause than a sync, an untaint, a swap or a delete
+-- the least reading from which on the turn adds an entry for another cause than a sync that is due at once, an untaint, a swap or a delete
 abbrev pub reading_at : Doc → ℕ → ℕ → List Entry → Option ℕ
 reading_at doc k p h = sooner (own_reading doc p h) (acting_reading doc k p (is_controller doc p) h)
 
@@ -62,13 +62,19 @@ reading_at doc k p h = sooner (own_reading doc p h) (acting_reading doc k p (is_
 abbrev pub time_at : Doc → ℕ → ℕ → List Entry → Option ℕ
 time_at doc k p h = acting_time doc k p (is_controller doc p) h
 
--- There at once: a start in beat 0, or a sync, an untaint or a swap of a controller that acts at the next beat. Who doesn't start
+-- There at once: a start in beat 0, or a sync where none waits, an untaint or a swap of a controller that acts at the next beat. Who doesn't start
 -- waits for this reading and this time of day, and sleeps at the beats from k on exactly as the history says
 pub record WakesStand (doc : Doc) (k p : ℕ) (h : List Entry) (w : Wakes) : Type 0 where
   pub at_once : w.at_once ≡ (starts_now doc k p || acts_as doc k p (is_controller doc p) h)
   pub reading : starts_now doc k p ≡ false → reading_of w ≡ reading_at doc k p h
   pub time : starts_now doc k p ≡ false → w.wall ≡ time_at doc k p h
   pub asleep : starts_now doc k p ≡ false → (j : ℕ) → k ≤ j → j ≤ end_beat doc → IsAsleepBy doc j p w ↔ IsAsleep doc j p (wakes_of doc p h)
+
+-- who doesn't tick waits for this reading
+pub record TurnWakesStand (doc : Doc) (p : ℕ) (h : List Entry) (w : Wakes) : Type 0 where
+  pub at_once : w.at_once ≡ false
+  pub reading : reading_of w ≡ own_reading doc p h
+  pub time : w.wall ≡ None
 
 -- the beat is the first up to the end at which a process's clock has the reading that is waited for
 pub record IsTurnBeat (doc : Doc) (p : ℕ) (w : Wakes) (b : Option Beat) : Type 0 where

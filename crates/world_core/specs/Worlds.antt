@@ -17,7 +17,7 @@ use Rattle.kube_objects.specs.Entry.{Entry, Identity, Call, Answers, Sends, entr
 use Rattle.kube_objects.specs.InFlight.{requests_due, replies_due}
 use Rattle.kube_objects.specs.Kinds.{IsOfKind}
 use Rattle.kube_objects.specs.Own.{IsOwn}
-use Rattle.kube_objects.specs.Wire.{Sent, Back, reply_arrival}
+use Rattle.kube_objects.specs.Wire.{Sent, Back, request_arrival, reply_arrival}
 use Rattle.history.specs.History.{beat}
 use Rattle.history.specs.Printed.{printed}
 use Rattle.history.specs.Steps.{happens, happen_all, answer_all, deliver_all}
@@ -27,9 +27,11 @@ use Rattle.beat_laws.specs.Unticked.{IsUnticked}
 use Rattle.manifest_json.specs.Written.{is_writable_item}
 use Rattle.naming_laws.specs.Items.{IsWritableItem}
 use Rattle.object_store.specs.Stands.{StoreStands}
+use Rattle.pause_times.specs.declared.stalls.Stalls.{Stalls}
+use Rattle.pause_times.specs.Owned.{StallsStand}
 use Rattle.script_reader.specs.Lawful.{IsLawfulDoc, IsLawfulWhat, IsWellNamed, AreLawfulFrom}
 use Rattle.wire_calls.specs.declared.wire.Wire.{Wire}
-use Rattle.wire_calls.specs.WireStands.{WireStands, request_travel}
+use Rattle.wire_calls.specs.WireStands.{WireStands}
 use Rattle.world_process.specs.declared.process.Process.{Process}
 use Rattle.world_core.specs.declared.world.World.{World}
 use Rattle.world_process.specs.InForce.{InForceStands}
@@ -78,11 +80,16 @@ pub record IsReady (w : World) : Type 0 where
   pub epoch : w.epoch.0 < 7258118400000000
   pub micros : w.micros ≤ 1000000
   pub events : All (λ e. IsFit e.what) w.events
-  pub few : vec_len w.processes ≤ 1016
+  pub few : vec_len w.processes ≤ 15016
   pub clocks : GoOnTo w.end.0 w.processes.items
   pub controllers : w.controllers ≤ vec_len w.processes
   pub kept : AreKept w.processes.items
   pub noted : AreNoted w.processes.items w.turn_beats
+
+-- a world whose end isn't passed
+pub record IsRunning (w : World) : Type 0 where
+  pub ready : IsReady w
+  pub within : at_of w ≤ end_of w
 
 -- the beat and what was read of the document, but for the place among the events
 pub record SameDocument (old new : World) : Type 0 where
@@ -94,6 +101,7 @@ pub record SameDocument (old new : World) : Type 0 where
   pub events : new.events ≡ old.events
   pub names : new.names ≡ old.names
   pub controllers : new.controllers ≡ old.controllers
+  pub stalls : new.stalls ≡ old.stalls
 
 -- what a step of a beat keeps
 pub record Keeps (old new : World) : Type 0 where
@@ -113,6 +121,7 @@ pub record DocStands (doc : Doc) (k : ℕ) (w : World) : Type 0 where
   pub micros : w.micros ≡ beat_micros doc
   pub events : w.events ≡ doc.events
   pub controllers : w.controllers ≡ length doc.controllers
+  pub stalls : StallsStand doc w.stalls
   pub own : IsOwn doc
 
 -- the events before a place were of earlier beats, and those from it on are of this beat or later
@@ -180,12 +189,13 @@ AreQuiet doc k n h = (j : ℕ) → k ≤ j → j < n → beat doc h j ≡ h
 
 -- ---- what is asked
 
--- the wire did what an identity asks at beat k, where it asks
-abbrev pub SendsAsked : ℕ → Identity → Option Ask → Wire → Wire → Type 0
-SendsAsked k q None old new = new ≡ old
-SendsAsked k q (Some ask) old new = (processes step : ℕ) (arriving : List Sent) (coming : List Back) (h : List Entry) (call : Call)
-    → WireStands processes k arriving coming h old → call.number ≡ ask.number → call.request ≡ ask.request
-    → WireStands processes k arriving coming (entry k step q (Sends call (request_travel q.process k h)) ∷ h) new
+-- the wire did what an identity asks at beat k, where it asks; what is asked waits where the store stands still
+abbrev pub SendsAsked : ℕ → Identity → Option Ask → Stalls → Wire → Wire → Type 0
+SendsAsked k q None stalls old new = new ≡ old
+SendsAsked k q (Some ask) stalls old new =
+    (doc : Doc) (processes step : ℕ) (arriving : List Sent) (coming : List Back) (h : List Entry) (call : Call)
+    → StallsStand doc stalls → WireStands processes k arriving coming h old → call.number ≡ ask.number → call.request ≡ ask.request
+    → WireStands processes k arriving coming (entry k step q (Sends call (request_arrival doc q.process k h)) ∷ h) new
 
 -- ---- the steps of a beat, each in a world within it and where the step ends well
 

@@ -28,6 +28,7 @@ use beat_tree::BeatTree;
 use kube_base::{Beat, Names, NoMemory, ProcId, Steps, Wall};
 use kube_objects::{Deeds, Events, Items};
 use object_store::Store;
+use pause_times::Stalls;
 use skew_clock::Clock;
 use std::alloc::Global;
 use wire_calls::Wire;
@@ -52,6 +53,7 @@ pub struct World {
     place: usize,
     events: Events,
     names: Names,
+    stalls: Stalls,
 }
 
 impl World {

@@ -13,6 +13,7 @@ use Rattle.kube_objects.specs.declared.key.Kind.TheVariants as kinds
 use Rattle.kube_objects.specs.declared.object.Object.{Object}
 use Rattle.kube_objects.specs.Kinds.{IsOfKind}
 use Rattle.manifest_json.specs.Readable.{items_fit}
+use Rattle.manifest_json.specs.declared.scale.Scale.TheVariants as scales
 use Rattle.manifest_json.specs.Walk.{has_key, kind_count, kind_limit}
 use Rattle.world_gen.specs.declared.pod.Placing.{Placing}
 use Rattle.world_gen.specs.Numbers.{pod_number}
@@ -65,16 +66,16 @@ three : (a b c : Bool) → a ≡ true → b ≡ true → c ≡ true → (a && b 
 three a b c x y z = rw (x, y, z) refl
 
 pub items-fit : (next : ℕ) (earlier xs : List (Key × Object)) → AreBelow next earlier → Rising next xs
-    → ((kind : Kind) → kind_count kind (earlier ++ xs) ≤ kind_limit kind) → items_fit earlier xs ≡ true
+    → ((kind : Kind) → kind_count kind (earlier ++ xs) ≤ kind_limit scales.Large kind) → items_fit scales.Large earlier xs ≡ true
 items-fit next earlier [] below rising few = refl
 items-fit next earlier (x ∷ xs) below rising few =
-    three (not (has_key x.0 earlier)) (nat_lt (kind_count x.0.kind earlier) (kind_limit x.0.kind)) (items_fit (earlier ++ x ∷ []) xs)
+    three (not (has_key x.0 earlier)) (nat_lt (kind_count x.0.kind earlier) (kind_limit scales.Large x.0.kind)) (items_fit scales.Large (earlier ++ x ∷ []) xs)
     (ap not (unseen x.0 earlier (lower next x.0.name earlier rising.0 below)))
     (let counts = count-append x.0.kind earlier (x ∷ xs) in let one = count-one x xs in let most = few x.0.kind in
     grind (arith, nat_tests, counts, one, most))
     (items-fit (x.0.name + 1) (earlier ++ x ∷ []) xs
     (below-push next (x.0.name + 1) earlier x below (let le = rising.0 in omega arith) (omega arith)) rising.1
-    (λ kind. subst (λ l. kind_count kind l ≤ kind_limit kind) (sym (append_assoc earlier (x ∷ []) xs)) (few kind)))
+    (λ kind. subst (λ l. kind_count kind l ≤ kind_limit scales.Large kind) (sym (append_assoc earlier (x ∷ []) xs)) (few kind)))
   where
     lower : (m n : ℕ) (ys : List (Key × Object)) → m ≤ n → AreBelow m ys → AreBelow n ys
     lower m n [] le h = tt
@@ -179,12 +180,12 @@ module _ (nodes pods : ℕ) (g : Lcg) where
       count-append kind (node_items nodes) (pod_items nodes pods g).value
       ∙ ap₂ (λ m n. m + n) (nodes-count kind nodes 0 nodes) ((pods-stand nodes pods g).counts kind)
 
-  pub all-few : nodes ≤ 1000 → pods ≤ 30000 → (kind : Kind) → kind_count kind all_items ≤ kind_limit kind
+  pub all-few : nodes ≤ 1000 → pods ≤ 30000 → (kind : Kind) → kind_count kind all_items ≤ kind_limit scales.Large kind
   all-few few fewer kinds.Node = omega (arith, all-counts kinds.Node)
   all-few few fewer kinds.Lease = omega (arith, all-counts kinds.Lease)
   all-few few fewer kinds.Pod = omega (arith, all-counts kinds.Pod)
 
-  pub all-fit : nodes ≤ 1000 → pods ≤ 30000 → items_fit [] all_items ≡ true
+  pub all-fit : nodes ≤ 1000 → pods ≤ 30000 → items_fit scales.Large [] all_items ≡ true
   all-fit few fewer =
       items-fit 0 [] all_items tt
       (rising-append 0 (first_pod nodes) (node_items nodes) _ (from_zero (node_items nodes) (nodes-rise nodes 0 nodes))

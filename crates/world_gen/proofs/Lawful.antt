@@ -4,12 +4,13 @@ use Rattle.std.proofs.lemmas.List.Elements.{All-from_recursion}
 use Rattle.std.specs.List.{AllByRecursion}
 use Rattle.history.proofs.Pauses.{never_apart}
 use Rattle.kube_objects.specs.Document.{own_waits_each}
+use Rattle.manifest_json.specs.declared.scale.Scale.TheVariants as scales
 use Rattle.manifest_laws.specs.Laws.{FittingAreApart}
 use Rattle.script_reader.specs.Lawful.{IsLawful, IsLawfulDoc, AreWaits}
 use Rattle.script_reader.proofs.OwnDocuments.{own-waits}
 use Rattle.world_gen.specs.Draws.{start, crashes}
 use Rattle.world_gen.specs.Generated.{controllers, event, kubelets, by_beat, middle, generated}
-use Rattle.world_gen.proofs.Ranges.{Fits, settings-lawful, controllers-lawful, controllers-apart, kubelets-lawful, kubelets-apart, kubelets-count, crashes-all-fit, in_order, events-few, crashes-pause_nobody}
+use Rattle.world_gen.proofs.Ranges.{Fits, settings-lawful, controllers-lawful, controllers-apart, kubelets-lawful, kubelets-apart, kubelets-count, crashes-all-fit, in_order, events-few, crashes-pause_nobody, crashes-stall_nothing}
 use Rattle.world_gen.proofs.Items.{all_items, all-of_kind, all-few, all-fit}
 
 processes-count : (nodes : ℕ) → length (controllers ++ kubelets nodes) ≡ 3 + nodes
@@ -36,9 +37,9 @@ generated-lawful seed nodes pods beats few fewer soon apart =
       few_kubelets = omega (arith, kubelets-count nodes);
       kubelets_apart = kubelets-apart nodes;
       objects = All-from_recursion _ (all_items nodes pods drawn.rest) (all-of_kind nodes pods drawn.rest);
-      objects_apart = (apart (all_items nodes pods drawn.rest) items).0;
+      objects_apart = (apart scales.Large (all_items nodes pods drawn.rest) items).0;
       few_objects = all-few nodes pods drawn.rest few fewer;
       events = (in_order (generated seed nodes pods beats) (beats + 1) all fits).0;
       few_events = omega (arith, events-few (beats + 1) all, fit.1);
-      apart = never_apart (map event (by_beat (beats + 1) all)) (crashes-pause_nobody (by_beat (beats + 1) all));
+      apart = never_apart (map event (by_beat (beats + 1) all)) (crashes-pause_nobody (by_beat (beats + 1) all)) (crashes-stall_nothing (by_beat (beats + 1) all));
     }

@@ -8,6 +8,7 @@ use Rattle.std.specs.List.{range_with_len, AllByRecursion, IsDistinct}
 use Rattle.rand_pcg.specs.Lcg.{Lcg}
 use Rattle.kube_objects.specs.declared.script.Event.{Event}
 use Rattle.kube_objects.specs.Document.{Doc, processes, end_beat}
+use Rattle.kube_objects.specs.Own.{AreUnstalled}
 use Rattle.kube_objects.specs.Pauses.{AreUnpaused}
 use Rattle.script_reader.specs.Lawful.{AreLawful, IsLawful, AreNamedApart, AreLawfulFrom}
 use Rattle.script_reader.specs.Walk.{numbers_of}
@@ -236,3 +237,7 @@ events-few n ys = omega (arith, length-map (by_beat n ys) event, length-by_beat 
 pub crashes-pause_nobody : (ys : List Crash) → AreUnpaused (map event ys)
 crashes-pause_nobody [] = tt
 crashes-pause_nobody (y ∷ ys) = (tt, crashes-pause_nobody ys)
+
+pub crashes-stall_nothing : (ys : List Crash) → AreUnstalled (map event ys)
+crashes-stall_nothing [] = tt
+crashes-stall_nothing (y ∷ ys) = (refl, crashes-stall_nothing ys)

@@ -18,7 +18,7 @@ use Rattle.kube_objects.specs.Wire.{loses_requests}
 use Rattle.kube_objects.proofs.Own.{acts-own}
 use Rattle.history.specs.Printed.{printed}
 use Rattle.history.specs.Steps.{if_up, ticks, ticks_while}
-use Rattle.history.proofs.Own.{ticks-own}
+use Rattle.history.proofs.Ticks.{ticks_go, ticks_stall, ticks_keep}
 use Rattle.history_laws.proofs.Ticks.{walk_tick}
 use Rattle.controller_core.specs.declared.term.Term.{Term}
 use Rattle.controller_core.specs.TermStands as after
@@ -47,7 +47,7 @@ tick-own doc own k p i h = ap (λ b. (if b then tick doc k (identity p i) h else
 
 -- without a leader whose term isn't over there is none
 pub unled-ticks : (doc : Doc) → IsOwn doc → (k p : ℕ) (h : List Entry) → in_term_if_up doc k p (alive p h) h ≡ false → ticks doc k p h ≡ h
-unled-ticks doc own k p h is = ticks-own doc own k p h ∙ by_life (alive p h) is
+unled-ticks doc own k p h is = ticks_keep doc k p h (λ g. g ≡ h) refl (by_life (alive p h) is)
   where
     by_life : (o : Option ℕ) → in_term_if_up doc k p o h ≡ false → if_up p (λ q T. (if (acts doc q k T) then tick doc k q T else T)) o h ≡ h
     by_life None is = refl
@@ -79,9 +79,17 @@ ticks-paused doc k p h paused = by_sort (is_controller doc p)
     by_sort true = paused-ticks doc k p h paused
     by_sort false = refl
 
-pub acting-ticks : (doc : Doc) → IsOwn doc → (k p i : ℕ) (h : List Entry) → is_paused doc p k ≡ false → alive p h ≡ Some i → in_term doc (identity p i) k h ≡ true → ticks doc k p h ≡ tick doc k (identity p i) h
-acting-ticks doc own k p i h awake up term =
-    ticks-own doc own k p h
+-- nor while the store stands still
+pub ticks-stalled : (doc : Doc) (k p : ℕ) (h : List Entry) → is_stalled doc k ≡ true → own_ticks doc k p h ≡ h
+ticks-stalled doc k p h stands = by_sort (is_controller doc p)
+  where
+    by_sort : (b : Bool) → own_ticks_as doc k p b h ≡ h
+    by_sort true = ticks_stall doc k p h stands
+    by_sort false = refl
+
+pub acting-ticks : (doc : Doc) → IsOwn doc → (k p i : ℕ) (h : List Entry) → is_stalled doc k ≡ false → is_paused doc p k ≡ false → alive p h ≡ Some i → in_term doc (identity p i) k h ≡ true → ticks doc k p h ≡ tick doc k (identity p i) h
+acting-ticks doc own k p i h goes awake up term =
+    ticks_go doc k p h goes
     ∙ ap (λ o. if_up p (λ q T. (if (acts doc q k T) then tick doc k q T else T)) o h) up
     ∙ tick-own doc own k p i h
     ∙ ap (λ b. (if (not b && in_term doc (identity p i) k h) then tick doc k (identity p i) h else h)) awake

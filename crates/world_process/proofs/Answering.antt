@@ -1,6 +1,7 @@
 -- A reply to a controller, by what it is and what its elector answers.
 use Rattle.std.proofs.Common.{◌≡◌, ℕ, ◌++◌, Bool, true, false, List, [], ◌∷◌, Option, Some, None, refl, sym, ap, ◌∙◌, subst, cond, length, arith}
 use Rattle.std.proofs.lemmas.List.{append-nil}
+use Rattle.std.specs.Box.{with_value}
 use Rattle.kube_base.specs.declared.numbers.Version.{Version}
 use Rattle.kube_objects.specs.declared.call.Ask.{Ask}
 use Rattle.kube_objects.specs.declared.call.Reply.{Reply}
@@ -22,18 +23,21 @@ use Rattle.kube_objects.specs.Wire.{Back, next_call}
 use Rattle.history.specs.Printed.{printed, deeds_of}
 use Rattle.history.specs.Steps.{deliver_as, react_as, delivered}
 use Rattle.history.proofs.Own.{react-own}
+use Rattle.controller_core.specs.declared.term.Term.{Term}
+use Rattle.controller_core.specs.TermStands.{TermStands}
 use Rattle.leader_elector.specs.Moves.{Asked, reacted}
 use Rattle.world_process.specs.declared.controller.Controller.{Controller}
 use Rattle.world_process.specs.declared.controller.Role.{Role}
 use Rattle.world_process.specs.Controllers.{RoleStands, ControllerStands, Replied}
 use Rattle.world_process.specs.Moves as moves
+use Rattle.world_process.specs.OwnTerm.{OwnsTerm}
 use Rattle.world_process.specs.Plain.{AreQuiet, with_facts}
 use Rattle.world_process.proofs.Names.{eq-isnt}
 use Rattle.kube_base.specs.declared.numbers.Local.{Local}
 use Rattle.world_process.specs.declared.controller.Role.TheVariants as role
 use Rattle.world_process.proofs.Beside.{role-stranger}
-use Rattle.world_process.proofs.OwnTerm.{keeps-beside, keeps-both}
-use Rattle.world_process.proofs.Standing.{stands-role, role-at}
+use Rattle.world_process.proofs.OwnTerm.{keeps-beside, keeps-both, owns-led}
+use Rattle.world_process.proofs.Standing.{stands-role, stands-with, role-at}
 
 -- the reply is this one
 pub record IsBack (b : Back) (q : Identity) (n : ℕ) (r : Reply) : Type 0 where
@@ -136,12 +140,13 @@ replied-asks doc k p b number reply waiting h c r ask Stands s is some up a stan
     }
 
 -- it counts, and the controller leads
-pub replied-leads : (doc : Doc) (k p : ℕ) (b : Back) (number : ℕ) (reply : Reply) (waiting : Call) (h : List Entry) (c : Controller) (r : Role) (version : Version) → ControllerStands doc p h c →
+pub replied-leads : (doc : Doc) (k p : ℕ) (b : Back) (number : ℕ) (reply : Reply) (waiting : Call) (h : List Entry) (c : Controller) (r : Role) (t : Term) (version : Version) → ControllerStands doc p h c →
     IsBack b (identity p c.incarnation) number reply → counted doc (identity p c.incarnation) k number h ≡ Some waiting →
     reacted doc k (identity p c.incarnation) waiting reply h ≡ entry k 3 (identity p c.incarnation) (Leads version) ∷ with_reply k (identity p c.incarnation) waiting reply h →
+    OwnsTerm doc p (entry k 3 (identity p c.incarnation) (Leads version) ∷ with_reply k (identity p c.incarnation) waiting reply h) t →
     RoleStands doc p c.incarnation (entry k 3 (identity p c.incarnation) (Leads version) ∷ with_reply k (identity p c.incarnation) waiting reply h) r →
-    Replied doc k p b h (record c { role = r }) (record { lead = Some version; ask = None })
-replied-leads doc k p b number reply waiting h c r version s is some next_leads stands =
+    Replied doc k p b h (record c { role = r; term = with_value c.term t }) (record { lead = Some version; ask = None })
+replied-leads doc k p b number reply waiting h c r t version s is some next_leads owns stands =
     let q = identity p c.incarnation in
     let g = with_reply k q waiting reply h in
     let next = entry k 3 q (Leads version) ∷ g in
@@ -152,7 +157,7 @@ replied-leads doc k p b number reply waiting h c r version s is some next_leads 
         facts = Leads version ∷ Delivers waiting reply true ∷ [];
         quiet = (refl, (refl, tt));
         adds = next_is ∙ ap (λ w. entry k 3 w (Leads version) ∷ entry k 3 w (Delivers waiting reply true) ∷ h) (sym is.who);
-        stands = subst (λ x. ControllerStands doc p x (record c { role = r })) (sym next_is) (stands-role doc p h next c r s refl (keeps-both doc p (entry k 3 q (Leads version)) (entry k 3 q (Delivers waiting reply true)) h refl refl) stands);
+        stands = subst (λ x. ControllerStands doc p x (record c { role = r; term = with_value c.term t })) (sym next_is) (stands-with doc p h next c r t s refl owns stands);
       };
     }
 
@@ -250,23 +255,30 @@ answers-asks doc k p b n reply h c r ask Stands s is up makes uncounted counts =
     by_counted None none = absurd (uncounted none)
     by_counted (Some w) some = replied-asks doc k p b n reply w h c r ask Stands s is some up (counts w some) makes
 
-pub answers-leads : (doc : Doc) (k p : ℕ) (b : Back) (n : ℕ) (reply : Reply) (h : List Entry) (c : Controller) (r : Role) (lead : Option Version) (Stands : List Entry → Type 0) → ControllerStands doc p h c →
+-- the new leader has this term
+pub answers-leads : (doc : Doc) (k p : ℕ) (b : Back) (n : ℕ) (reply : Reply) (h : List Entry) (c : Controller) (r : Role) (t : Term) (lead : Option Version) (Stands : List Entry → Type 0) → ControllerStands doc p h c →
     IsBack b (identity p c.incarnation) n reply → alive p h ≡ Some c.incarnation → Makes doc p c.incarnation Stands r →
+    ((version : Version) (g : List Entry) → TermStands doc (identity p c.incarnation) g c.term.value → TermStands doc (identity p c.incarnation) (entry k 3 (identity p c.incarnation) (Leads version) ∷ g) t) →
     ((version : Version) → reply ≡ Done version → lead ≡ Some version) →
     (counted doc (identity p c.incarnation) k n h ≡ None → ⊥) →
     ((call : Call) → counted doc (identity p c.incarnation) k n h ≡ Some call →
     (version : Version) × (reacted doc k (identity p c.incarnation) call reply h ≡ entry k 3 (identity p c.incarnation) (Leads version) ∷ with_reply k (identity p c.incarnation) call reply h)
     × Stands (reacted doc k (identity p c.incarnation) call reply h)) →
-    Replied doc k p b h (record c { role = r }) (record { lead = lead; ask = None })
-answers-leads doc k p b n reply h c r lead Stands s is up makes told uncounted counts = by_counted (counted doc (identity p c.incarnation) k n h) refl
+    Replied doc k p b h (record c { role = r; term = with_value c.term t }) (record { lead = lead; ask = None })
+answers-leads doc k p b n reply h c r t lead Stands s is up makes term told uncounted counts = by_counted (counted doc (identity p c.incarnation) k n h) refl
   where
-    by_counted : (w : Option Call) → counted doc (identity p c.incarnation) k n h ≡ w → Replied doc k p b h (record c { role = r }) (record { lead = lead; ask = None })
+    q : Identity
+    q = identity p c.incarnation
+
+    by_counted : (w : Option Call) → counted doc q k n h ≡ w → Replied doc k p b h (record c { role = r; term = with_value c.term t }) (record { lead = lead; ask = None })
     by_counted None none = absurd (uncounted none)
     by_counted (Some w) some =
-        let t = counts w some in
-        let g = entry k 3 (identity p c.incarnation) (Leads t.0) ∷ with_reply k (identity p c.incarnation) w reply h in
-        subst (λ x. Replied doc k p b h (record c { role = r }) (record { lead = x; ask = None })) (sym (told t.0 (lead-done doc k (identity p c.incarnation) w reply h t.0 t.1)))
-        (replied-leads doc k p b n reply w h c r t.0 s is some t.1 (makes g up (subst Stands t.1 t.2)))
+        let x = counts w some in
+        let g = with_reply k q w reply h in
+        subst (λ y. Replied doc k p b h (record c { role = r; term = with_value c.term t }) (record { lead = y; ask = None })) (sym (told x.0 (lead-done doc k q w reply h x.0 x.1)))
+        (replied-leads doc k p b n reply w h c r t x.0 s is some x.1
+        (owns-led doc k p c.incarnation x.0 g c.term.value t up (keeps-beside doc p (entry k 3 q (Delivers w reply true)) h refl c.term.value s.term) (term x.0 g))
+        (makes (entry k 3 q (Leads x.0) ∷ g) up (subst Stands x.1 x.2)))
 
 -- a reply counts or doesn't
 pub counted-or : (doc : Doc) (k : ℕ) (q : Identity) (n : ℕ) (h : List Entry) → (counted doc q k n h ≡ None → ⊥) → ((call : Call) → counted doc q k n h ≡ Some call → ⊥) → ⊥

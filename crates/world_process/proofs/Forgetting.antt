@@ -4,6 +4,7 @@ use Rattle.std.specs.Box.{with_value}
 use Rattle.kube_base.specs.declared.numbers.ProcId.{ProcId}
 use Rattle.kube_objects.specs.declared.call.Ask.{Ask}
 use Rattle.kube_objects.specs.Document.{Doc}
+use Rattle.kube_objects.specs.Elector.{leads}
 use Rattle.kube_objects.specs.Entry.{Entry, Identity}
 use Rattle.kube_objects.specs.Identities.{identity}
 use Rattle.history.specs.Printed.{printed}
@@ -43,7 +44,7 @@ timed-forgets doc k p h old new ended ask same on x = record {
 }
 
 -- of one that is down only the settings of its term are known
-pub stands-forgets : (doc : Doc) (p : ℕ) (h : List Entry) (c : Controller) (t : Term) → is_up_as c.role ≡ false → ControllerStands doc p h c → ((q : Identity) (g : List Entry) → ticks q g ≡ 0 → TermStands doc q g t) →
+pub stands-forgets : (doc : Doc) (p : ℕ) (h : List Entry) (c : Controller) (t : Term) → is_up_as c.role ≡ false → ControllerStands doc p h c → ((q : Identity) (g : List Entry) → ticks q g ≡ 0 → leads q g ≡ false → TermStands doc q g t) →
     ControllerStands doc p h (record c { term = with_value c.term t })
 stands-forgets doc p h c t down s anew = record {
   sort = s.sort;
@@ -55,6 +56,6 @@ stands-forgets doc p h c t down s anew = record {
   pauses = s.pauses;
   up_first = s.up_first;
   role = s.role;
-  term = record { settings = (anew (identity p 0) [] refl).settings; each = λ i up. absurd (none_is i (sym (down-is doc p c.incarnation h c.role down s.role) ∙ up)) };
+  term = record { settings = (anew (identity p 0) [] refl refl).settings; each = λ i up. absurd (none_is i (sym (down-is doc p c.incarnation h c.role down s.role) ∙ up)) };
   waking = s.waking;
 }

@@ -9,7 +9,7 @@ use Rattle.kube_objects.specs.Clocks.{last_rate, rate_of}
 use Rattle.kube_objects.specs.Document.{Doc}
 use Rattle.kube_objects.specs.Newest.{only_if, or_else, when}
 use Rattle.kube_objects.specs.Pauses.{pause_of}
-use Rattle.pause_times.specs.declared.pauses.Pause.{Pause}
+use Rattle.pause_times.specs.declared.spans.Pause.{Pause}
 use Rattle.pause_times.specs.Owned.{pauses_in, pauses_of}
 use Rattle.script_reader.specs.Lawful.{IsLawfulWhat, AreLawfulFrom}
 use Rattle.skew_clock.specs.Clocking.{Clocking, last_set, rate_at}
@@ -126,7 +126,7 @@ what-fits doc p at (whats.Start id) within lawful = tt
 what-fits doc p at (whats.Stop id) within lawful = tt
 what-fits doc p at (whats.Watch id on) within lawful = tt
 what-fits doc p at (whats.Ready id status) within lawful = tt
-what-fits doc p at (whats.Stall beats) within lawful = absurd lawful
+what-fits doc p at (whats.Stall beats) within lawful = tt
 what-fits doc p at (whats.Put key object) within lawful = tt
 what-fits doc p at (whats.Remove key) within lawful = tt
 

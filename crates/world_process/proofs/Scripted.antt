@@ -10,9 +10,9 @@ use Rattle.kube_objects.specs.declared.key.Key.{Key}
 use Rattle.kube_objects.specs.declared.object.Object.{Object}
 use Rattle.kube_objects.specs.declared.script.What.{What}
 use Rattle.kube_objects.specs.declared.script.What.TheVariants as what
-use Rattle.kube_objects.specs.Clocks.{store_wall, whole_second}
+use Rattle.kube_objects.specs.Clocks.{store_wall, wall, whole_second}
 use Rattle.kube_objects.specs.Document.{Doc}
-use Rattle.kube_objects.specs.Elector.{release}
+use Rattle.kube_objects.specs.Elector.{release, release_from, shown}
 use Rattle.kube_objects.specs.Entry.{Entry, Identity, Fact, First, Event, Crashes, Stops, Sends, Release, entry, script_entry, actor_of}
 use Rattle.kube_objects.specs.Identities.{identity, is_by}
 use Rattle.kube_objects.specs.Newest.{added, newest, when, only_if, join}
@@ -25,6 +25,7 @@ use Rattle.history.specs.Printed.{printed, deeds_of}
 use Rattle.history.specs.Steps.{crash, happens, released, start, start_if_down, stop}
 use Rattle.history.proofs.Own.{stop-own}
 use Rattle.history_laws.proofs.Plainly.{false_is}
+use Rattle.leader_elector.specs.declared.candidate.Candidate.{Candidate}
 use Rattle.leader_elector.proofs.Frames.{candidate-foreign, leading-foreign}
 use Rattle.leader_elector.specs.Moves.{Releases}
 use Rattle.world_process.specs.declared.controller.Controller.{Controller}
@@ -224,6 +225,48 @@ stopped-leading doc k id h c ask awake s up r =
               let f = entry k 1 q (Sends (next_call q k Release ask.request g) arrives) in
               stands-role doc p h (f ∷ g) c (role.Down None) s refl (λ t s. keeps-beside doc p f g refl t (keeps t s)) down;
         }
+
+-- ---- a controller that doesn't lead is stopped
+
+-- one that is down goes on in that
+pub stopped-down : (doc : Doc) (k : ℕ) (id : ProcId) (h : List Entry) (c : Controller) → is_paused doc id.0 k ≡ false → ControllerStands doc id.0 h c → is_up_as c.role ≡ false →
+    StoppedAs doc k id h (record c { role = role.Down None }) (record { stopped = false; ask = None })
+stopped-down doc k id h c awake s down =
+    record {
+      told = ap printed base;
+      asks = (next ∙ sym base, subst (λ g. ControllerStands doc p g (record c { role = role.Down None })) (sym base) (down-event doc p k 1 (what.Stop id) None h c own down s));
+    }
+  where
+    p : ℕ
+    p = id.0
+
+    e : Entry
+    e = script_entry k 1 (Event (what.Stop id) None)
+
+    own : cancels doc p k (what.Stop id) ≡ true
+    own = ap (λ a. a && not (is_paused doc p k)) (eq-self p) ∙ ap not awake
+
+    base : stopped doc k id h ≡ e ∷ h
+    base = ap (λ b. stop_in k p (only_if (not b) (alive p h)) (e ∷ h)) awake ∙ ap (λ x. stop_in k p x (e ∷ h)) (down-is doc p c.incarnation h c.role down s.role)
+
+    next : happens doc k (what.Stop id) h ≡ e ∷ h
+    next =
+        ap (λ b. stop doc k p (only_if (not b) (alive p h)) h (e ∷ h)) awake
+        ∙ ap (λ x. stop doc k p x h (e ∷ h)) (down-is doc p c.incarnation h c.role down s.role)
+
+-- a candidate asks no release
+pub stopped-candidate : (doc : Doc) (k : ℕ) (id : ProcId) (h : List Entry) (c : Controller) (x : Candidate) → is_paused doc id.0 k ≡ false → ControllerStands doc id.0 h c → c.role ≡ role.Candidate x →
+    StoppedAs doc k id h (record c { role = role.Down None }) (record { stopped = true; ask = None })
+stopped-candidate doc k id h c x awake s is = stopped-leading doc k id h c None awake s was.0 (subst (λ o. Releases q h o None) (sym none) tt)
+  where
+    q : Identity
+    q = identity id.0 c.incarnation
+
+    was : RoleStands doc id.0 c.incarnation h (role.Candidate x)
+    was = subst (RoleStands doc id.0 c.incarnation h) is s.role
+
+    none : release doc q k h ≡ None
+    none = ap (λ b. only_if b (release_from q (wall doc q.process k) (shown q h))) was.1.leads
 
 -- ---- a controller that is paused isn't stopped
 

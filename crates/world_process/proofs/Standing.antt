@@ -24,6 +24,12 @@ pub stands-role : (doc : Doc) (p : ℕ) (h g : List Entry) (c : Controller) (r :
 stands-role doc p h g c r s same keeps stands =
     record { sort = s.sort; me = s.me; incarnation = s.incarnation ∙ sym same; timing = s.timing; waits = s.waits; clock = s.clock; up_first = s.up_first; pauses = s.pauses; waking = s.waking; term = keeps c.term.value s.term; role = stands }
 
+-- with another term
+pub stands-with : (doc : Doc) (p : ℕ) (h g : List Entry) (c : Controller) (r : Role) (t : Term) → ControllerStands doc p h c → starts p g ≡ starts p h → OwnsTerm doc p g t → RoleStands doc p c.incarnation g r
+    → ControllerStands doc p g (record c { role = r; term = with_value c.term t })
+stands-with doc p h g c r t s same owns stands =
+    record { sort = s.sort; me = s.me; incarnation = s.incarnation ∙ sym same; timing = s.timing; waits = s.waits; clock = s.clock; up_first = s.up_first; pauses = s.pauses; waking = s.waking; term = owns; role = stands }
+
 pub role-at : (doc : Doc) (p : ℕ) (h : List Entry) (c : Controller) (r : Role) → ControllerStands doc p h c → c.role ≡ r → RoleStands doc p c.incarnation h r
 role-at doc p h c r s is = subst (λ x. RoleStands doc p c.incarnation h x) is s.role
 

@@ -15,6 +15,7 @@ use Rattle.kube_objects.specs.Turns.{end_term, try, expired}
 use Rattle.kube_objects.specs.Wire.{next_call}
 use Rattle.history.specs.Printed.{printed, deeds_of}
 use Rattle.history.specs.Steps.{finish, attempts}
+use Rattle.history_laws.proofs.Plainly.{false_is}
 use Rattle.leader_elector.specs.declared.candidate.Candidate.{Candidate}
 use Rattle.leader_elector.specs.declared.leading.Leading.{Leading}
 use Rattle.leader_elector.specs.Moves.{Asked, CandidateTurns, after_turn, tested}
@@ -150,3 +151,11 @@ pub unled-over : (doc : Doc) (k : ℕ) (q : Identity) (h : List Entry) → leads
 unled-over doc k q h unled =
     let present = is_present (alive q.process h) q.incarnation in
     ap (λ at. present && is_before (local doc q.process k) at) (no_deadline doc q h unled) ∙ and-false present
+
+-- so who is in one leads
+pub leads-in : (doc : Doc) (k : ℕ) (q : Identity) (h : List Entry) → in_term doc q k h ≡ true → leads q h ≡ true
+leads-in doc k q h term = by_lead (leads q h) refl
+  where
+    by_lead : (b : Bool) → leads q h ≡ b → b ≡ true
+    by_lead true is = refl
+    by_lead false is = absurd (false_is (sym (unled-over doc k q h is) ∙ term))

@@ -13,10 +13,9 @@ use Rattle.kube_objects.specs.Clocks.{local}
 use Rattle.kube_objects.specs.Document.{Doc, of_millis}
 use Rattle.kube_objects.specs.Entry.{Entry, Identity, Place}
 use Rattle.kube_objects.specs.Health.{last_pass}
-use Rattle.kube_objects.specs.InForce.{watches}
 use Rattle.kube_objects.specs.Modes.{mode, nodes, places}
 use Rattle.kube_objects.specs.Newest.{has, only_if}
-use Rattle.kube_objects.specs.Seen.{is_fresh, is_pod, is_stale, is_synced, node_names, pod_keys, seen_node, seen_pod}
+use Rattle.kube_objects.specs.Seen.{is_pod, is_stale, is_synced, node_names, pod_keys, seen_node, seen_pod}
 use Rattle.kube_objects.specs.Stored.{node_key}
 use Rattle.kube_objects.specs.Tainting.{Queued, Wants, Nothing, Wanted, Whatever, head_of, waits, wants}
 use Rattle.kube_objects.specs.Tokens.{base, rated}
@@ -24,7 +23,7 @@ use Rattle.kube_objects.specs.Tolerations.{due}
 use Rattle.history_laws.proofs.Plainly.{false_is, none_is}
 use Rattle.history_laws.proofs.Ticks.{Each, IsPodKey, pods_only}
 use Rattle.agenda_laws.specs.Ticking as agenda
-use Rattle.agenda_laws.specs.Ticking.{due_at, due_seen, dues_at, heads_at, is_clean_due, is_due_at_once, is_sync_due, is_unclean, is_unclean_seen, pass_at, term_reading, term_time, time_of, token_at}
+use Rattle.agenda_laws.specs.Ticking.{due_at, due_seen, dues_at, heads_at, is_clean_due, is_due_at_once, is_sync_at_once, is_unclean, is_unclean_seen, pass_at, synced_reading, term_time, time_of, token_at}
 use Rattle.agenda_laws.specs.Times.{is_early, sooner}
 use Rattle.agenda_laws.proofs.Between.{both_sooner, early_same, sooner_both}
 use Rattle.agenda_laws.proofs.Ticking.{early_heads, grown_waits, heads_early}
@@ -92,8 +91,8 @@ module _ (doc : Doc) (q : Identity) (h : List Entry) (begun : HasBegun q h) wher
       ap (λ b. b && list_any (is_clean_due q h) (node_names h)) (dirty-synced name dirty)
       ∙ some-clean name dirty (node_names h) (node_is_named q name h seen.0 seen.1)
 
-  pub at-once-is : (b : Bool) → (b ≡ false → ((watches doc q.process h && not (is_fresh q h)) ≡ false) × ((n : ℕ) → is_dirty q n h ≡ false))
-      → (b ≡ true → ((watches doc q.process h && not (is_fresh q h)) ≡ true) ⊎ ((n : ℕ) × (is_dirty q n h ≡ true))) → b ≡ is_due_at_once doc q h
+  pub at-once-is : (b : Bool) → (b ≡ false → (is_sync_at_once doc q h ≡ false) × ((n : ℕ) → is_dirty q n h ≡ false))
+      → (b ≡ true → (is_sync_at_once doc q h ≡ true) ⊎ ((n : ℕ) × (is_dirty q n h ≡ true))) → b ≡ is_due_at_once doc q h
   at-once-is false quiet busy =
       let s = quiet refl in
       sym (ap (λ b. b || (is_synced q h && list_any (is_clean_due q h) (node_names h))) s.0
@@ -105,9 +104,9 @@ module _ (doc : Doc) (q : Identity) (h : List Entry) (begun : HasBegun q h) wher
       and-false false = refl
   at-once-is true quiet busy = sym (by_cause (busy refl))
     where
-      by_cause : ((watches doc q.process h && not (is_fresh q h)) ≡ true) ⊎ ((n : ℕ) × (is_dirty q n h ≡ true)) → is_due_at_once doc q h ≡ true
+      by_cause : (is_sync_at_once doc q h ≡ true) ⊎ ((n : ℕ) × (is_dirty q n h ≡ true)) → is_due_at_once doc q h ≡ true
       by_cause (inl sync) = ap (λ b. b || (is_synced q h && list_any (is_clean_due q h) (node_names h))) sync
-      by_cause (inr dirty) = or-right (is_sync_due doc q h) (is_synced q h && list_any (is_clean_due q h) (node_names h)) (busy-clean dirty.0 dirty.1)
+      by_cause (inr dirty) = or-right (is_sync_at_once doc q h) (is_synced q h && list_any (is_clean_due q h) (node_names h)) (busy-clean dirty.0 dirty.1)
 
 -- ---- from a reading
 
@@ -170,8 +169,8 @@ module _ (doc : Doc) (q : Identity) (h : List Entry) where
         waiting_place q zone r.name w.0 h w.1,
       )
 
-  abbrev synced_reading : Option ℕ
-  synced_reading = sooner (pass_at doc q h) (heads_at doc q (places (nodes q h)) h)
+  abbrev least_reading : Option ℕ
+  least_reading = sooner (pass_at doc q h) (heads_at doc q (places (nodes q h)) h)
 
   same-pass : ¬ (last_pass q h ≡ None) → pass_reading doc q h ≡ pass_at doc q h
   same-pass some = by_pass (last_pass q h) refl
@@ -188,13 +187,13 @@ module _ (doc : Doc) (q : Identity) (h : List Entry) where
         by_head None is = refl
         by_head (Some other) is = let le = s.least other (inr (zone, head-reading zone other is)) in grind (arith, nat_tests)
 
-    before-all : (now : ℕ) → nat_lt now at ≡ true → is_early now synced_reading ≡ true
+    before-all : (now : ℕ) → nat_lt now at ≡ true → is_early now least_reading ≡ true
     before-all now before =
         let le = s.least (agenda.pass_after doc q (last_pass q h)) (inl (same-pass some)) in
         let pass : is_early now (pass_at doc q h) ≡ true = grind (arith, nat_tests) in
         both_sooner now (pass_at doc q h) (heads_at doc q (places (nodes q h)) h) pass (early_heads doc q now (places (nodes q h)) h (λ zone among. early-zone now before zone))
 
-    all-before : (now : ℕ) → is_early now synced_reading ≡ true → nat_lt now at ≡ true
+    all-before : (now : ℕ) → is_early now least_reading ≡ true → nat_lt now at ≡ true
     all-before now early = by_cause s.there (sooner_both now (pass_at doc q h) (heads_at doc q (places (nodes q h)) h) early)
       where
         by_cause : IsAwaited doc q h at → (is_early now (pass_at doc q h) ≡ true) × (is_early now (heads_at doc q (places (nodes q h)) h) ≡ true) → nat_lt now at ≡ true
@@ -203,8 +202,8 @@ module _ (doc : Doc) (q : Identity) (h : List Entry) where
             let r = reading-head head.0 at head.1 in
             ap (is_early now) (sym r.0) ∙ heads_early doc q now (places (nodes q h)) h e.1 head.0 r.1
 
-    synced-is : Some at ≡ synced_reading
-    synced-is = early_same (Some at) synced_reading (λ now. same-tests (nat_lt now at) (is_early now synced_reading) (before-all now) (all-before now))
+    synced-is : Some at ≡ least_reading
+    synced-is = early_same (Some at) least_reading (λ now. same-tests (nat_lt now at) (is_early now least_reading) (before-all now) (all-before now))
 
   module _ (begun : HasBegun q h) where
     not-synced : last_pass q h ≡ None → (b : Bool) → is_synced q h ≡ b → b ≡ false
@@ -215,9 +214,9 @@ module _ (doc : Doc) (q : Identity) (h : List Entry) where
     synced-once some true is = refl
     synced-once some false is = absurd (some (no_pass q h (begun.unsynced is)))
 
-    pub reading-is : (o : Option Local) → IfNone o (last_pass q h ≡ None) → IfSome o (λ at. ¬ (last_pass q h ≡ None)) → IfSome o (λ at. IsLeastAwaited doc q h at.0) → reading_of o ≡ term_reading doc q h
-    reading-is None none some least = sym (ap (λ b. only_if b synced_reading) (not-synced none (is_synced q h) refl))
-    reading-is (Some at) none some least = synced-is some at.0 least ∙ ap (λ b. only_if b synced_reading) (sym (synced-once some (is_synced q h) refl))
+    pub reading-is : (o : Option Local) → IfNone o (last_pass q h ≡ None) → IfSome o (λ at. ¬ (last_pass q h ≡ None)) → IfSome o (λ at. IsLeastAwaited doc q h at.0) → reading_of o ≡ synced_reading doc q h
+    reading-is None none some least = sym (ap (λ b. only_if b least_reading) (not-synced none (is_synced q h) refl))
+    reading-is (Some at) none some least = synced-is some at.0 least ∙ ap (λ b. only_if b least_reading) (sym (synced-once some (is_synced q h) refl))
 
 -- ---- from a time of day
 

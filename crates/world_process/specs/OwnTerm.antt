@@ -2,13 +2,14 @@
 use Rattle.std.specs.Prelude.{◌≡◌, ◌<◌, ℕ, Bool, true, false, List, length, Some}
 use Rattle.kube_objects.specs.Document.{Doc, is_controller}
 use Rattle.kube_objects.specs.Entry as entry
-use Rattle.kube_objects.specs.Entry.{Entry, Identity, Starts, Ticks}
+use Rattle.kube_objects.specs.Entry.{Entry, Identity, Starts, Leads, Ticks}
 use Rattle.kube_objects.specs.Health.{last_pass}
 use Rattle.kube_objects.specs.Identities.{identity}
 use Rattle.kube_objects.specs.Modes.{nodes}
 use Rattle.kube_objects.specs.Newest.{has}
 use Rattle.kube_objects.specs.Process.{alive}
 use Rattle.kube_objects.specs.Seen.{is_synced}
+use Rattle.kube_objects.specs.Stalls.{is_stalled}
 use Rattle.kube_objects.specs.Tainting.{before_tick}
 use Rattle.kube_objects.specs.Tick.{sync}
 use Rattle.watch_cache.specs.Stands.{ticks}
@@ -36,13 +37,16 @@ pub record IsUpAs (doc : Doc) (q : Identity) (h : List Entry) : Type 0 where
   pub sort : is_controller doc q.process ≡ true
   pub up : alive q.process h ≡ Some q.incarnation
 
--- what the tick of process p at beat k finds: no entry of a tick of its own on top, and no more nodes than can be counted
+-- what the tick of process p at beat k finds: no entry of a tick of its own on top, no more nodes than can be counted, and a store that
+-- goes
 pub record CanTick (doc : Doc) (k p : ℕ) (h : List Entry) : Type 0 where
   pub fresh : (q : Identity) → q.process ≡ p → before_tick q k h ≡ h
   pub few : (q : Identity) → length (nodes q (sync doc k q h)) < 4294967296
+  pub goes : is_stalled doc k ≡ false
 
--- no start and no entry of a tick
+-- no start, no lead and no entry of a tick
 abbrev pub is_beside : entry.Fact → Bool
 is_beside Starts = false
+is_beside (Leads version) = false
 is_beside (Ticks tick) = false
 is_beside _ = true

@@ -340,6 +340,7 @@ impl Controller {
                     Heard::Asks(ask) => asks(ask),
                     Heard::Wins(won) => {
                         self.role = Role::Leading(won.lead());
+                        self.term.lead(now);
                         leads(reply)
                     }
                 }

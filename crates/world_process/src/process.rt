@@ -5,6 +5,7 @@ ghost use Rattle.kube_base.specs.declared.numbers.ProcId.{ProcId};
 ghost use Rattle.kube_objects.specs.declared.deed.Actor.TheVariants as actor;
 ghost use Rattle.kube_objects.specs.declared.script.What.TheVariants as what;
 ghost use Rattle.kube_objects.specs.Document.{Doc, is_controller, restart_delay};
+ghost use Rattle.kube_objects.specs.Elector.{leads};
 ghost use Rattle.kube_objects.specs.Entry.{Entry, Identity};
 ghost use Rattle.kube_objects.specs.Identities.{identity};
 ghost use Rattle.kube_objects.specs.InForce.{posted_status, watches};
@@ -13,7 +14,7 @@ ghost use Rattle.kube_objects.specs.Pauses.{is_paused as is_paused_at, resume as
 ghost use Rattle.kube_objects.specs.Process.{alive, starts};
 ghost use Rattle.kube_objects.specs.Wire.{Back, loses_requests};
 ghost use Rattle.history.specs.Steps.{happens, start};
-ghost use Rattle.agenda_laws.specs.Ticking.{is_due_at_once, term_reading, term_time};
+ghost use Rattle.agenda_laws.specs.Ticking.{is_due_at_once, sync_at, synced_reading, term_time};
 ghost use Rattle.agenda_laws.specs.Times.{is_early};
 ghost use Rattle.leader_elector.specs.Stands.{acting_identity};
 ghost use Rattle.object_store.specs.Stands.{StoreStands};
@@ -228,11 +229,23 @@ impl Process {
         }
     }
 
+    /// The reading from which on a tick of a controller's term has a sync, where it leads, one is due and the term takes time to settle.
+    /// None where there is none.
+    pub fn sync_wake(&self, store: &Store, watch: bool) -> Option<Local>
+        ensures { (doc : Doc) (q : Identity) (h : List Entry) → ProcessStands doc q.process h self.now → StoreStands h store.now
+            → watch ≡ watches doc q.process h → IsUpAs doc q h → leads q h ≡ true → reading_of result ≡ sync_at doc q h }
+    {
+        match self {
+            Process::Controller(controller) => controller.sync_wake(store, watch),
+            Process::Kubelet(_) => None,
+        }
+    }
+
     /// The least reading at which a tick of a controller's term has a pass, or a queued taint of those who wait now. None where there
     /// is none.
     pub fn term_wake(&self) -> Option<Local>
         ensures { (doc : Doc) (q : Identity) (h : List Entry) → ProcessStands doc q.process h self.now → IsUpAs doc q h
-            → reading_of result ≡ term_reading doc q h }
+            → reading_of result ≡ synced_reading doc q h }
     {
         match self {
             Process::Controller(controller) => controller.term_wake(),

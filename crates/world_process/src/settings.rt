@@ -13,6 +13,7 @@ pub(crate) fn tick_settings(settings: &Settings) -> TickSettings
     ensures secondary { result.secondary_rate ≡ settings.now.secondary_rate }
 {
     TickSettings {
+        first_sync_millis: settings.rules.first_sync_millis,
         monitor_period_millis: settings.monitor_period_millis,
         grace_period_millis: settings.grace_period_millis,
         startup_grace_millis: settings.startup_grace_millis,

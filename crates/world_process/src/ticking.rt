@@ -1,10 +1,11 @@
 // A controller's tick, and what its term waits for.
-ghost use Rattle.std.specs.Prelude.{◌≡◌, ◌≤◌, not, ℕ, false, List, OnOk};
+ghost use Rattle.std.specs.Prelude.{◌≡◌, ◌≤◌, not, ℕ, true, false, List, OnOk};
 ghost use Rattle.kube_objects.specs.Document.{Doc};
+ghost use Rattle.kube_objects.specs.Elector.{leads};
 ghost use Rattle.kube_objects.specs.Entry.{Entry, Identity};
 ghost use Rattle.kube_objects.specs.InForce.{watches};
 ghost use Rattle.kube_objects.specs.Wire.{loses_requests};
-ghost use Rattle.agenda_laws.specs.Ticking.{is_due_at_once, term_reading, term_time};
+ghost use Rattle.agenda_laws.specs.Ticking.{is_due_at_once, sync_at, synced_reading, term_time};
 ghost use Rattle.agenda_laws.specs.Times.{is_early};
 ghost use Rattle.object_store.specs.Stands.{StoreStands};
 ghost use Rattle.world_process.specs.Beats.{reading_of};
@@ -77,10 +78,19 @@ impl Controller {
         self.term.at_once(store, watch)
     }
 
+    /// The reading from which on a tick of its term has a sync, where it leads, one is due and the term takes time to settle. None where
+    /// there is none.
+    pub fn sync_wake(&self, store: &Store, watch: bool) -> Option<Local>
+        ensures { (doc : Doc) (q : Identity) (h : List Entry) → ControllerStands doc q.process h self.now → StoreStands h store.now
+            → watch ≡ watches doc q.process h → IsUpAs doc q h → leads q h ≡ true → reading_of result ≡ sync_at doc q h }
+    {
+        self.term.sync_wake(store, watch)
+    }
+
     /// The least reading at which a tick of its term has a pass, or a queued taint of those who wait now. None where there is none.
     pub fn term_wake(&self) -> Option<Local>
         ensures { (doc : Doc) (q : Identity) (h : List Entry) → ControllerStands doc q.process h self.now → IsUpAs doc q h
-            → reading_of result ≡ term_reading doc q h }
+            → reading_of result ≡ synced_reading doc q h }
     {
         self.term.wake()
     }

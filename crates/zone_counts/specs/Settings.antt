@@ -1,10 +1,11 @@
--- The settings of a tick are the document's, which goes by the project's own rules but for those of elections: a tick knows no others.
+-- The settings of a tick are the document's, which goes by the project's own rules in all else: a tick knows no others.
 use Rattle.std.specs.Prelude.{◌≡◌}
 use Rattle.kube_objects.specs.declared.settings.TickSettings.{TickSettings}
 use Rattle.kube_objects.specs.Document.{Doc}
 use Rattle.kube_objects.specs.Own.{IsOwn}
 
 pub record AreSettings (doc : Doc) (s : TickSettings) : Type 0 where
+  pub first_sync : s.first_sync_millis ≡ doc.settings.rules.first_sync_millis
   pub monitor : s.monitor_period_millis ≡ doc.settings.monitor_period_millis
   pub grace : s.grace_period_millis ≡ doc.settings.grace_period_millis
   pub startup : s.startup_grace_millis ≡ doc.settings.startup_grace_millis

@@ -1,8 +1,8 @@
 // Each of the script's events.
-ghost use Rattle.std.specs.Prelude.{◌≡◌, ◌+◌, ◌*◌, ◌≤◌, OnOk};
+ghost use Rattle.std.specs.Prelude.{◌≡◌, ◌+◌, ◌*◌, OnOk};
 ghost use Rattle.kube_objects.specs.declared.script.What.TheVariants as What;
 ghost use Rattle.kube_objects.specs.Kinds.{IsOfKind};
-ghost use Rattle.world_core.specs.Worlds.{at_of, end_of, IsReady, Keeps, Happens};
+ghost use Rattle.world_core.specs.Worlds.{IsRunning, Keeps, Happens};
 
 use crate::printing::{crash_act, pause_act, remove_act, start_act, stop_act, tell};
 use crate::world::World;
@@ -14,8 +14,7 @@ use kube_objects::{Act, Actor, Deeds, Key, Object};
 impl World {
     // A process that is up crashes.
     pub(super) fn crash(&mut self, who: ProcId, deeds: &mut Deeds) -> Result<(), NoMemory>
-        requires ready { IsReady self.old }
-        requires within { at_of self.old ≤ end_of self.old }
+        requires running { IsRunning self.old }
         ensures kept { OnOk result (Keeps self.old self.new) }
         ensures stands { OnOk result (Happens self.old deeds.old self.new deeds.new (What.Crash who)) }
     {
@@ -32,8 +31,7 @@ impl World {
 
     // A process that is down starts.
     pub(super) fn start(&mut self, who: ProcId, deeds: &mut Deeds) -> Result<(), NoMemory>
-        requires ready { IsReady self.old }
-        requires within { at_of self.old ≤ end_of self.old }
+        requires running { IsRunning self.old }
         ensures kept { OnOk result (Keeps self.old self.new) }
         ensures stands { OnOk result (Happens self.old deeds.old self.new deeds.new (What.Start who)) }
     {
@@ -50,8 +48,7 @@ impl World {
 
     // A stopped leader's release is sent at once. A controller that is paused goes on.
     pub(super) fn stop(&mut self, who: ProcId, deeds: &mut Deeds) -> Result<(), NoMemory>
-        requires ready { IsReady self.old }
-        requires within { at_of self.old ≤ end_of self.old }
+        requires running { IsRunning self.old }
         ensures kept { OnOk result (Keeps self.old self.new) }
         ensures stands { OnOk result (Happens self.old deeds.old self.new deeds.new (What.Stop who)) }
     {
@@ -66,7 +63,14 @@ impl World {
         let who = process.me();
         let incarnation = process.incarnation();
         tell(deeds, self.beat, actor, stop_act(stopped.stopped))?;
-        send_asked(&mut self.wire, who, incarnation, stopped.ask, self.beat)
+        send_asked(
+            &mut self.wire,
+            &self.stalls,
+            who,
+            incarnation,
+            stopped.ask,
+            self.beat,
+        )
     }
 
     // A pause is told of a process that is up. From when to when each is paused is known from the start.
@@ -96,9 +100,8 @@ impl World {
         object: Object,
         deeds: &mut Deeds,
     ) -> Result<(), NoMemory>
-        requires ready { IsReady self.old }
+        requires running { IsRunning self.old }
         requires kind { IsOfKind key object }
-        requires within { at_of self.old ≤ end_of self.old }
         ensures kept { OnOk result (Keeps self.old self.new) }
         ensures stands { OnOk result (Happens self.old deeds.old self.new deeds.new (What.Put key object)) }
     {
@@ -110,8 +113,7 @@ impl World {
 
     // What is stored under a key is removed, if there is something.
     pub(super) fn remove(&mut self, key: Key, deeds: &mut Deeds) -> Result<(), NoMemory>
-        requires ready { IsReady self.old }
-        requires within { at_of self.old ≤ end_of self.old }
+        requires running { IsRunning self.old }
         ensures kept { OnOk result (Keeps self.old self.new) }
         ensures stands { OnOk result (Happens self.old deeds.old self.new deeds.new (What.Remove key)) }
     {
@@ -121,8 +123,7 @@ impl World {
 
     // The store's time of day.
     fn wall(&self) -> Wall
-        requires ready { IsReady self.now }
-        requires within { at_of self.now ≤ end_of self.now }
+        requires running { IsRunning self.now }
         ensures { result.0 ≡ self.now.epoch.0 + self.now.beat.0 * self.now.micros }
     {
         Wall(self.epoch.0 + u64::from(self.beat.0) * u64::from(self.micros))

@@ -15,6 +15,7 @@ use beat_tree::BeatTree;
 use kube_base::{Beat, NoMemory, ProcId, Wall};
 use kube_objects::{Event, Items, Procs, Settings, WaitLists};
 use object_store::Store;
+use pause_times::Stalls;
 use script_reader::Document;
 use std::alloc::Global;
 use wire_calls::Wire;
@@ -42,6 +43,7 @@ impl World {
         let in_force = InForce::new(alloc, &document.controllers, &document.kubelets)?;
         let wire = Wire::new(alloc, processes.len() as u32)?;
         let store = store_of(alloc, &document.objects.items, settings.epoch)?;
+        let stalls = Stalls::of(alloc, document.events.as_slice())?;
         Ok(World {
             alloc,
             beat: Beat(0),
@@ -58,6 +60,7 @@ impl World {
             place: 0,
             events: document.events,
             names: document.names,
+            stalls,
         })
     }
 }
@@ -78,7 +81,7 @@ fn processes_of(
     requires waits_each { length waits.now ≡ length controllers.now }
     requires events { AreEventsFrom settings.now.end_beat.0 0 events.now }
     requires apart { AreApart events.now }
-    requires few { (length controllers.now ≤ 16) × (length kubelets.now ≤ 1000) }
+    requires few { (length controllers.now ≤ 16) × (length kubelets.now ≤ 15000) }
     ensures count { IfOk result (λ xs. length xs.items ≡ length controllers.now + length kubelets.now) }
     ensures clocks { IfOk result (λ xs. GoOnTo settings.now.end_beat.0 xs.items) }
     ensures kept { IfOk result (λ xs. AreKept xs.items) }
@@ -107,7 +110,7 @@ fn processes_of(
 
 // A leaf a process, with the beat of its next turn.
 fn turn_beats_of(alloc: Global, processes: &[Process]) -> Result<BeatTree, NoMemory>
-    requires { length processes.now ≤ 1016 }
+    requires { length processes.now ≤ 15016 }
     ensures { IfOk result (AreNoted processes.now) }
 {
     let mut turn_beats = BeatTree::new(alloc, processes.len())?;

@@ -1,5 +1,5 @@
 // Messages: requests that arrive, and replies that are delivered.
-ghost use Rattle.std.specs.Prelude.{◌≡◌, ◌∷◌, ◌≤◌, ℕ, List, true, IfOk, OnOk};
+ghost use Rattle.std.specs.Prelude.{◌≡◌, ◌∷◌, ◌≤◌, ℕ, List, Option, true, IfOk, OnOk};
 ghost use Rattle.kube_objects.specs.declared.deed.Deed.{Deed};
 ghost use Rattle.kube_objects.specs.Document.{Doc, processes};
 ghost use Rattle.kube_objects.specs.Answers.{answer as store_answer, written};
@@ -10,9 +10,12 @@ ghost use Rattle.kube_objects.specs.Stored.{request_write, write_of};
 ghost use Rattle.object_store.specs.Stands.{StoreStands};
 ghost use Rattle.kube_objects.specs.Wire as flights;
 ghost use Rattle.history.specs.Steps.{delivered};
+ghost use Rattle.kube_objects.specs.Stalls.{at_store as store_at};
+ghost use Rattle.pause_times.specs.Owned.{StallsStand};
+ghost use Rattle.wire_calls.specs.Messages.{sent_as_told};
 ghost use Rattle.wire_calls.specs.WireStands.{as_back, replies_at};
 ghost use Rattle.world_process.specs.Plain.{IsFew, IsKnown};
-ghost use Rattle.world_core.specs.Worlds.{at_of, end_of, IsReady, Keeps, SendsAsked, MidBeat, AnswersArrivals, DeliversReplies};
+ghost use Rattle.world_core.specs.Worlds.{at_of, IsRunning, Keeps, SendsAsked, MidBeat, AnswersArrivals, DeliversReplies};
 
 use crate::printing::{answer_act, lead_act, tell};
 use crate::replies::send_back;
@@ -21,13 +24,13 @@ use crate::world::turns::note;
 use kube_base::{Beat, NoMemory, ProcId};
 use kube_objects::{Actor, Ask, Deeds, Reply, Request};
 use object_store::Store;
-use wire_calls::{Back, Wire};
+use pause_times::Stalls;
+use wire_calls::{Back, Fate, Wire};
 
 impl World {
     // Requests that arrive are answered, and each reply is sent.
     pub(super) fn arrivals(&mut self, deeds: &mut Deeds) -> Result<(), NoMemory>
-        requires ready { IsReady self.old }
-        requires within { at_of self.old ≤ end_of self.old }
+        requires running { IsRunning self.old }
         ensures kept { OnOk result (Keeps self.old self.new) }
         ensures stands { AnswersArrivals self.old deeds.old result self.new deeds.new }
     {
@@ -40,8 +43,7 @@ impl World {
     // It stays out of line, so that a beat at which nothing arrives makes no room for it.
     #[inline(never)]
     fn answer_requests(&mut self, deeds: &mut Deeds) -> Result<(), NoMemory>
-        requires ready { IsReady self.old }
-        requires within { at_of self.old ≤ end_of self.old }
+        requires running { IsRunning self.old }
         ensures kept { OnOk result (Keeps self.old self.new) }
         ensures stands { AnswersArrivals self.old deeds.old result self.new deeds.new }
     {
@@ -62,8 +64,7 @@ impl World {
 
     // Replies that arrive are delivered.
     pub(super) fn deliveries(&mut self, deeds: &mut Deeds) -> Result<(), NoMemory>
-        requires ready { IsReady self.old }
-        requires within { at_of self.old ≤ end_of self.old }
+        requires running { IsRunning self.old }
         ensures kept { OnOk result (Keeps self.old self.new) }
         ensures stands { DeliversReplies self.old deeds.old result self.new deeds.new }
     {
@@ -76,8 +77,7 @@ impl World {
     // It stays out of line, as the answering does.
     #[inline(never)]
     fn deliver_replies(&mut self, deeds: &mut Deeds) -> Result<(), NoMemory>
-        requires ready { IsReady self.old }
-        requires within { at_of self.old ≤ end_of self.old }
+        requires running { IsRunning self.old }
         ensures kept { OnOk result (Keeps self.old self.new) }
         ensures stands { DeliversReplies self.old deeds.old result self.new deeds.new }
     {
@@ -90,8 +90,7 @@ impl World {
     // One reply is delivered.
     #[inline(never)]
     fn deliver(&mut self, back: &Back, deeds: &mut Deeds) -> Result<(), NoMemory>
-        requires ready { IsReady self.old }
-        requires within { at_of self.old ≤ end_of self.old }
+        requires running { IsRunning self.old }
         ensures kept { OnOk result (Keeps self.old self.new) }
         ensures left { OnOk result (replies_at self.new.wire (at_of self.old) ≡ replies_at self.old.wire (at_of self.old)) }
         ensures stands { (doc : Doc) (k : ℕ) (before : List Deed) (arriving : List flights.Sent) (coming : List flights.Back)
@@ -110,7 +109,14 @@ impl World {
         let who = process.me();
         let incarnation = process.incarnation();
         tell(deeds, self.beat, actor, lead_act(received.lead))?;
-        send_asked(&mut self.wire, who, incarnation, received.ask, self.beat)
+        send_asked(
+            &mut self.wire,
+            &self.stalls,
+            who,
+            incarnation,
+            received.ask,
+            self.beat,
+        )
     }
 }
 
@@ -128,6 +134,7 @@ fn answer(store: &mut Store, request: Request) -> Result<Reply, NoMemory>
 // What a process asks is sent, where it asks.
 pub(super) fn send_asked(
     wire: &mut Wire,
+    stalls: &Stalls,
     who: ProcId,
     incarnation: u32,
     ask: Option<Ask>,
@@ -135,10 +142,22 @@ pub(super) fn send_asked(
 ) -> Result<(), NoMemory>
     requires { now.0 ≤ 700000000 }
     ensures same { OnOk result (replies_at wire.new now.0 ≡ replies_at wire.old now.0) }
-    ensures sends { OnOk result (SendsAsked now.0 (identity who.0 incarnation) ask wire.old wire.new) }
+    ensures sends { OnOk result (SendsAsked now.0 (identity who.0 incarnation) ask stalls.now wire.old wire.new) }
 {
     if let Some(ask) = ask {
-        wire.send(who, incarnation, ask, now)?;
+        let travels = at_store(stalls, wire.request_travel(who, now));
+        wire.send(who, incarnation, ask, travels)?;
     }
     Ok(())
+}
+
+// What becomes of a message to the store: it waits where that stands still.
+fn at_store(stalls: &Stalls, travels: Fate) -> Fate
+    ensures { (doc : Doc) (arrives : Option ℕ) → StallsStand doc stalls.now → travels ≡ sent_as_told arrives
+        → result ≡ sent_as_told (store_at doc arrives) }
+{
+    match travels {
+        Fate::Lost => Fate::Lost,
+        Fate::InFlight(arrives) => Fate::InFlight(stalls.awake(arrives)),
+    }
 }

@@ -1,12 +1,12 @@
 // What the script does at a beat: the first starts, and the events, one after the other.
-ghost use Rattle.std.specs.Prelude.{◌≡◌, ◌<◌, ◌≤◌, ℕ, List, IfOk, OnOk, vec_len};
+ghost use Rattle.std.specs.Prelude.{◌≡◌, ◌<◌, ℕ, List, IfOk, OnOk, vec_len};
 ghost use Rattle.kube_objects.specs.declared.deed.Deed.{Deed};
 ghost use Rattle.kube_objects.specs.Document.{Doc, is_up_first};
 ghost use Rattle.kube_objects.specs.Entry.{Entry};
 ghost use Rattle.kube_objects.specs.Wire.{Sent, Back};
 ghost use Rattle.history.specs.Steps.{first_starts, start_first, happen_all};
 ghost use Rattle.world_process.specs.Plain.{IsFew};
-ghost use Rattle.world_core.specs.Worlds.{at_of, end_of, IsFit, IsReady, IsPlaced, SameDocument, Keeps, MidBeat, Adds, Happens, Scripted};
+ghost use Rattle.world_core.specs.Worlds.{IsFit, IsReady, IsRunning, IsPlaced, SameDocument, Keeps, MidBeat, Adds, Happens, Scripted};
 
 use crate::printing::tell;
 use crate::world::World;
@@ -18,8 +18,7 @@ impl World {
     // In beat 0 each process starts that is up at first.
     #[inline(never)]
     pub(super) fn first_starts(&mut self, deeds: &mut Deeds) -> Result<(), NoMemory>
-        requires ready { IsReady self.old }
-        requires within { at_of self.old ≤ end_of self.old }
+        requires running { IsRunning self.old }
         ensures kept { OnOk result (Keeps self.old self.new) }
         ensures stands { Adds self.old deeds.old result self.new deeds.new (λ doc k h. first_starts doc k h) }
     {
@@ -35,8 +34,7 @@ impl World {
     // A process starts that is up at first.
     fn first_start(&mut self, i: usize, deeds: &mut Deeds) -> Result<(), NoMemory>
         requires index { i < vec_len self.old.processes }
-        requires ready { IsReady self.old }
-        requires within { at_of self.old ≤ end_of self.old }
+        requires running { IsRunning self.old }
         ensures kept { OnOk result (Keeps self.old self.new) }
         ensures stands { (doc : Doc) (before : List Deed) (arriving : List Sent) (coming : List Back) (h : List Entry)
             → MidBeat doc 0 before arriving coming h self.old deeds.old → IsFew (start_first i (is_up_first doc i) h)
@@ -55,8 +53,7 @@ impl World {
     // The events of this beat happen, in order.
     #[inline(never)]
     pub(super) fn script(&mut self, deeds: &mut Deeds) -> Result<(), NoMemory>
-        requires ready { IsReady self.old }
-        requires within { at_of self.old ≤ end_of self.old }
+        requires running { IsRunning self.old }
         ensures kept { OnOk result (IsReady self.new × SameDocument self.old self.new) }
         ensures stands { (doc : Doc) (k : ℕ) (before : List Deed) (arriving : List Sent) (coming : List Back) (h : List Entry)
             → MidBeat doc k before arriving coming h self.old deeds.old → IsPlaced doc k self.old.place
@@ -79,8 +76,7 @@ impl World {
     // One event happens.
     #[inline(never)]
     fn happen(&mut self, what: What, deeds: &mut Deeds) -> Result<(), NoMemory>
-        requires ready { IsReady self.old }
-        requires within { at_of self.old ≤ end_of self.old }
+        requires running { IsRunning self.old }
         requires fit { IsFit what }
         ensures kept { OnOk result (Keeps self.old self.new) }
         ensures stands { OnOk result (Happens self.old deeds.old self.new deeds.new what) }

@@ -1,5 +1,5 @@
 // The processes' turns, and the ticks of the controllers.
-ghost use Rattle.std.specs.Prelude.{◌≡◌, ◌==◌, ◌<◌, ◌≤◌, ℕ, List, length, true, OnOk, vec_len, if◌then◌else◌};
+ghost use Rattle.std.specs.Prelude.{◌≡◌, ◌==◌, ◌<◌, ℕ, List, length, true, OnOk, vec_len, if◌then◌else◌};
 ghost use Rattle.beat_tree.specs.Leaves.{leaf, room};
 ghost use Rattle.kube_objects.specs.declared.deed.Deed.{Deed};
 ghost use Rattle.kube_objects.specs.Document.{Doc, is_controller, processes};
@@ -11,7 +11,7 @@ ghost use Rattle.world_process.specs.Processes.{IsKept, IsTimed, ProcessStands, 
 ghost use Rattle.world_core.specs.Waits.{awake_turn};
 ghost use Rattle.world_process.specs.Moves.{own_ticks};
 ghost use Rattle.world_process.specs.Plain.{IsFew};
-ghost use Rattle.world_core.specs.Worlds.{at_of, end_of, IsReady, Keeps, MidBeat, Adds};
+ghost use Rattle.world_core.specs.Worlds.{IsRunning, Keeps, MidBeat, Adds};
 
 use crate::printing::{end_act, start_act, tell};
 use crate::world::World;
@@ -26,8 +26,7 @@ impl World {
     // Each process has its turn, in order.
     #[inline(never)]
     pub(super) fn turns(&mut self, policies: &Policies, deeds: &mut Deeds) -> Result<(), NoMemory>
-        requires ready { IsReady self.old }
-        requires within { at_of self.old ≤ end_of self.old }
+        requires running { IsRunning self.old }
         ensures kept { OnOk result (Keeps self.old self.new) }
         ensures stands { (doc : Doc) (k : ℕ) (before : List Deed) (arriving : List Sent) (coming : List Back) (h : List Entry)
             → MidBeat doc k before arriving coming h self.old deeds.old → IsUnticked k h → IsFew (turns doc k (processes doc) h)
@@ -42,8 +41,7 @@ impl World {
 
     // The kubelets whose beat has come have their turns, in order; the others' turns would add nothing.
     fn kubelet_turns(&mut self, deeds: &mut Deeds) -> Result<(), NoMemory>
-        requires ready { IsReady self.old }
-        requires within { at_of self.old ≤ end_of self.old }
+        requires running { IsRunning self.old }
         ensures kept { OnOk result (Keeps self.old self.new) }
         ensures stands { (doc : Doc) (k : ℕ) (before : List Deed) (arriving : List Sent) (coming : List Back) (h : List Entry)
             → MidBeat doc k before arriving coming (turns doc k (length doc.controllers) h) self.old deeds.old
@@ -62,8 +60,7 @@ impl World {
     // A turn but for its tick, where it isn't paused.
     fn turn(&mut self, i: usize, deeds: &mut Deeds) -> Result<(), NoMemory>
         requires index { i < vec_len self.old.processes }
-        requires ready { IsReady self.old }
-        requires within { at_of self.old ≤ end_of self.old }
+        requires running { IsRunning self.old }
         ensures kept { OnOk result (Keeps self.old self.new) }
         ensures stands { Adds self.old deeds.old result self.new deeds.new (λ doc k h. awake_turn doc k i h) }
     {
@@ -77,8 +74,7 @@ impl World {
     #[inline(never)]
     fn take_turn(&mut self, i: usize, deeds: &mut Deeds) -> Result<(), NoMemory>
         requires index { i < vec_len self.old.processes }
-        requires ready { IsReady self.old }
-        requires within { at_of self.old ≤ end_of self.old }
+        requires running { IsRunning self.old }
         ensures kept { OnOk result (Keeps self.old self.new) }
         ensures stands { Adds self.old deeds.old result self.new deeds.new (λ doc k h. awake_turn doc k i h) }
     {
@@ -94,14 +90,20 @@ impl World {
         let incarnation = process.incarnation();
         tell(deeds, self.beat, actor, start_act(turn.started))?;
         tell(deeds, self.beat, actor, end_act(turn.ended))?;
-        send_asked(&mut self.wire, who, incarnation, turn.ask, self.beat)
+        send_asked(
+            &mut self.wire,
+            &self.stalls,
+            who,
+            incarnation,
+            turn.ask,
+            self.beat,
+        )
     }
 
-    // The tick of a controller that acts as the leader.
+    // The tick of a controller that acts as the leader. There is none while the store stands still.
     fn tick(&mut self, i: usize, policies: &Policies, deeds: &mut Deeds) -> Result<(), NoMemory>
         requires index { i < vec_len self.old.processes }
-        requires ready { IsReady self.old }
-        requires within { at_of self.old ≤ end_of self.old }
+        requires running { IsRunning self.old }
         ensures kept { OnOk result (Keeps self.old self.new) }
         ensures stands { (doc : Doc) (k : ℕ) (before : List Deed) (arriving : List Sent) (coming : List Back) (h : List Entry)
             → MidBeat doc k before arriving coming h self.old deeds.old → (is_controller doc i ≡ true → IsUntickedFrom k i h)
@@ -109,6 +111,9 @@ impl World {
             → OnOk result (MidBeat doc k before arriving coming (own_ticks doc k i h) self.new deeds.new) }
     {
         if self.processes[i].leadership(self.beat).is_none() {
+            return Ok(());
+        }
+        if self.stalls.is_stalled(self.beat) {
             return Ok(());
         }
         let who = self.processes[i].me();

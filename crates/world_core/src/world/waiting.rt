@@ -3,10 +3,11 @@ ghost use Rattle.std.specs.Prelude.{◌≡◌, ◌+◌, ◌<◌, ◌≤◌, ℕ,
 ghost use Rattle.kube_objects.specs.Document.{Doc, end_beat};
 ghost use Rattle.kube_objects.specs.Entry.{Entry};
 ghost use Rattle.kube_objects.specs.Pauses.{resume as resume_of};
+ghost use Rattle.kube_objects.specs.Stalls.{awake as awake_of};
 ghost use Rattle.script_reader.specs.Lawful.{AreLawfulFrom};
 ghost use Rattle.agenda_laws.specs.Ahead.{IsNextEvent, IsNextMessage};
 ghost use Rattle.agenda_laws.specs.Times.{sooner as soonest};
-ghost use Rattle.world_core.specs.Waits.{IsFirstTurn, IsLeastTurn, IsTurnBeat, WakesStand, beat_of, local_of};
+ghost use Rattle.world_core.specs.Waits.{IsFirstTurn, IsLeastTurn, IsTurnBeat, TurnWakesStand, WakesStand, beat_of, local_of};
 ghost use Rattle.world_core.specs.Worlds.{at_of, count_of, end_of, IsReady, WorldStands};
 
 use crate::wakes::Wakes;
@@ -55,11 +56,21 @@ impl World {
             return Wakes::with(false, wake, None);
         }
         let watch = self.in_force.watch(who);
+        let term = sooner(process.sync_wake(&self.store, watch), process.term_wake());
         Wakes::with(
             process.at_once(&self.store, watch),
-            sooner(wake, process.term_wake()),
+            sooner(wake, term),
             process.least_due(),
         )
+    }
+
+    /// What a process waits for, its tick aside.
+    pub fn turn_wakes(&self, who: ProcId) -> Wakes
+        requires { who.0 < count_of self.now }
+        ensures { (doc : Doc) (k : ℕ) (h : List Entry) → WorldStands doc k h self.now → TurnWakesStand doc who.0 h result }
+    {
+        let process = &self.processes[who.0 as usize];
+        Wakes::with(false, process.wake(), None)
     }
 
     /// The first beat up to the end at which a process's clock has the reading that is waited for; None where there is none.
@@ -109,6 +120,16 @@ impl World {
     {
         let resumes = self.processes[who.0 as usize].resume(beat);
         Beat(resumes.0.min(self.end.0 + 1))
+    }
+
+    /// The first beat from this one on at which the store goes; the beat after the end, where there is none up to the end.
+    pub fn awake(&self, beat: Beat) -> Beat
+        requires ready { IsReady self.now }
+        ensures { (doc : Doc) (k : ℕ) (h : List Entry) → WorldStands doc k h self.now → end_of self.now ≡ end_beat doc
+            → result.0 ≡ min (awake_of doc beat.0) (end_beat doc + 1) }
+    {
+        let wakes = self.stalls.awake(beat);
+        Beat(wakes.0.min(self.end.0 + 1))
     }
 }
 

@@ -1,4 +1,4 @@
-use Rattle.std.proofs.Common.{◌≡◌, ◌∙◌, ◌||◌, ℕ, Bool, List, ◌&&◌, not, false, true, ap, drop, sym, subst, arith}
+use Rattle.std.proofs.Common.{◌≡◌, ◌∙◌, ◌||◌, ℕ, Bool, List, ◌&&◌, not, false, true, ap, drop, refl, sym, subst, arith}
 use Rattle.std.specs.Prelude.{if◌then◌else◌}
 use Rattle.std.proofs.lemmas.Result.{on_ok_weaker}
 use Rattle.std.specs.BTreeSet.{contains}
@@ -7,7 +7,6 @@ use Rattle.kube_objects.specs.Document.{Doc}
 use Rattle.kube_objects.specs.Entry.{Entry, Identity, Sync}
 use Rattle.kube_objects.specs.Feeds.{is_among}
 use Rattle.kube_objects.specs.InForce.{watches}
-use Rattle.kube_objects.specs.Own.{IsOwn}
 use Rattle.kube_objects.specs.Seen.{is_fresh}
 use Rattle.kube_objects.specs.Stored.{node_key}
 use Rattle.object_store.specs.Stands.{changed_in}
@@ -16,7 +15,7 @@ use Rattle.tick_laws.specs.Since.{keys_since}
 use Rattle.tick_laws.specs.Steps.{write_costs}
 use Rattle.tick_laws.specs.ToJudge.{is_to_judge}
 use Rattle.tick_laws.proofs.Steps.{cost_sync, costs_grow}
-use Rattle.tick_laws.proofs.Syncing.{sync_own, sync_synced}
+use Rattle.tick_laws.proofs.Syncing.{sync_synced}
 use Rattle.term_state.specs.ClusterStands.{ClusterStands}
 use Rattle.term_state.specs.MidTick.{IsMoved}
 use Rattle.controller_core.specs.Costs.{HaveCost}
@@ -24,29 +23,51 @@ use Rattle.controller_core.specs.Left.{LeftBut}
 use Rattle.controller_core.proofs.Syncing.Synced.{changed_since, store_synced, sync_moved}
 use Rattle.controller_core.proofs.sync.sync.Goals as goal
 
+-- where the term hasn't settled
+unsettled : (doc : Doc) (k : ℕ) (q : Identity) (h : List Entry) (b : Bool) → b ≡ has_settled doc k q h → b ≡ false → sync doc k q h ≡ h
+unsettled doc k q h b is off = ap (λ c. (if (c && (watches doc q.process h && not (is_fresh q h))) then add k q Sync h else h)) (sym is ∙ off)
+
+pub returns-then-not-has_settled-clause-stands : goal.returns-then-not-has_settled-clause-stands
+returns-then-not-has_settled-clause-stands g c doc k q h settles s st r v =
+    subst (λ f. ClusterStands q f c.args.cluster.now × HaveCost q k h f c.args.steps.now c.args.steps.now)
+    (sym (unsettled doc k q h c.has_settled.result (c.has_settled.ensures doc k q h settles v.reading) c.if-not-has_settled.true)) (s, omega arith)
+
+pub returns-then-not-has_settled-clause-store : goal.returns-then-not-has_settled-clause-store
+returns-then-not-has_settled-clause-store g c doc k q h st = store_synced k q h c.args.store.now (has_settled doc k q h && (watches doc q.process h && not (is_fresh q h))) st
+
+pub returns-then-not-has_settled-clause-moved : goal.returns-then-not-has_settled-clause-moved
+returns-then-not-has_settled-clause-moved g c doc k q h settles s st r v m beneath =
+    subst (λ f. IsMoved q k f c.args.cluster.now) (sym (unsettled doc k q h c.has_settled.result (c.has_settled.ensures doc k q h settles v.reading) c.if-not-has_settled.true)) m
+
 -- where there is no sync
-none_is : (doc : Doc) → IsOwn doc → (k : ℕ) (q : Identity) (h : List Entry) (b : Bool) → b ≡ (watches doc q.process h && not (is_fresh q h)) → b ≡ false → sync doc k q h ≡ h
-none_is doc own k q h b is off = sync_own doc own k q h ∙ ap (λ c. (if c then add k q Sync h else h)) (sym is ∙ off)
+none_is : (doc : Doc) (k : ℕ) (q : Identity) (h : List Entry) (b : Bool) → b ≡ (watches doc q.process h && not (is_fresh q h)) → b ≡ false → sync doc k q h ≡ h
+none_is doc k q h b is off = by_settled (has_settled doc k q h)
+  where
+    by_settled : (s : Bool) → (if (s && (watches doc q.process h && not (is_fresh q h))) then add k q Sync h else h) ≡ h
+    by_settled true = ap (λ c. (if c then add k q Sync h else h)) (sym is ∙ off)
+    by_settled false = refl
 
 pub returns-then-not-syncs-clause-stands : goal.returns-then-not-syncs-clause-stands
-returns-then-not-syncs-clause-stands g c doc k q h own s st r v =
-    subst (λ f. ClusterStands q f c.args.cluster.now × HaveCost q k h f c.args.steps.now c.args.steps.now) (sym (none_is doc own k q h c.syncs.result (c.syncs.ensures doc q h s st v.watch) c.if-not-syncs.true)) (s, omega arith)
+returns-then-not-syncs-clause-stands g c doc k q h settles s st r v =
+    subst (λ f. ClusterStands q f c.args.cluster.now × HaveCost q k h f c.args.steps.now c.args.steps.now) (sym (none_is doc k q h c.syncs.result (c.syncs.ensures doc q h s st v.watch) c.if-not-syncs.true)) (s, omega arith)
 
 pub returns-then-not-syncs-clause-store : goal.returns-then-not-syncs-clause-store
 returns-then-not-syncs-clause-store g c doc k q h st = store_synced k q h c.args.store.now (has_settled doc k q h && (watches doc q.process h && not (is_fresh q h))) st
 
 pub returns-then-not-syncs-clause-moved : goal.returns-then-not-syncs-clause-moved
-returns-then-not-syncs-clause-moved g c doc k q h own s st r v m beneath =
-    subst (λ f. IsMoved q k f c.args.cluster.now) (sym (none_is doc own k q h c.syncs.result (c.syncs.ensures doc q h s st v.watch) c.if-not-syncs.true)) m
+returns-then-not-syncs-clause-moved g c doc k q h settles s st r v m beneath =
+    subst (λ f. IsMoved q k f c.args.cluster.now) (sym (none_is doc k q h c.syncs.result (c.syncs.ensures doc q h s st v.watch) c.if-not-syncs.true)) m
 
 -- where there is one
-comes : (doc : Doc) → IsOwn doc → (k : ℕ) (q : Identity) (h : List Entry) (b : Bool) → b ≡ (watches doc q.process h && not (is_fresh q h)) → b ≡ true → sync doc k q h ≡ add k q Sync h
-comes doc own k q h b is on = sync_own doc own k q h ∙ ap (λ c. (if c then add k q Sync h else h)) (sym is ∙ on)
+comes : (doc : Doc) (k : ℕ) (q : Identity) (h : List Entry) (s b : Bool) → s ≡ has_settled doc k q h → s ≡ true → b ≡ (watches doc q.process h && not (is_fresh q h)) → b ≡ true → sync doc k q h ≡ add k q Sync h
+comes doc k q h s b settled yet is on =
+    ap (λ c. (if (c && (watches doc q.process h && not (is_fresh q h))) then add k q Sync h else h)) (sym settled ∙ yet)
+    ∙ ap (λ c. (if c then add k q Sync h else h)) (sym is ∙ on)
 
 pub returns-clause-stands : goal.returns-clause-stands
-returns-clause-stands g c doc k q h own s st r v =
+returns-clause-stands g c doc k q h settles s st r v =
     let after = add k q Sync h in
-    let is = comes doc own k q h c.syncs.result (c.syncs.ensures doc q h s st v.watch) c.if-not-syncs.false in
+    let is = comes doc k q h c.has_settled.result c.syncs.result (c.has_settled.ensures doc k q h settles v.reading) c.if-not-has_settled.false (c.syncs.ensures doc q h s st v.watch) c.if-not-syncs.false in
     let since = changed_since q h c.args.store.now c.position-position.result st (c.position-position.ensures q h s) in
     let names = contains nat_cmp c.in_ok-to_judge.to_judge in
     let open_keys = subst (λ keys. LeftBut q after keys c.in_ok-to_judge.to_judge c.take_over.new.self) (sym since) (c.in_ok-to_judge.ensures.stands q k h s st r) in
@@ -63,8 +84,8 @@ pub returns-clause-store : goal.returns-clause-store
 returns-clause-store g c doc k q h st = store_synced k q h c.args.store.now (has_settled doc k q h && (watches doc q.process h && not (is_fresh q h))) st
 
 pub returns-clause-moved : goal.returns-clause-moved
-returns-clause-moved g c doc k q h own s st r v m beneath =
-    let is = comes doc own k q h c.syncs.result (c.syncs.ensures doc q h s st v.watch) c.if-not-syncs.false in
+returns-clause-moved g c doc k q h settles s st r v m beneath =
+    let is = comes doc k q h c.has_settled.result c.syncs.result (c.has_settled.ensures doc k q h settles v.reading) c.if-not-has_settled.false (c.syncs.ensures doc q h s st v.watch) c.if-not-syncs.false in
     let since = changed_since q h c.args.store.now c.position-position.result st (c.position-position.ensures q h s) in
     on_ok_weaker c.judge_changes.result
     (λ more. sync_moved q k h (sync doc k q h) (drop c.position-position.result (changed_in c.args.store.now)) c.args.cluster.now c.judge_changes.new.cluster since is beneath

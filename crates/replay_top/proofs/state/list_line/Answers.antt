@@ -30,5 +30,5 @@ returns-clause-reads_back c =
     let short : depth (view c.in_ok-list.list) ≤ max_depth = subst (λ d. depth d ≤ max_depth) (sym value) (omega (arith, plain.deep)) in
     record {
       text = ap read (sym text) ∙ c.in_ok-to_string.ensures.reads_back short ∙ ap Some value;
-      list = λ readable path. ap (list_walk names known path) (sym value) ∙ c.in_ok-list.ensures.reads_back readable path;
+      list = λ scale readable path. ap (list_walk scale names known path) (sym value) ∙ c.in_ok-list.ensures.reads_back scale readable path;
     }

@@ -73,6 +73,6 @@ returns-clause-reads_back g c =
     ok-then c.list_line.result
     (λ (r : IsReadAgain d.names (numbers_of d.controllers) (stored_after (history doc (last + 1)))). record {
       text = r.text;
-      list = λ few path. r.list (state-readable d.names doc (last + 1) are c.requires.lawful c.requires.named (omega (arith, c.requires.within)) few) path;
+      list = λ scale few path. r.list scale (state-readable d.names doc (last + 1) are c.requires.lawful c.requires.named (omega (arith, c.requires.within)) scale few) path;
     })
     again

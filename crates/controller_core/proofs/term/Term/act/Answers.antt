@@ -10,15 +10,17 @@ use Rattle.controller_core.specs.QueuesStand.{QueuesStand}
 use Rattle.tick_laws.specs.Judged.{waits_since}
 use Rattle.tick_laws.specs.Rows.{no_heads}
 use Rattle.tick_laws.proofs.Phases.{cleaned_heads, cleaned_limits, evicted_limits, evicted_since, pass_heads, tainted_passed}
-use Rattle.tick_laws.proofs.Ticked.{cleaned_ticked, pass_ticked, tainted_ticked, ticked_before}
+use Rattle.tick_laws.proofs.Ticked.{cleaned_ticked, evicted_ticked, pass_ticked, tainted_ticked, ticked_before}
 use Rattle.tick_laws.proofs.Waiting.{fresh_settled}
 use Rattle.controller_core.proofs.Between.{cleaned_says, evicted_says, last_stands, limits_stand, tainted_says}
+use Rattle.controller_core.proofs.FirstSync.{settles_ticked}
 use Rattle.controller_core.proofs.term.Term.act.Goals as goal
 
 pub returns : goal.returns
 returns g c doc k q before h b v small =
     let view = c.args.view.now in
     let own = b.settings.own in
+    let settles = c.args.self.now.settles in
     let h1 = pass doc k q h in
     let h2 = cleaned doc k q h1 in
     let h3 = tainted doc k q h2 in
@@ -45,6 +47,9 @@ returns g c doc k q before h b v small =
         queues = λ place n. four.0.queues place n ∙ sym (evicted_since doc own k q h3 four.0.fresh place n).0;
         last = last_stands doc q h1 (evicted doc k q h3) c.pass.new.last ((evicted_limits doc own k q h3).passed ∙ tainted_passed doc own k q h2 ∙ (cleaned_limits doc own k q h1).passed) one.3;
         range = c.in_ok-pass.ensures.range b.range;
+        settles = settles_ticked doc q k h3 (evicted doc k q h3) settles (evicted_ticked doc k q h3)
+            (settles_ticked doc q k h2 h3 settles (tainted_ticked doc k q h2)
+            (settles_ticked doc q k h1 h2 settles (cleaned_ticked doc k q h1) (settles_ticked doc q k h h1 settles (pass_ticked doc k q h) b.settles)));
         settings = b.settings;
       },
       omega (arith, one.4, two.1, four.1, five.1),

@@ -23,14 +23,15 @@ use Rattle.tick_laws.proofs.Waiting.{no_heads_start}
 use Rattle.controller_core.specs.declared.term.Term.{Term}
 use Rattle.controller_core.specs.TermStands.{Went, acted}
 use Rattle.controller_core.proofs.Between.{last_stands, limits_stand, sync_says, told_synced, unsynced_none}
+use Rattle.controller_core.proofs.FirstSync.{settles_ticked}
 use Rattle.controller_core.proofs.term.Term.begin.Goals as goal
 
 went_same : (doc : Doc) (k : ℕ) (q : Identity) (before : List Deed) (h g : List Entry) (t : Term) (s : Store) (o : Told) → g ≡ h → Went doc k q before h t s o → Went doc k q before g t s o
 went_same doc k q before h g t s o is w = subst (λ f. Went doc k q before f t s o) (sym is) w
 
 pub returns-then-not-is_synced : goal.returns-then-not-is_synced
-returns-then-not-is_synced g c doc k q before h s st told v start small =
-    let one = c.in_ok-sync.ensures.stands doc k q h s.settings.own s.cluster st s.reached v in
+returns-then-not-is_synced g c doc k q before h s st told v led start small =
+    let one = c.in_ok-sync.ensures.stands doc k q h (s.settles led) s.cluster st s.reached v in
     let unsynced : is_synced q (sync doc k q h) ≡ false = sym (c.is_synced.ensures q (sync doc k q h) one.0) ∙ c.if-not-is_synced.true in
     let same = unsynced_none doc k q h unsynced in
     let whole : tick doc k q h ≡ sync doc k q h = ap (λ b. (if b then phases doc k q (sync doc k q h) else (sync doc k q h))) unsynced in (
@@ -44,6 +45,7 @@ returns-then-not-is_synced g c doc k q before h s st told v start small =
               queues = s.queues;
               last = s.last;
               range = s.range;
+              settles = s.settles;
               settings = s.settings;
             };
             store = st;
@@ -53,9 +55,9 @@ returns-then-not-is_synced g c doc k q before h s st told v start small =
     )
 
 pub returns : goal.returns
-returns g c doc k q before h s st told v start small =
+returns g c doc k q before h s st told v led start small =
     let f = sync doc k q h in
-    let one = c.in_ok-sync.ensures.stands doc k q h s.settings.own s.cluster st s.reached v in
+    let one = c.in_ok-sync.ensures.stands doc k q h (s.settles led) s.cluster st s.reached v in
     let synced : is_synced q f ≡ true = sym (c.is_synced.ensures q f one.0) ∙ c.if-not-is_synced.false in
     let beneath : before_tick q k f ≡ before_tick q k h = ticked_before q k h f (sync_ticked doc k q h) in
     let moved : IsMoved q k h c.args.self.now.cluster = λ n out place. ap (waits q place n) (sym start) in
@@ -71,6 +73,7 @@ returns g c doc k q before h s st told v start small =
           queues = two.0.queues;
           last = two.0.last;
           range = two.0.range;
+          settles = two.0.settles;
           settings = two.0.settings;
         };
         store = two.0.running.store;
@@ -81,7 +84,7 @@ returns g c doc k q before h s st told v start small =
     (c.act.ensures doc k q before f (record {
       running = record {
         cluster = one.0;
-        moved = c.in_ok-sync.ensures.moved doc k q h s.settings.own s.cluster st s.reached v moved beneath;
+        moved = c.in_ok-sync.ensures.moved doc k q h (s.settles led) s.cluster st s.reached v moved beneath;
         store = c.in_ok-sync.ensures.store doc k q h st;
         told = told_synced doc k q before h c.args.told.now told;
         synced = synced;
@@ -92,5 +95,6 @@ returns g c doc k q before h s st told v start small =
       heads = sync_heads doc s.settings.own k q h (no_heads_start q k h start);
       last = last_stands doc q h f c.args.self.now.last (sync_limits doc s.settings.own k q h).passed s.last;
       range = s.range;
+      settles = settles_ticked doc q k h f c.args.self.now.settles (sync_ticked doc k q h) s.settles;
       settings = s.settings;
     }) (view_ticked doc k q h f c.args.view.now (sync_ticked doc k q h) v) small)

@@ -1,13 +1,14 @@
 use Rattle.std.proofs.Common.{◌≡◌, ◌∙◌, IfSome, ap, sym, subst, option_map}
 use Rattle.kube_objects.specs.Clocks.{local}
 use Rattle.kube_objects.specs.Tokens.{base}
+use Rattle.history_laws.proofs.Plainly.{false_is}
 use Rattle.taint_zones.specs.Limits.{rated_of}
 use Rattle.taint_zones.specs.Places.{of_place}
 use Rattle.controller_core.proofs.Starting.{no_pass, no_rate, no_since, none_reached}
 use Rattle.controller_core.proofs.term.Term.new.Goals as goal
 
 pub returns : goal.returns
-returns c doc q h none s = record {
+returns c doc q h none unled s = record {
   cluster = c.new.ensures.stands q h none;
   reached = none_reached q h none;
   health = c.new-2.ensures.stands doc q h (no_pass q h none);
@@ -19,5 +20,6 @@ returns c doc q h none s = record {
   queues = λ place n. c.new-3.ensures.queues (of_place place) n ∙ sym (no_since q place n h none);
   last = sym (ap (option_map (local doc q.process)) (no_pass q h none));
   range = tt;
+  settles = λ led. absurd (false_is (sym unled ∙ led));
   settings = s;
 }

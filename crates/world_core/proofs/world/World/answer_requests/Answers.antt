@@ -5,6 +5,7 @@ use Rattle.history.specs.Printed.{answer_act, deeds_of}
 use Rattle.wire_calls.specs.InFlight.{rest_of}
 use Rattle.world_core.specs.Worlds.{EachStands}
 use Rattle.world_core.proofs.Loops.{answering-more, answering-done, rewired}
+use Rattle.world_core.proofs.MidBeat.{unmoved}
 use Rattle.world_core.proofs.world.World.answer_requests.Goals as goal
 
 pub arriving-preserved : goal.arriving-preserved
@@ -13,7 +14,7 @@ arriving-preserved c =
     record {
       kept = record {
         ready = record { end = kept.ready.end; restart = kept.ready.restart; epoch = kept.ready.epoch; micros = kept.ready.micros; events = kept.ready.events; few = kept.ready.few; clocks = kept.ready.clocks; controllers = kept.ready.controllers; kept = kept.ready.kept; noted = kept.ready.noted };
-        same = record { beat = kept.same.beat; end = kept.same.end; restart = kept.same.restart; epoch = kept.same.epoch; micros = kept.same.micros; events = kept.same.events; names = kept.same.names; controllers = kept.same.controllers };
+        same = record { beat = kept.same.beat; end = kept.same.end; restart = kept.same.restart; epoch = kept.same.epoch; micros = kept.same.micros; events = kept.same.events; names = kept.same.names; controllers = kept.same.controllers; stalls = kept.same.stalls };
         place = kept.place;
         count = kept.count;
       };
@@ -22,7 +23,7 @@ arriving-preserved c =
           let rest = a.running.world.rest in
           let at = rest.document.at in
           let first = c.arrival.ensures.answer (processes doc) k a.left coming a.now rest.wire at in
-          answering-more doc k before c.arriving.deeds c.tell.new.deeds arriving coming h c.arriving.self _ c.in_ok-reply.reply c.in-Some.arrived a (sym first ∙ c.in-Some.is) (record { same = (record { beat = refl; end = refl; restart = refl; epoch = refl; micros = refl; events = refl; names = refl; controllers = refl }); processes = refl }) refl
+          answering-more doc k before c.arriving.deeds c.tell.new.deeds arriving coming h c.arriving.self _ c.in_ok-reply.reply c.in-Some.arrived a (sym first ∙ c.in-Some.is) unmoved refl
           (record {
             answers = c.in_ok-reply.ensures.answer a.now rest.store;
             store = λ e is. c.in_ok-reply.ensures.ok a.now e rest.store is;
@@ -41,4 +42,4 @@ returns-clause-stands c doc k before arriving coming h r known =
     let at = rest.document.at in
     let first = c.arrival.ensures.answer (processes doc) k a.left coming a.now rest.wire at in
     answering-done doc k before c.arriving.deeds arriving coming h c.arriving.self _ a (sym first ∙ c.in_default.is)
-    (λ run. rewired doc k before c.arriving.deeds a.left (rest_of a.left) coming coming a.now c.arriving.self _ (record { same = (record { beat = refl; end = refl; restart = refl; epoch = refl; micros = refl; events = refl; names = refl; controllers = refl }); processes = refl }) refl refl (c.arrival.ensures.stands (processes doc) k a.left coming a.now rest.wire at) run)
+    (λ run. rewired doc k before c.arriving.deeds a.left (rest_of a.left) coming coming a.now c.arriving.self _ unmoved refl refl (c.arrival.ensures.stands (processes doc) k a.left coming a.now rest.wire at) run)

@@ -8,14 +8,14 @@ use Rattle.world_process.proofs.Processes.{process-me}
 use Rattle.world_core.proofs.Moving.{read-at, within-processes, actor-is, on-ok, room-for, sends-as}
 use Rattle.world_core.proofs.Noting.{kept-after, replied-kept}
 use Rattle.world_core.proofs.Turns.{same-twice}
-use Rattle.world_core.proofs.MidBeat.{keeps-moved, running-replied}
+use Rattle.world_core.proofs.MidBeat.{keeps-moved, running-replied, one_process_moved}
 use Rattle.world_core.proofs.world.World.deliver.Goals as goal
 
 pub note-requires : goal.note-requires
 note-requires c =
     let i = c.args.back.now.who.0 in
     let index : i < vec_len c.args.self.now.processes = omega (arith, c.if-i-len.false, c.len.ensures) in
-    room-for c.args.self.now i c.requires.ready index
+    room-for c.args.self.now i c.requires.running.ready index
 
 pub returns-clause-kept : goal.returns-clause-kept
 returns-clause-kept c =
@@ -23,7 +23,7 @@ returns-clause-kept c =
     let index : i < vec_len c.args.self.now.processes = omega (arith, c.if-i-len.false, c.len.ensures) in
     let w = c.args.self.now in
     let was = read-at w i c.index_mut-process.result.now index c.index_mut-process.ensures.value in
-    on-ok c.send_asked.result _ _ (λ sent. keeps-moved i c.index_mut-process.result.now c.note.new.process w _ c.requires.ready (record { was = was; now = refl; same = (record { beat = refl; end = refl; restart = refl; epoch = refl; micros = refl; events = refl; names = refl; controllers = refl }); place = refl; store = refl; in_force = refl }) refl (same-twice c.index_mut-process.result.now c.receive-received.new.self c.note.new.process c.receive-received.ensures.same c.note.ensures.same) (kept-after c.index_mut-process.result.now c.receive-received.new.self c.note.new.process (c.requires.ready.kept i c.index_mut-process.result.now was) c.receive-received.ensures.same c.receive-received.ensures.waking c.note.ensures.kept) (record { room = c.note.ensures.room; leaves = c.note.ensures.leaves })) c.send_asked.ensures.sends
+    on-ok c.send_asked.result _ _ (λ sent. keeps-moved i c.index_mut-process.result.now c.note.new.process w _ c.requires.running.ready (one_process_moved was refl) refl (same-twice c.index_mut-process.result.now c.receive-received.new.self c.note.new.process c.receive-received.ensures.same c.note.ensures.same) (kept-after c.index_mut-process.result.now c.receive-received.new.self c.note.new.process (c.requires.running.ready.kept i c.index_mut-process.result.now was) c.receive-received.ensures.same c.receive-received.ensures.waking c.note.ensures.kept) (record { room = c.note.ensures.room; leaves = c.note.ensures.leaves })) c.send_asked.ensures.sends
 
 pub returns-clause-stands : goal.returns-clause-stands
 returns-clause-stands c doc k before arriving coming h b r is known few =
@@ -46,5 +46,5 @@ returns-clause-stands c doc k before arriving coming h b r is known few =
     let who = actor-is i c1 c.actor-actor.result c.actor-actor.ensures me in
     let told = c.in_ok-tell.ensures ∙ ap (λ a. c.args.deeds.now ++ deeds_of w.beat.0 c.actor-actor.result a) c.lead_act.ensures ∙ ap (λ n. c.args.deeds.now ++ deeds_of n c.actor-actor.result done) at ∙ ap (λ x. c.args.deeds.now ++ deeds_of k x done) who in
     on-ok c.send_asked.result _ _ (λ sent.
-    let sends = sends-as k w.beat.0 i c.incarnation-incarnation.result c.me-who.result c1 c.receive-received.result.ask w.wire c.send_asked.new.wire at c.me-who.ensures c.incarnation-incarnation.ensures me sent in
-    running-replied doc k i before c.args.deeds.now c.tell.new.deeds arriving coming b h c0 c1 w _ c.receive-received.result r process within known (record { was = was; now = refl; same = (record { beat = refl; end = refl; restart = refl; epoch = refl; micros = refl; events = refl; names = refl; controllers = refl }); place = refl; store = refl; in_force = refl }) sends replied told) c.send_asked.ensures.sends
+    let sends = sends-as k w.beat.0 i c.incarnation-incarnation.result c.me-who.result c1 c.receive-received.result.ask w.stalls w.wire c.send_asked.new.wire at c.me-who.ensures c.incarnation-incarnation.ensures me sent in
+    running-replied doc k i before c.args.deeds.now c.tell.new.deeds arriving coming b h c0 c1 w _ c.receive-received.result r process within known (one_process_moved was refl) sends replied told) c.send_asked.ensures.sends

@@ -7,6 +7,7 @@ use Rattle.wire_calls.proofs.Frames.{wire-beside}
 use Rattle.world_process.proofs.Forces.{in_force-beside}
 use Rattle.world_core.specs.Worlds.{Happens}
 use Rattle.world_core.proofs.Scripts.{running-event, running-plain}
+use Rattle.world_core.proofs.MidBeat.{unmoved}
 use Rattle.world_core.proofs.world.World.happen.Goals as goal
 
 pub returns-in-Rate-clause-stands : goal.returns-in-Rate-clause-stands
@@ -20,7 +21,7 @@ returns-in-Delay-clause-stands c =
     let w = c.args.self.now in
     let ds = c.args.deeds.now in
     subst (λ x. Happens w ds (record w { wire = c.set_delay.new.self }) ds x) (sym c.in-Delay.is) (λ doc k before arriving coming h r lawful few.
-    running-event doc k before ds ds arriving coming h w _ (what.Delay c.in-Delay.who c.in-Delay.requests c.in-Delay.replies) None r (λ p. refl) (record { same = (record { beat = refl; end = refl; restart = refl; epoch = refl; micros = refl; events = refl; names = refl; controllers = refl }); processes = refl })
+    running-event doc k before ds ds arriving coming h w _ (what.Delay c.in-Delay.who c.in-Delay.requests c.in-Delay.replies) None r (λ p. refl) unmoved
     (in_force-beside doc _ h w.in_force refl r.world.rest.in_force) (store-beside h _ w.store r.world.rest.store refl) (c.set_delay.ensures (processes doc) k 1 k arriving coming h None r.world.rest.wire lawful.0) (sym (append-nil ds)))
 
 pub returns-in-Loss-clause-stands : goal.returns-in-Loss-clause-stands
@@ -28,7 +29,7 @@ returns-in-Loss-clause-stands c =
     let w = c.args.self.now in
     let ds = c.args.deeds.now in
     subst (λ x. Happens w ds (record w { wire = c.set_loss.new.self }) ds x) (sym c.in-Loss.is) (λ doc k before arriving coming h r lawful few.
-    running-event doc k before ds ds arriving coming h w _ (what.Loss c.in-Loss.who c.in-Loss.requests c.in-Loss.replies) None r (λ p. refl) (record { same = (record { beat = refl; end = refl; restart = refl; epoch = refl; micros = refl; events = refl; names = refl; controllers = refl }); processes = refl })
+    running-event doc k before ds ds arriving coming h w _ (what.Loss c.in-Loss.who c.in-Loss.requests c.in-Loss.replies) None r (λ p. refl) unmoved
     (in_force-beside doc _ h w.in_force refl r.world.rest.in_force) (store-beside h _ w.store r.world.rest.store refl) (c.set_loss.ensures (processes doc) k 1 k arriving coming h None r.world.rest.wire lawful) (sym (append-nil ds)))
 
 pub returns-in-Watch-clause-stands : goal.returns-in-Watch-clause-stands
@@ -36,7 +37,7 @@ returns-in-Watch-clause-stands c =
     let w = c.args.self.now in
     let ds = c.args.deeds.now in
     subst (λ x. Happens w ds (record w { in_force = c.set_watch.new.self }) ds x) (sym c.in-Watch.is) (λ doc k before arriving coming h r lawful few.
-    running-event doc k before ds ds arriving coming h w _ (what.Watch c.in-Watch.who c.in-Watch.on) None r (λ p. refl) (record { same = (record { beat = refl; end = refl; restart = refl; epoch = refl; micros = refl; events = refl; names = refl; controllers = refl }); processes = refl })
+    running-event doc k before ds ds arriving coming h w _ (what.Watch c.in-Watch.who c.in-Watch.on) None r (λ p. refl) unmoved
     (c.set_watch.ensures doc k h r.world.rest.in_force) (store-beside h _ w.store r.world.rest.store refl) (wire-beside (processes doc) k arriving coming h _ w.wire refl r.world.rest.wire) (sym (append-nil ds)))
 
 pub returns-in-Ready-clause-stands : goal.returns-in-Ready-clause-stands
@@ -44,7 +45,7 @@ returns-in-Ready-clause-stands c =
     let w = c.args.self.now in
     let ds = c.args.deeds.now in
     subst (λ x. Happens w ds (record w { in_force = c.set_status.new.self }) ds x) (sym c.in-Ready.is) (λ doc k before arriving coming h r lawful few.
-    running-event doc k before ds ds arriving coming h w _ (what.Ready c.in-Ready.who c.in-Ready.status) None r (λ p. refl) (record { same = (record { beat = refl; end = refl; restart = refl; epoch = refl; micros = refl; events = refl; names = refl; controllers = refl }); processes = refl })
+    running-event doc k before ds ds arriving coming h w _ (what.Ready c.in-Ready.who c.in-Ready.status) None r (λ p. refl) unmoved
     (c.set_status.ensures doc k h r.world.rest.in_force) (store-beside h _ w.store r.world.rest.store refl) (wire-beside (processes doc) k arriving coming h _ w.wire refl r.world.rest.wire) (sym (append-nil ds)))
 
 pub returns-in-Pause-clause-stands : goal.returns-in-Pause-clause-stands

@@ -1,10 +1,10 @@
-use Rattle.std.proofs.Common.{◌≡◌, ◌+◌, ◌<◌, ◌≤◌, Some, None, length, vec_len, refl, sym, ap, subst, arith, add-one}
+use Rattle.std.proofs.Common.{◌≡◌, ◌+◌, ◌<◌, ◌≤◌, Some, None, length, vec_len, sym, ap, subst, arith, add-one}
 use Rattle.kube_base.specs.declared.numbers.Beat.{Beat}
 use Rattle.kube_objects.specs.Document.{processes}
 use Rattle.history.specs.Steps.{turns}
 use Rattle.beat_tree.specs.Leaves.{IsFirst}
 use Rattle.world_core.specs.Worlds.{MidBeat}
-use Rattle.world_core.proofs.Loops.{keeps-on, few-own, few-turns}
+use Rattle.world_core.proofs.Loops.{keeps-on, few-own, few-turns, keeps-same}
 use Rattle.world_core.proofs.Moving.{within-processes}
 use Rattle.world_core.proofs.Passing.{has-process, kubelet-turn, passed-to}
 use Rattle.world_core.proofs.world.World.kubelet_turns.Goals as goal
@@ -13,9 +13,9 @@ pub kubelets-init : goal.kubelets-init
 kubelets-init c =
     let w = c.args.self.now in
     record {
-      kept = record { ready = c.requires.ready; same = (record { beat = refl; end = refl; restart = refl; epoch = refl; micros = refl; events = refl; names = refl; controllers = refl }); place = refl; count = refl };
+      kept = keeps-same w c.requires.running.ready;
       least = omega arith;
-      most = c.requires.ready.controllers;
+      most = c.requires.running.ready.controllers;
       stands = λ doc k before arriving coming h r few. subst (λ n. MidBeat doc k before arriving coming (turns doc k n h) w c.args.deeds.now) (sym r.world.rest.document.controllers) r;
     }
 
@@ -51,7 +51,7 @@ kubelets-preserved c =
           let d = done.world.rest.document in
           let inside = within-processes doc k u i d index in
           let more : length doc.controllers ≤ next = omega (arith, inv.least, d.controllers, inv.kept.same.controllers) in
-          let to = passed-to doc k next i before arriving coming h u c.kubelets.deeds after inv.kept.ready (omega (arith, c.requires.within, beat, end)) (omega (arith, beat)) done from (omega (arith, inside)) more (λ p up less. first.passed p up less) in
+          let to = passed-to doc k next i before arriving coming h u c.kubelets.deeds after inv.kept.ready (omega (arith, c.requires.running.within, beat, end)) (omega (arith, beat)) done from (omega (arith, inside)) more (λ p up less. first.passed p up less) in
           let here = subst (λ g. MidBeat doc k before arriving coming g u c.kubelets.deeds) (sym to) done in
           let few_turn = few-turns doc k i (processes doc) h inside few in
           let taken = c.in_ok-take_turn.ensures.stands doc k before arriving coming (turns doc k i h) here (few-own doc k i (turns doc k i h) few_turn) in
@@ -73,5 +73,5 @@ returns-clause-stands c doc k before arriving coming h r few =
     let d = done.world.rest.document in
     let more : length doc.controllers ≤ next = omega (arith, inv.least, d.controllers, inv.kept.same.controllers) in
     let last : next ≤ processes doc = (let most = inv.most in let count = d.count in let len = u.processes.ok.0 in let as_many = inv.kept.count in omega (arith, most, count, len, as_many)) in
-    let to = passed-to doc k next (processes doc) before arriving coming h u c.kubelets.deeds after inv.kept.ready (omega (arith, c.requires.within, beat, end)) (omega (arith, beat)) done last (omega arith) more (λ p up less. first.passed p up tt) in
+    let to = passed-to doc k next (processes doc) before arriving coming h u c.kubelets.deeds after inv.kept.ready (omega (arith, c.requires.running.within, beat, end)) (omega (arith, beat)) done last (omega arith) more (λ p up less. first.passed p up tt) in
     subst (λ g. MidBeat doc k before arriving coming g u c.kubelets.deeds) (sym to) done

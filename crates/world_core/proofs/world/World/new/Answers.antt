@@ -8,9 +8,10 @@ use Rattle.beat_laws.proofs.Unticked.{first_unticked}
 use Rattle.script_reader.specs.Documents.{doc_of}
 use Rattle.script_reader.specs.Lawful.{AreLawfulFrom}
 use Rattle.script_reader.proofs.OwnDocuments.{own-document}
+use Rattle.pause_times.specs.Owned.{StallsStand, AreStallsFit, stalls_of}
 use Rattle.wire_calls.specs.WireStands.{WireStands}
 use Rattle.world_core.specs.Worlds.{AreNoted}
-use Rattle.world_core.proofs.Ranges.{end-most, all-fit}
+use Rattle.world_core.proofs.Ranges.{end-most, all-fit, stalls-fit}
 use Rattle.world_core.proofs.Puts.{put-plain, put-wire, put-each, put-in_force, put-requests, put-replies}
 use Rattle.world_core.proofs.world.World.new.Goals as goal
 
@@ -19,6 +20,11 @@ processes_of-requires-clause-events c = let doc = doc_of c.args.document in (doc
 
 pub processes_of-requires-clause-apart : goal.processes_of-requires-clause-apart
 processes_of-requires-clause-apart c = subst AreApart (sym c.as_slice.ensures) c.requires.lawful.apart
+
+pub of-requires : goal.of-requires
+of-requires c =
+    let most = end-most c.args.document.settings.end_beat.0 c.args.document.settings.beat_millis c.requires.lawful.settings.beat_least c.requires.lawful.settings.end in
+    subst AreStallsFit (sym c.as_slice-3.ensures) (stalls-fit (doc_of c.args.document) 0 c.args.document.events most c.requires.lawful.events)
 
 pub returns-clause-ready : goal.returns-clause-ready
 returns-clause-ready c =
@@ -44,7 +50,7 @@ pub returns-clause-stands : goal.returns-clause-stands
 returns-clause-stands c = record {
   within = record {
     rest = record {
-      document = record { at = refl; restart = c.picoseconds.ensures.value; count = count; epoch = refl; micros = refl; events = refl; controllers = ap (λ xs. length xs) c.as_slice-controllers.ensures; own = own };
+      document = record { at = refl; restart = c.picoseconds.ensures.value; count = count; epoch = refl; micros = refl; events = refl; controllers = ap (λ xs. length xs) c.as_slice-controllers.ensures; stalls = stalls; own = own };
       plain = put-plain doc (processes doc) doc.objects [] (record { fresh = λ p i less. tt; all = tt });
       store = c.in_ok-store.ensures doc refl;
       wire = subst (λ ss. WireStands (processes doc) 0 ss (replies_due 0 (history doc 0)) (history doc 0) c.in_ok-wire.wire) (sym (put-requests doc 0 doc.objects []))
@@ -63,6 +69,9 @@ returns-clause-stands c = record {
 
     own : IsOwn doc
     own = own-document doc c.requires.lawful
+
+    stalls : StallsStand doc c.in_ok-stalls.stalls
+    stalls = record { all = c.in_ok-stalls.ensures ∙ ap stalls_of c.as_slice-3.ensures; apart = c.requires.lawful.apart }
 
     count : length c.in_ok-processes.processes.items ≡ processes doc
     count = c.in_ok-processes.ensures.count ∙ sym (length-append doc.controllers doc.kubelets)

@@ -14,6 +14,7 @@ use Rattle.wire_calls.proofs.Frames.{wire-beside}
 use Rattle.world_process.proofs.Forces.{in_force-beside}
 use Rattle.world_core.proofs.Moving.{on-ok}
 use Rattle.world_core.proofs.Scripts.{running-event}
+use Rattle.world_core.proofs.MidBeat.{unmoved}
 use Rattle.world_core.proofs.world.World.put.Goals as goal
 
 pub returns-clause-stands : goal.returns-clause-stands
@@ -29,5 +30,5 @@ returns-clause-stands c =
     let as_write : ℕ → Write = λ n. (key, Some (stamped (whole_second n) object)) in
     let answer : c.in_ok-version.version ≡ next_version h = c.in_ok-version.ensures.answer h r.world.rest.store in
     let new_is = told ∙ ap (λ n. c.args.deeds.now ++ deeds_of n actor.Script (Some (act.Put key c.in_ok-version.version))) d.at ∙ ap (λ (v : Version). c.args.deeds.now ++ deeds_of k actor.Script (Some (act.Put key v))) answer in
-    running-event doc k before c.args.deeds.now c.tell.new.deeds arriving coming h w _ event (Some (next_version h)) r (λ p. refl) (record { same = (record { beat = refl; end = refl; restart = refl; epoch = refl; micros = refl; events = refl; names = refl; controllers = refl }); processes = refl })
+    running-event doc k before c.args.deeds.now c.tell.new.deeds arriving coming h w _ event (Some (next_version h)) r (λ p. refl) unmoved
     (in_force-beside doc e h w.in_force refl r.world.rest.in_force) (c.in_ok-version.ensures.ok h e r.world.rest.store (ap (λ n. Some (as_write n)) (sym wall))) (wire-beside (processes doc) k arriving coming h e w.wire refl r.world.rest.wire) new_is) c.tell.ensures

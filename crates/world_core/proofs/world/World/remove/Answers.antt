@@ -12,6 +12,7 @@ use Rattle.wire_calls.proofs.Frames.{wire-beside}
 use Rattle.world_process.proofs.Forces.{in_force-beside}
 use Rattle.world_core.proofs.Moving.{on-ok}
 use Rattle.world_core.proofs.Scripts.{running-event}
+use Rattle.world_core.proofs.MidBeat.{unmoved}
 use Rattle.world_core.proofs.world.World.remove.Goals as goal
 
 pub returns-clause-stands : goal.returns-clause-stands
@@ -26,5 +27,5 @@ returns-clause-stands c =
     let answer : c.in_ok-version.version ≡ version = c.in_ok-version.ensures.answer h r.world.rest.store in
     let new_is = told ∙ ap (λ a. c.args.deeds.now ++ deeds_of w.beat.0 actor.Script a) c.remove_act.ensures ∙ ap (λ n. c.args.deeds.now ++ deeds_of n actor.Script (event_act event c.in_ok-version.version)) r.world.rest.document.at
     ∙ ap (λ (v : Option Version). c.args.deeds.now ++ deeds_of k actor.Script (event_act event v)) answer in
-    running-event doc k before c.args.deeds.now c.tell.new.deeds arriving coming h w _ event version r (λ p. refl) (record { same = (record { beat = refl; end = refl; restart = refl; epoch = refl; micros = refl; events = refl; names = refl; controllers = refl }); processes = refl })
+    running-event doc k before c.args.deeds.now c.tell.new.deeds arriving coming h w _ event version r (λ p. refl) unmoved
     (in_force-beside doc e h w.in_force refl r.world.rest.in_force) (c.in_ok-version.ensures.ok h e r.world.rest.store (ap (λ (v : Option Version). when (has v) write) (sym answer))) (wire-beside (processes doc) k arriving coming h e w.wire refl r.world.rest.wire) new_is) c.tell.ensures

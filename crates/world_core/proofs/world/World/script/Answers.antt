@@ -5,10 +5,11 @@ use Rattle.world_process.specs.Plain.{IsFew}
 use Rattle.world_core.specs.Worlds.{MidBeat}
 use Rattle.world_core.proofs.Happening.{event-at, happening-first, happening-more, happening-before, happening-done}
 use Rattle.world_core.proofs.Loops.{same-on, rewired}
+use Rattle.world_core.proofs.MidBeat.{same_document, unmoved}
 use Rattle.world_core.proofs.world.World.script.Goals as goal
 
 pub script-init : goal.script-init
-script-init c = record { ready = c.requires.ready; same = (record { beat = refl; end = refl; restart = refl; epoch = refl; micros = refl; events = refl; names = refl; controllers = refl }); stands = λ doc k before arriving coming h r placed few. happening-first doc k before c.args.deeds.now arriving coming h c.args.self.now r placed }
+script-init c = record { ready = c.requires.running.ready; same = same_document; stands = λ doc k before arriving coming h r placed few. happening-first doc k before c.args.deeds.now arriving coming h c.args.self.now r placed }
 
 pub returns-then-event-self-clause-stands : goal.returns-then-event-self-clause-stands
 returns-then-event-self-clause-stands c doc k before arriving coming h r placed few =
@@ -23,7 +24,7 @@ script-preserved c =
     let next = c.in_ok-happen.ensures.kept in
     record {
       ready = next.ready;
-      same = same-on c.args.self.now c.script.self c.happen.new.self c.script.invariant.same (record { beat = next.same.beat; end = next.same.end; restart = next.same.restart; epoch = next.same.epoch; micros = next.same.micros; events = next.same.events; names = next.same.names; controllers = next.same.controllers });
+      same = same-on c.args.self.now c.script.self c.happen.new.self c.script.invariant.same (record { beat = next.same.beat; end = next.same.end; restart = next.same.restart; epoch = next.same.epoch; micros = next.same.micros; events = next.same.events; names = next.same.names; controllers = next.same.controllers; stalls = next.same.stalls });
       stands = λ doc k before arriving coming h r placed few.
           let a = c.script.invariant.stands doc k before arriving coming h r placed few in
           let e = c.index-as_slice-self.result in
@@ -32,7 +33,7 @@ script-preserved c =
           happening-more doc k before c.script.deeds c.happen.new.deeds arriving coming h c.script.self c.happen.new.self e a here (c.if-event-self.false ∙ a.running.world.rest.document.at) next.place few
           (λ lawful few_next.
           subst (λ x. MidBeat doc k before arriving coming (happens doc k x a.now) c.happen.new.self c.happen.new.deeds) copied
-          (c.in_ok-happen.ensures.stands doc k before arriving coming a.now (rewired doc k before c.script.deeds arriving arriving coming coming a.now c.script.self _ (record { same = (record { beat = refl; end = refl; restart = refl; epoch = refl; micros = refl; events = refl; names = refl; controllers = refl }); processes = refl }) refl refl a.running.world.rest.wire a.running)
+          (c.in_ok-happen.ensures.stands doc k before arriving coming a.now (rewired doc k before c.script.deeds arriving arriving coming coming a.now c.script.self _ unmoved refl refl a.running.world.rest.wire a.running)
           (subst (IsLawfulWhat doc) (sym copied) lawful) (subst (λ x. IsFew (happens doc k x a.now)) (sym copied) few_next)));
     }
 

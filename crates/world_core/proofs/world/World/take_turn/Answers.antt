@@ -10,12 +10,12 @@ use Rattle.world_process.specs.Processes.{me_of}
 use Rattle.world_process.proofs.Processes.{process-me}
 use Rattle.world_core.proofs.Moving.{read-at, within-processes, actor-is, on-ok, sends-as, room-for}
 use Rattle.world_core.proofs.Noting.{kept-after}
-use Rattle.world_core.proofs.MidBeat.{keeps-moved, running-turned}
+use Rattle.world_core.proofs.MidBeat.{keeps-moved, running-turned, one_process_moved}
 use Rattle.world_core.proofs.Turns.{awake-is, running-awake, running-paused, same-twice, turned-kept}
 use Rattle.world_core.proofs.world.World.take_turn.Goals as goal
 
 pub note-requires : goal.note-requires
-note-requires c = room-for c.args.self.now c.args.i c.requires.ready c.requires.index
+note-requires c = room-for c.args.self.now c.args.i c.requires.running.ready c.requires.index
 
 pub returns-clause-kept : goal.returns-clause-kept
 returns-clause-kept c =
@@ -24,7 +24,7 @@ returns-clause-kept c =
     let y = c.turn-turn.new.self in
     let z = c.note.new.process in
     let was = read-at w c.args.i x c.requires.index c.index_mut-process.ensures.value in
-    on-ok c.send_asked.result _ _ (λ sent. keeps-moved c.args.i x z w _ c.requires.ready (record { was = was; now = refl; same = (record { beat = refl; end = refl; restart = refl; epoch = refl; micros = refl; events = refl; names = refl; controllers = refl }); place = refl; store = refl; in_force = refl }) refl (same-twice x y z c.turn-turn.ensures.same c.note.ensures.same) (kept-after x y z (c.requires.ready.kept c.args.i x was) c.turn-turn.ensures.same c.turn-turn.ensures.waking c.note.ensures.kept) (record { room = c.note.ensures.room; leaves = c.note.ensures.leaves })) c.send_asked.ensures.sends
+    on-ok c.send_asked.result _ _ (λ sent. keeps-moved c.args.i x z w _ c.requires.running.ready (one_process_moved was refl) refl (same-twice x y z c.turn-turn.ensures.same c.note.ensures.same) (kept-after x y z (c.requires.running.ready.kept c.args.i x was) c.turn-turn.ensures.same c.turn-turn.ensures.waking c.note.ensures.kept) (record { room = c.note.ensures.room; leaves = c.note.ensures.leaves })) c.send_asked.ensures.sends
 
 pub returns-then-is_paused-clause-stands : goal.returns-then-is_paused-clause-stands
 returns-then-is_paused-clause-stands c doc k before arriving coming h r few =
@@ -63,5 +63,5 @@ returns-clause-stands c doc k before arriving coming h r few =
     ∙ ap (λ n. c.args.deeds.now ++ deeds_of n named (when t.started act.Start) ++ deeds_of n named (when t.ended act.End)) at
     ∙ ap (λ q. c.args.deeds.now ++ deeds_of k q (when t.started act.Start) ++ deeds_of k q (when t.ended act.End)) who in
     on-ok c.send_asked.result _ _ (λ sent.
-    let sends = sends-as k w.beat.0 i c.incarnation-incarnation.result c.me-who.result z t.ask w.wire c.send_asked.new.wire at c.me-who.ensures c.incarnation-incarnation.ensures me sent in
-    running-awake doc k i before c.tell-2.new.deeds arriving coming h _ awake (running-turned doc k i before c.args.deeds.now c.tell-2.new.deeds arriving coming h x z w _ t r within (record { was = was; now = refl; same = (record { beat = refl; end = refl; restart = refl; epoch = refl; micros = refl; events = refl; names = refl; controllers = refl }); place = refl; store = refl; in_force = refl }) sends turned told)) c.send_asked.ensures.sends
+    let sends = sends-as k w.beat.0 i c.incarnation-incarnation.result c.me-who.result z t.ask w.stalls w.wire c.send_asked.new.wire at c.me-who.ensures c.incarnation-incarnation.ensures me sent in
+    running-awake doc k i before c.tell-2.new.deeds arriving coming h _ awake (running-turned doc k i before c.args.deeds.now c.tell-2.new.deeds arriving coming h x z w _ t r within (one_process_moved was refl) sends turned told)) c.send_asked.ensures.sends

@@ -1,9 +1,10 @@
 use Rattle.std.proofs.Common.{◌≡◌, not, false, sym, ap, ◌∙◌, subst}
 use Rattle.kube_objects.specs.Identities.{identity}
+use Rattle.world_process.proofs.Timers.{leads-in}
 use Rattle.world_process.specs.OwnTerm.{IsUpAs}
 use Rattle.world_process.specs.Processes.{in_term_now, clock_of, incarnation_of}
 use Rattle.world_core.specs.Waits.{WakesStand, starts_now}
-use Rattle.world_core.proofs.Awake.{acting-stands, begun-is, down-is, idle-stands, its-clock, its-term, some-holds, starting-stands, starts-is}
+use Rattle.world_core.proofs.Awake.{acting-stands, begun-is, down-is, idle-stands, its-clock, its-term, some-holds, starting-stands, starts-is, term-reading}
 use Rattle.world_core.proofs.Moving.{read-at, within-end, within-processes}
 use Rattle.world_core.proofs.Ticking.{term-is}
 use Rattle.world_core.proofs.world.World.wakes.Goals.{else-self-eq0-via-then-self-eq0+else-is_up_first, else-self-eq0-via-else-self-eq0}
@@ -55,7 +56,9 @@ returns c doc k h s end =
     let acts = term-is doc k p i h up (sym (c.leadership.ensures.in_term doc k p h stands d.at) ∙ some) in
     let it : IsUpAs doc q h = record { sort = acts.sort; up = up } in
     let watch = c.watch-watch.ensures doc h s.within.rest.in_force (within-processes doc k w p d c.requires.process) in
+    let led = leads-in doc k q h acts.term in
+    let term = term-reading doc q h c.sync_wake.result c.term_wake.result c.sooner-term.result c.sooner-term.ensures (c.sync_wake.ensures doc q h stands s.within.rest.store watch it led) (c.term_wake.ensures doc q h stands it) in
     subst (WakesStand doc k p h) (sym c.with-2.ensures)
-    (acting-stands doc k p i h (clock_of x) c.wake-wake.result c.term_wake.result (record { at_once = c.at_once-2.result; local = c.sooner.result; wall = c.least_due.result }) (its-clock doc p h x stands) starts (its-term doc k p i h up acts)
+    (acting-stands doc k p i h (clock_of x) c.wake-wake.result c.sooner-term.result (record { at_once = c.at_once-2.result; local = c.sooner.result; wall = c.least_due.result }) (its-clock doc p h x stands) starts (its-term doc k p i h up acts)
     (c.wake-wake.ensures doc p h stands) (c.at_once-2.ensures doc q h stands s.within.rest.store watch it) c.sooner.ensures
-    (c.term_wake.ensures doc q h stands it) (λ now. c.least_due.ensures doc q h now stands it))
+    term (λ now. c.least_due.ensures doc q h now stands it))

@@ -1,6 +1,8 @@
 use Rattle.std.proofs.Common.{None, sym, ap, ◌∙◌, subst}
+use Rattle.std.specs.Box.{with_value}
 use Rattle.kube_objects.specs.Identities.{identity}
 use Rattle.kube_objects.specs.Turns.{with_reply}
+use Rattle.controller_core.specs.TermStands.{TermStands}
 use Rattle.leader_elector.specs.Stands.{AreWaitsOf, CandidateStands, LeadingStands}
 use Rattle.world_process.specs.declared.controller.Role.TheVariants as role
 use Rattle.world_process.specs.Controllers.{Replied}
@@ -49,8 +51,10 @@ returns-in-Wins-clause-stands c doc k p b h s at who number reply few =
     let was = role-at doc p h self (role.Candidate c.in-Candidate.candidate) s c.in-Candidate.is in
     let back = is-back b p c.args.incarnation self.incarnation c.args.number c.args.reply.now who c.if-incarnation-self.false number reply in
     let led = role.Leading c.lead.result in
-    subst (λ a. Replied doc k p b h (record self { role = led }) (record { lead = c.leads.result.lead; ask = a })) (sym c.leads.ensures.none)
-    (answers-leads doc k p b c.args.number c.args.reply.now h self led c.leads.result.lead (λ g. LeadingStands doc q g c.lead.result) s back was.0 (λ g up stands. (up, stands)) c.leads.ensures.lead
+    let term = c.lead-in-Wins.new.self in
+    subst (λ a. Replied doc k p b h (record self { role = led; term = with_value self.term term }) (record { lead = c.leads.result.lead; ask = a })) (sym c.leads.ensures.none)
+    (answers-leads doc k p b c.args.number c.args.reply.now h self led term c.leads.result.lead (λ g. LeadingStands doc q g c.lead.result) s back was.0 (λ g up stands. (up, stands))
+    (λ version g stands. c.lead-in-Wins.ensures doc k 3 q version g (subst (TermStands doc q g) (sym c.deref_mut.ensures.value) stands) reads.now) c.leads.ensures.lead
     (λ off. let no = (c.in-Wins.ensures.uncounted doc q h k was.1 reads.now was.0 off b.call).0 in cc)
     (λ call some.
     let t = c.in-Wins.ensures.counts doc q h k call was.1 (subst (AreWaitsOf doc p) (sym c.as_slice-waits.ensures.each) s.waits) reads.now reads.wall (few.calls q) some in

@@ -2,10 +2,10 @@ use Rattle.std.proofs.Common.{◌≡◌, true, false, None, sym, ap, ◌∙◌, 
 use Rattle.kube_objects.specs.Identities.{identity}
 use Rattle.kube_objects.specs.Pauses.{is_paused}
 use Rattle.world_process.specs.declared.controller.Role.TheVariants as role
-use Rattle.world_process.specs.Controllers.{StoppedAs}
+use Rattle.world_process.specs.Controllers.{StoppedAs, is_up_as}
 use Rattle.world_process.proofs.Forgetting.{stopped-forgets}
 use Rattle.world_process.proofs.Readings.{readings-are}
-use Rattle.world_process.proofs.Scripted.{stopped-leading, stopped-paused}
+use Rattle.world_process.proofs.Scripted.{stopped-candidate, stopped-down, stopped-leading, stopped-paused}
 use Rattle.world_process.proofs.Standing.{role-at}
 use Rattle.world_process.proofs.controller.Controller.stop.Goals as goal
 
@@ -14,6 +14,22 @@ returns-then-is_paused-clause-stands c doc k id h s at few =
     let self = c.args.self.now in
     let paused : is_paused doc id.0 k ≡ true = ap (is_paused doc id.0) (sym at) ∙ sym (c.is_paused.ensures doc id.0 s.pauses) ∙ c.if-is_paused.true in
     subst (StoppedAs doc k id h self) (sym c.stop_with.ensures) (stopped-paused doc k id h self paused s)
+
+pub returns-in-Down-clause-stands : goal.returns-in-Down-clause-stands
+returns-in-Down-clause-stands c doc k id h s at few =
+    let self = c.args.self.now in
+    let awake : is_paused doc id.0 k ≡ false = ap (is_paused doc id.0) (sym at) ∙ sym (c.is_paused.ensures doc id.0 s.pauses) ∙ c.if-is_paused.false in
+    subst (λ r. StoppedAs doc k id h (record self { role = r }) c.stop_with-in-Down.result) (sym c.replace.ensures.after)
+    (subst (λ r. StoppedAs doc k id h (record self { role = role.Down None }) r) (sym c.stop_with-in-Down.ensures)
+    (stopped-down doc k id h self awake s (ap is_up_as (sym c.replace.ensures.value ∙ c.in-Down.is))))
+
+pub returns-in-Candidate-clause-stands : goal.returns-in-Candidate-clause-stands
+returns-in-Candidate-clause-stands c doc k id h s at few =
+    let self = c.args.self.now in
+    let awake : is_paused doc id.0 k ≡ false = ap (is_paused doc id.0) (sym at) ∙ sym (c.is_paused.ensures doc id.0 s.pauses) ∙ c.if-is_paused.false in
+    subst (λ r. StoppedAs doc k id h (record self { role = r }) c.stop_with-in-Candidate.result) (sym c.replace.ensures.after)
+    (subst (λ r. StoppedAs doc k id h (record self { role = role.Down None }) r) (sym c.stop_with-in-Candidate.ensures)
+    (stopped-candidate doc k id h self c.in-Candidate.field-0 awake s (sym c.replace.ensures.value ∙ c.in-Candidate.is)))
 
 pub returns-in-Leading-clause-stands : goal.returns-in-Leading-clause-stands
 returns-in-Leading-clause-stands c doc k id h s at few =

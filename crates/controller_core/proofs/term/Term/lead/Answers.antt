@@ -1,0 +1,23 @@
+use Rattle.std.proofs.Common.{refl, ◌∙◌, ap, cond, ◌==◌, ◌+◌, Some, None}
+use Rattle.kube_objects.specs.Document.{of_millis}
+use Rattle.kube_objects.specs.Entry.{Leads, entry}
+use Rattle.controller_core.proofs.FirstSync.{settles_led}
+use Rattle.controller_core.proofs.Others.{others_with}
+use Rattle.controller_core.proofs.term.Term.lead.Goals as goal
+
+pub returns : goal.returns
+returns c doc k step q version h s is =
+    let self = c.args.self.now in
+    let settles = c.settles_after-self.ensures ∙ ap (λ n. cond (n == 0) None (Some (c.args.now.0 + of_millis n))) s.settings.first_sync in
+    let led = others_with doc q h (entry k step q (Leads version)) self c.settles_after-self.result refl (settles_led doc k step q version h c.args.now.0 c.settles_after-self.result is settles) s in
+    record {
+      cluster = led.cluster;
+      reached = led.reached;
+      health = led.health;
+      limits = led.limits;
+      queues = led.queues;
+      last = led.last;
+      range = led.range;
+      settles = led.settles;
+      settings = led.settings;
+    }
