@@ -97,6 +97,56 @@ def name(length):
     return document(controllers=[{'name': 'a' * length}])
 
 
+def of_version_4(settings=None, **keys):
+    return document(settings, **{'version': 4, **keys})
+
+
+def with_items_4(kind):
+    return lambda count: of_version_4(objects={'apiVersion': 'v1', 'kind': 'List', 'items': [manifest(kind, 'item-%d' % i) for i in range(count)]})
+
+
+def kubelets_4(count):
+    return of_version_4(kubelets=[{'node': 'worker-%d' % i} for i in range(count)])
+
+
+def pods_of_sets(count):
+    """So many pods, by sets of 90,000 and one of the rest."""
+    counts = [90_000] * (count // 90_000) + [count % 90_000] * (count % 90_000 > 0)
+    return of_version_4(podSets=[{'name': 'set-%d' % i, 'on': [{'node': 'worker-1', 'pods': pods}]} for i, pods in enumerate(counts)])
+
+
+def pod_sets(count):
+    return of_version_4(podSets=[{'name': 'set-%d' % i, 'on': [{'node': 'worker-1', 'pods': 1}]} for i in range(count)])
+
+
+def members(count):
+    return of_version_4(podSets=[{'name': 'web', 'on': [{'node': 'worker-%d' % i, 'pods': 1} for i in range(count)]}])
+
+
+def pods_of_a_member(count):
+    return of_version_4(podSets=[{'name': 'web', 'on': [{'node': 'worker-1', 'pods': count}]}])
+
+
+def name_of_a_set(length):
+    return of_version_4(podSets=[{'name': 'a' * length, 'on': [{'node': 'worker-1', 'pods': 1}]}])
+
+
+def waits(count):
+    return of_version_4(controllers=[{'name': 'cp-east-1', 'waits': [1_000] * count}])
+
+
+def longest_wait(wait):
+    return of_version_4(controllers=[{'name': 'cp-east-1', 'waits': [wait]}])
+
+
+def first_sync(millis):
+    return of_version_4({'firstSyncMillis': millis})
+
+
+def stall(beats):
+    return of_version_4(events=[{'beat': 1, 'type': 'stall', 'beats': beats}])
+
+
 # Each limit: what it is of, how its document is made, the limit itself, the line there, and the line on one more.
 LIMITS = [
     ('bytes', padded, MOST_BYTES, accepted(), 'refused 33 /'),
@@ -115,6 +165,18 @@ LIMITS = [
     ('end-of-long-beats', week_of(1_000), 604_800, accepted(), 'refused 6 /settings/endBeat'),
     ('delay', delay, 6_000, accepted(events=1), 'refused 6 /events/0/requestBeats'),
     ('name', name, 253, accepted(), 'refused 6 /controllers/0/name'),
+    ('kubelets-4', kubelets_4, 15_000, accepted(kubelets=15_000), 'refused 32 /kubelets'),
+    ('nodes-4', with_items_4('Node'), 15_000, accepted(nodes=15_000), 'refused 32 /objects/items/15000'),
+    ('leases-4', with_items_4('Lease'), 30_000, accepted(leases=30_000), 'refused 32 /objects/items/30000'),
+    ('pods-of-sets', pods_of_sets, 450_000, accepted(pods=450_000), 'refused 32 /podSets/5'),
+    ('sets', pod_sets, 100_000, accepted(pods=100_000), 'refused 32 /podSets'),
+    ('members', members, 15_000, accepted(pods=15_000), 'refused 32 /podSets/0/on'),
+    ('pods-of-a-member', pods_of_a_member, 100_000, accepted(pods=100_000), 'refused 6 /podSets/0/on/0/pods'),
+    ('name-of-a-set', name_of_a_set, 242, accepted(pods=1), 'refused 6 /podSets/0/name'),
+    ('waits', waits, 1_000, accepted(), 'refused 32 /controllers/0/waits'),
+    ('wait', longest_wait, 2_200, accepted(), 'refused 6 /controllers/0/waits/0'),
+    ('first-sync', first_sync, 604_800_000, accepted(), 'refused 6 /settings/firstSyncMillis'),
+    ('stall', stall, 604_800_000, accepted(events=1), 'refused 6 /events/0/beats'),
 ]
 
 

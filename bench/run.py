@@ -97,6 +97,20 @@ def large_cluster(nodes, pods, beats, kill_zone):
     return document
 
 
+def due_at_once(divide):
+    """A hundred nodes that are unreachable, with 30,000 pods that tolerate nothing: all are due at once, and deleted 30 at once and then 20 a second."""
+    where = {'topology.kubernetes.io/region': 'eu', 'topology.kubernetes.io/zone': 'eu-1'}
+    taint = {'key': 'node.kubernetes.io/unreachable', 'effect': 'NoExecute', 'timeAdded': '2023-12-31T23:00:00Z'}
+    items = [{'apiVersion': 'v1', 'kind': 'Node', 'metadata': {'name': 'node-%d' % i, 'labels': where}, 'spec': {'taints': [taint]},
+              'status': {'conditions': [{'type': 'Ready', 'status': 'Unknown'}]}} for i in range(100)]
+    # A node that is ready, so that taints aren't taken off as where all zones are down.
+    items.append({'apiVersion': 'v1', 'kind': 'Node', 'metadata': {'name': 'well'}, 'status': {'conditions': [{'type': 'Ready', 'status': 'True'}]}})
+    pods = [{'node': 'node-%d' % i, 'pods': 300 // divide} for i in range(100)]
+    settings = {'endBeat': 15_100 // divide, 'gracePeriodMillis': 604_800_000, 'evictFrom': 'seen', 'evictBurst': 30, 'evictRate': 20_000}
+    return {'version': 4, 'settings': settings, 'controllers': [{'name': 'cp-east-1'}], 'podSets': [{'name': 'web', 'namespace': 'shop', 'on': pods}],
+            'objects': {'apiVersion': 'v1', 'kind': 'List', 'items': items}}
+
+
 def nothing(_):
     """`generate` reads no document."""
     return None
@@ -107,8 +121,9 @@ CASES = [('one-controller', 'replay', one_controller), ('skewed-clocks', 'replay
          ('1000-kubelets-10ms', 'replay', kubelets(1_000, 10, False)), ('1000-skewed-kubelets-10ms', 'replay', kubelets(1_000, 10, True)),
          ('1000-skewed-kubelets-1ms', 'replay', kubelets(1_000, 1, True)), ('100-skewed-kubelets-10ms', 'replay', kubelets(100, 10, True)),
          ('generated', 'generate', nothing),
-         ('1000-nodes-zone-dies', 'replay', large_cluster(1_000, 30_000, 3_600, True)), ('5000-nodes-zone-dies', 'replay', large_cluster(5_000, 150_000, 3_600, True)),
-         ('15000-nodes', 'replay', large_cluster(15_000, 450_000, 600, False)),
+         ('1000-nodes-zone-dies', 'replay', large_cluster(1_000, 30_000, 3_600, True)),
+         ('5000-nodes-zone-dies', 'replay', large_cluster(5_000, 150_000, 3_600, True)),
+         ('15000-nodes', 'replay', large_cluster(15_000, 450_000, 600, False)), ('30000-pods-due-at-once', 'replay', due_at_once),
          ('5000-nodes', 'check', large_cluster(5_000, 150_000, 3_600, True))]
 
 

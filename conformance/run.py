@@ -4,7 +4,7 @@
     conformance/run.py [--exe COMMAND] [--lens COMMAND] [--rules-exe COMMAND] [SET ..]
 
 COMMAND is the program without its command word; else it is the built one, crates/kube_replay/out/kube_replay, and behind --lens
-crates/kube_lens/out/kube_lens, which tells how long nobody leads after a crash. Sets of elections are compared by upstream's rules too,
+crates/kube_lens/out/kube_lens, which tells how long nobody leads after a crash. Some sets and scenarios are compared by upstream's rules too,
 in documents of version 4, by another program behind --rules-exe if there is one; where it has not built these keys, that is left out
 and told. --rules alone compares by these rules and nothing else. Ends with 1 where a count isn't that of counts.json,
 where a rule of docs/profile.md doesn't say how it is known, where a kind of difference has no rule there that names its set or
@@ -18,7 +18,7 @@ import os
 import sys
 import time
 
-from beside import bounds, by_rules, grid, page, plane, plane_tables, release_tables, tables, wave_tables
+from beside import bounds, by_rules, grid, page, plane, plane_tables, release_tables, scenarios_by_rules, tables, wave_tables
 from beside.fast_elections import SETTINGS
 from beside.profile import Profile
 from beside.program import NoAnswer, Program
@@ -60,7 +60,7 @@ def of_sets(names, program, profile, is_written):
 
 
 def of_rules(own, program, is_written):
-    """How many cases there are by upstream's rules, the table of both, and what is wrong; nothing where the program has no such rules yet."""
+    """How many cases there are by upstream's rules, the tables of both, and what is wrong; nothing where the program has no such rules yet."""
     if not by_rules.are_built(program):
         print("by upstream's rules: left out, since this program has no keys for them yet", flush=True)
         return 0, {}, []
@@ -76,7 +76,8 @@ def of_rules(own, program, is_written):
             file.write("\n")
     faults = [f"{name}, by upstream's rules: other counts than in counts_by_rules.json: {json.dumps(it)}" for name, it in counts.items()
               if it != wanted.get(name) and not is_written]
-    return sum(it["cases"] for it in counts.values()), {"by rules": by_rules.both(own, counts)}, faults
+    made = {"by rules": by_rules.both(own, counts), **scenarios_by_rules.tables(plane.Scenario, program)}
+    return sum(it["cases"] for it in counts.values()), made, faults
 
 
 def of_crashes(lens, found, scenario_of):

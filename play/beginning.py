@@ -59,7 +59,7 @@ def known():
     """What the document's schema says of the keys of settings, controllers and kubelets, and which flag each key has."""
     place = os.path.join(TOP, *(['document.schema.json'] if IS_INSTALLED else ['docs', 'document.schema.json']))
     parts = json.loads(read(place))['$defs']
-    return {'settings': parts['settings2']['properties'], 'controller': parts['controller2']['properties'], 'kubelet': parts['kubelet']['properties'],
+    return {'settings': parts['settings4']['properties'], 'controller': parts['controller2']['properties'], 'kubelet': parts['kubelet']['properties'],
             'flags': {key: flag for flag, (key, *_) in cluster_flags.FLAGS.items()}}
 
 

@@ -256,8 +256,19 @@ def test_settings(person, served, pictures):
     same('timings of its own are of version 2', person.run('playground.document.version'), 2)
     enter(person, 'messages take, each way', 1_500)
     same('a delay from the beginning', same_trace('delay', person)['events'][0], {'beat': 0, 'type': 'delay', 'process': 'cp-1', 'requestBeats': 3, 'replyBeats': 3})
-    person.run('(() => { const e = playground.panel.policy; e.value = "gentle"; e.dispatchEvent(new Event("change")); })()')
+    choose = '(() => { const e = playground.panel.choices.find(each => each.key === "%s").select; e.value = "%s"; e.dispatchEvent(new Event("change")); })()'
+    person.run(choose % ('ratePolicy', 'gentle'))
     same('rate policy', same_trace('policy', person)['settings']['ratePolicy'], 'gentle')
+    for key, word in (('retries', 'grid'), ('respect', 'own'), ('evictFrom', 'seen')):
+        person.run(choose % (key, word))
+        same(key, same_trace(key, person)['settings'][key], word)
+    same('rules of Kubernetes are of version 4', person.run('playground.document.version'), 4)
+    for label, value, key, wanted in (('first look after a lead', 0.7, 'firstSyncMillis', 700), ('evictions at once, 0: any', 1, 'evictBurst', 1),
+                                      ('and then', 0.1, 'evictRate', 100), ('to set a pod not ready', 200, 'readyMillis', 200)):
+        enter(person, label, value)
+        same(label, same_trace(label, person)['settings'][key], wanted)
+    marks = person.run('[...%s.querySelectorAll(".default")].map(e => e.getAttribute("aria-label"))' % dial('but for the first'))
+    same('marks', marks, ["but for the first: this project's default, 0 pods", 'but for the first: Kubernetes 1.20, 15 pods'])
     load(person, 'tolerations')
     person.run('(() => { const dial = playground.panel.dials.find(dial => dial.isOfPods && dial.get(playground.document) === 300);'
                ' dial.number.value = "45"; for (const name of ["input", "change"]) dial.number.dispatchEvent(new Event(name)); })()')

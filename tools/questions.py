@@ -135,25 +135,36 @@ def pod_lives(trace, told):
     for beat, pod in trace.evictions:
         gone.setdefault(pod, beat)
     lives = []
+    taints, marks, strokes, signs = map(by_node, (trace.taints, trace.unknown, told.strokes, trace.signs))
     for pod, node in told.pods.items():
         evicted = gone.get(pod)
-        tainted = last([beat for beat, name in trace.taints if name == node and (evicted is None or beat <= evicted)])
-        unknown = last([beat for beat, name in trace.unknown if name == node and (tainted is None or beat <= tainted)])
+        tainted = last(taints.get(node, ()), evicted)
+        unknown = last(marks.get(node, ()), tainted)
         if unknown is None and tainted is None:
             if evicted is not None:
                 lives.append((pod, node, None, None, None, trace.seconds(evicted), None))
             continue
         until = unknown if unknown is not None else tainted
-        silent = last([beat for beat, name in told.strokes if name == node and beat <= until])
+        silent = last(strokes.get(node, ()), until)
         if silent is None:
-            silent = last([beat for beat, name in trace.signs if name == node and beat <= until])
+            silent = last(signs.get(node, ()), until)
         times = [None if beat is None else trace.seconds(beat) for beat in (silent, unknown, tainted, evicted)]
         lives.append((pod, node, *times, times[3] - times[0] if times[3] is not None and times[0] is not None else None))
     return lives
 
 
-def last(values):
-    return values[-1] if values else None
+def by_node(found):
+    """The beats at which something was found of each node."""
+    beats = {}
+    for beat, node in found:
+        beats.setdefault(node, []).append(beat)
+    return beats
+
+
+def last(beats, until):
+    """The last of the beats, up to one where that is known."""
+    before = beats if until is None else [beat for beat in beats if beat <= until]
+    return before[-1] if before else None
 
 
 def pod_delay(trace, told, pod=None):

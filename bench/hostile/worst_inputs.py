@@ -175,14 +175,15 @@ def refused_heads_again():
     return text_of(document({'beatMillis': 10, 'endBeat': 3_000, 'primaryRate': 100}, events=events, objects=as_list([node('well', (), 'zz'), *away])))
 
 
-def judged_again():
-    """A node with 4,000 pods of a hundred tolerations each, which has a hundred taints, others at each of 1,500 beats."""
-    tolerations = [{'key': 'x%d' % i} for i in range(99)] + [{'operator': 'Exists'}]
+def judged_again(sorts):
+    """A node with 4,000 pods of a hundred tolerations each, which has a hundred taints, others at each of 1,050 beats. Pods of so many sorts take turns."""
+    tolerations = [[{'key': 'x%d' % i} for i in range(98)] + [{'key': 'x%d' % (98 + sort)}, {'operator': 'Exists'}] for sort in range(sorts)]
     def tainted(turn):
         taints = [{'key': 't%d' % i, 'effect': 'NoExecute', 'timeAdded': '2024-01-01T00:00:00Z'} for i in range(99)] + [{'key': 'u%d' % turn, 'effect': 'NoExecute'}]
         return node('n', taints)
     events = [{'beat': 100 + i, 'type': 'put', 'object': tainted(i)} for i in range(1_050)]
-    return text_of(document({'endBeat': 2_000}, objects=as_list([tainted(0), *(pod('p%d' % i, 'n', tolerations) for i in range(4_000))]), events=events))
+    pods = [pod('p%d' % i, 'n', tolerations[i % sorts]) for i in range(4_000)]
+    return text_of(document({'endBeat': 2_000}, objects=as_list([tainted(0), *pods]), events=events))
 
 
 def messages_under_way():
@@ -203,6 +204,19 @@ def day_of_kubelets():
     """A day of a thousand kubelets with skewed clocks, in beats of 10 ms."""
     kubelets = [{'node': 'n%d' % i, 'ratePpm': 990_000 + 20 * i} for i in range(1_000)]
     return text_of(document({'beatMillis': 10, 'endBeat': DAY_BEATS}, 3, kubelets=kubelets, objects=as_list(node('n%d' % i) for i in range(1_000))))
+
+
+# Documents of version 4
+
+def pods_of_sets(sets, pods):
+    """So many sets, each of so many pods on one node that all share."""
+    return text_of(document(version=4, podSets=[{'name': 's%d' % i, 'on': [{'node': 'n', 'pods': pods}]} for i in range(sets)]))
+
+
+def stalls():
+    """A stall at every other one of 200,000 beats, while three candidates ask for the lease."""
+    events = [{'beat': 2 * i + 1, 'type': 'stall', 'beats': 1} for i in range(100_000)]
+    return text_of(document({'endBeat': 200_000}, 3, version=4, events=events))
 
 
 # Lists of pods, and traces
@@ -279,10 +293,14 @@ CASES = {
     '30,000 pods due, deletes lost': ('replay', due_at_once(True)),
     'a thousand refused heads': ('replay', refused_heads),
     'a thousand refused heads, from the start': ('replay', refused_heads_again),
-    '4,000 pods judged again and again': ('replay', judged_again),
+    '4,000 pods judged again and again': ('replay', lambda: judged_again(1)),
+    '4,000 pods of two sorts judged again and again': ('replay', lambda: judged_again(2)),
     'messages under way': ('replay', messages_under_way),
     '200 bytes of document': ('replay', small_but_long),
     'a day of 1,000 kubelets, skewed clocks, beats of 10 ms': ('replay', day_of_kubelets),
+    '450,000 pods by five sets': ('check', lambda: pods_of_sets(5, 90_000)),
+    '450,000 pods by 90,000 sets': ('check', lambda: pods_of_sets(90_000, 5)),
+    '100,000 stalls': ('replay', stalls),
     'the last state of 30,000 pods': ('state 600', lambda: text_of(generated(7, 1_000, 30_000, 600))),
     'the first state of 16 MB': ('state 0', largest_document),
     'the greatest generated cluster': ('generate 7 1000 30000 100000', lambda: b''),

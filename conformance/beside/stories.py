@@ -31,8 +31,11 @@ def is_up(story, number, second):
     return dies is None or second <= dies or returns is not None and second >= returns
 
 
-def document_of(story, has_failover):
-    """Upstream's first pass is 0.1 s after its lead, so the leader leads at 4.1 s here. The script renews the nodes' Leases."""
+def document_of(story, has_failover, rules):
+    """
+    Upstream's first pass is 0.1 s after its lead, so the leader leads at 4.1 s here. The script renews the nodes' Leases. `rules` are keys of version 4
+    that say upstream's rules, none for the own ones.
+    """
     tolerations = [{"key": key, "operator": "Exists", "value": "", "effect": "NoExecute", "seconds": story.tolerated}
                    for key in (NOT_READY, UNREACHABLE)]
     objects, events = [], [{"beat": 37, "type": "start", "process": "a"}]
@@ -50,7 +53,7 @@ def document_of(story, has_failover):
         events += [{"beat": 1000, "type": "crash", "process": "a"}, {"beat": 2103, "type": "start", "process": "b"}]
     events.sort(key=lambda it: it["beat"])
     controllers = [{"name": "a", "up": False}, {"name": "b", "up": False}]
-    return document({"endBeat": story.end * 10, "beatMillis": 100}, objects, events, controllers)
+    return document({"endBeat": story.end * 10, "beatMillis": 100, **rules}, objects, events, controllers, 4 if rules else 1)
 
 
 def happened_here(trace):
@@ -89,10 +92,10 @@ def changes(old, new):
         yield "untaint"
 
 
-def matched(lines, program, name):
+def matched(lines, program, name, **rules):
     """Each event there with the next one here of the same words, or without one; then those that are here alone."""
     has_failover = sum(it["what"] == "lead" for it in lines) > 1
-    rest = happened_here(program.replay(document_of(STORIES[name], has_failover)))
+    rest = happened_here(program.replay(document_of(STORIES[name], has_failover, rules)))
     pairs = []
     for there, what in happened_there(lines):
         at = next((at for at, it in enumerate(rest) if it[1] == what), None)

@@ -2,6 +2,7 @@
 from statistics import median
 
 from . import elections, stories
+from .evictions import RULES_OF_1_20
 from .recorded import NEW, SETS, cases_of
 from .tally import row_of
 
@@ -60,7 +61,8 @@ def evictions(program):
     recorded = cases_of("runs")
     rows = []
     for name in recorded:
+        seen = {what: here for what, here, _ in stories.matched(recorded[name], program, name, **RULES_OF_1_20)}
         for what, here, there in stories.matched(recorded[name], program, name):
             if what.startswith("evict"):
-                rows.append((f"`{name}`", what.split()[1], *("" if it is None else f"{seconds(it)} s" for it in (here, there))))
-    return table(("Story", "Pod", "Evicted here", "There"), rows)
+                rows.append((f"`{name}`", what.split()[1], *("" if it is None else f"{seconds(it)} s" for it in (here, seen.get(what), there))))
+    return table(("Story", "Pod", "Evicted here", "Here with `evictFrom` `seen`", "There"), rows)

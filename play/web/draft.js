@@ -1,6 +1,7 @@
 // Documents, which are never changed: each change gives another one, which shares with the old one what stays.
 
-const VERSION_OF_TIMINGS = 2, VERSION_OF_PAUSES = 3, VERSION_OF_STALLS = 4, LONG_NUMBER = /[0-9]{16}/;
+const VERSION_OF_TIMINGS = 2, VERSION_OF_PAUSES = 3, VERSION_OF_STALLS = 4, VERSION_OF_RULES = 4, LONG_NUMBER = /[0-9]{16}/;
+const RULES = ['retries', 'respect', 'firstSyncMillis', 'evictFrom', 'evictBurst', 'evictRate', 'readyMillis', 'readyBurst'];
 const OWN_TIMINGS = ['leaseDurationSeconds', 'renewDeadlineMillis', 'retryPeriodMillis', 'callTimeoutMillis'];
 
 // Numbers that a double can't hold are kept as they are written.
@@ -47,7 +48,8 @@ function atLeastVersion(document, version) {
 
 export function withSetting(document, key, value) {
   const changed = { ...document, settings: withKey(document.settings, key, value) };
-  return key === 'ratePolicy' && value !== undefined ? atLeastVersion(changed, VERSION_OF_TIMINGS) : changed;
+  if (value === undefined) return changed;
+  return RULES.includes(key) ? atLeastVersion(changed, VERSION_OF_RULES) : key === 'ratePolicy' ? atLeastVersion(changed, VERSION_OF_TIMINGS) : changed;
 }
 
 export function withController(document, place, key, value) {

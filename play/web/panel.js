@@ -24,8 +24,19 @@ const SECTIONS = [
     ['largeZone', { unit: 'nodes', slider: [0, 200, 1] }],
     ['unhealthyPercent', { unit: '', scale: 100, slider: [0, 1, 0.01] }],
   ] },
+  { title: 'As Kubernetes 1.20 does', keys: [
+    ['firstSyncMillis', { label: 'first look after a lead', unit: 's', scale: 1000, slider: [0, 10, 0.1] }],
+    ['evictBurst', { label: 'evictions at once, 0: any', unit: 'pods', slider: [0, 100, 1] }],
+    ['evictRate', { label: 'and then', unit: 'a second', scale: 1000, slider: [0, 50, 1] }],
+    ['readyMillis', { label: 'to set a pod not ready', unit: 'ms', slider: [0, 500, 10] }],
+    ['readyBurst', { label: 'but for the first', unit: 'pods', slider: [0, 100, 1] }],
+  ] },
 ];
+// Settings that are a word, by section and with how each is called.
+const CHOICES = [[1, 'ratePolicy', 'rate policy'], [2, 'retries', 'after a failed renewal'], [2, 'respect', 'whose lease duration'], [2, 'evictFrom', 'tolerations count from']];
 const KUBERNETES = 'default of Kubernetes';
+// What is in Kubernetes 1.20 where the project's default is another.
+const IN_1_20 = { firstSyncMillis: 700, evictBurst: 30, evictRate: 20000, readyMillis: 100, readyBurst: 15 };
 
 export class Panel {
   // The host has `document`, `opened`, `known`, `preview(document, dial)`, `keep(words)`, `change(document, words)`, `showEvent(place)`.
@@ -40,7 +51,7 @@ export class Panel {
     this.dials = [];
     const parts = SECTIONS.map(section => this.section(section.title, section.open, section.keys.map(([key, shape]) => this.setting(key, shape).row)));
     parts[0].append(this.fastRenew());
-    parts[1].append(this.ratePolicy());
+    this.choices = CHOICES.map(([part, key, words]) => this.choice(parts[part], key, words));
     parts.splice(1, 0, this.section('Controllers', false, document.controllers.map((each, place) => this.controller(each, place))));
     this.pods = this.section('Tolerations of the pods', false, []);
     parts.push(this.pods, this.section('Run', false, this.run()), this.section('Events', true, [this.events.list]));
@@ -75,6 +86,7 @@ export class Panel {
   marks(key, fallback) {
     const own = { value: fallback, words: "this project's default" };
     if (key === 'restartMillis') return [own];
+    if (key in IN_1_20) return [own, { value: IN_1_20[key], words: 'Kubernetes 1.20' }].filter((mark, i) => i === 1 || mark.value !== IN_1_20[key]);
     if (key === 'gracePeriodMillis') return [{ value: fallback, words: KUBERNETES + ' before 1.32' }, { value: 50000, words: KUBERNETES + ' from 1.32 on' }];
     if (key !== 'callTimeoutMillis') return [{ value: fallback, words: KUBERNETES }];
     const deadline = document => document.settings.renewDeadlineMillis ?? this.host.known.settings.renewDeadlineMillis.default;
@@ -87,12 +99,13 @@ export class Panel {
     return make('label', { className: 'row', title: this.host.known.settings.fastRenew.description }, this.fast, ' renews without a Get where it can');
   }
 
-  ratePolicy() {
-    const words = this.host.known.settings.ratePolicy.enum;
-    this.policy = make('select', { onchange: event => this.host.change(withSetting(this.host.document, 'ratePolicy', event.target.value), 'rate policy') },
+  // A list of words at the end of a section.
+  choice(part, key, called) {
+    const { description, enum: words, default: fallback } = this.host.known.settings[key];
+    const select = make('select', { onchange: event => this.host.change(withSetting(this.host.document, key, event.target.value), called) },
       ...words.map(word => make('option', { value: word }, word)));
-    this.policyError = make('p', { className: 'error', hidden: true });
-    return make('label', { className: 'row', title: this.host.known.settings.ratePolicy.description }, 'rate policy ', this.policy);
+    part.append(make('label', { className: 'row', title: description }, called + ' ', select));
+    return { key, select, fallback };
   }
 
   // One controller: its clock, its delay, and timings of its own.
@@ -163,7 +176,7 @@ export class Panel {
     if (!isDragging && document.objects !== this.objects) this.buildPods();
     for (const dial of this.dials) if (!(isDragging && dial === this.host.dragged)) dial.sync(document);
     this.fast.checked = document.settings.fastRenew === true;
-    this.policy.value = document.settings.ratePolicy || 'standard';
+    for (const { key, select, fallback } of this.choices) select.value = document.settings[key] || fallback;
     this.events.show(document);
   }
 

@@ -17,6 +17,7 @@ import re
 import sys
 import time
 import zipfile
+import zlib
 from asyncio import CancelledError
 from concurrent.futures import CancelledError as FutureCancelledError
 from contextlib import ExitStack, contextmanager, suppress
@@ -31,12 +32,16 @@ from kube_replay.engine import HERE, Engine, Library, Program, find_engine, use
 from kube_replay.errors import KubeReplayError
 
 LOCAL = re.compile(r'local(?::([1-9]\d*))?')
+# A worker looks at its stack a hundred times a second, for the dashboard, which takes some 3 % of a processor.
+LOCAL_SETTINGS = {'distributed.worker.profile.enabled': False}
 CONNECT_SECONDS = 60
 # Dask gives a task up after it was on several workers that were lost (distributed.scheduler.allowed-failures, 3); so often it is handed out.
 MOST_HANDINGS = 20
 # How many tasks are handed out for each that the workers take at once, and how often it is asked how many these are.
 HANDED_OUT = 3
 COUNT_SECONDS = 5
+# So many bytes of what all tasks have in common are sent with each of them; what is larger goes to each worker once.
+MOST_IN_A_TASK = 1 << 16
 AGES_AGO = (1980, 1, 1, 0, 0, 0)
 
 
@@ -151,12 +156,18 @@ def engine_here(equipment: Equipment) -> Engine:
     return Library(words[0]) if equipment.is_library else Program(words)
 
 
-def done(equipment: Equipment, function: Callable[[Any, Any], Any], common: Any, task: Any) -> Any:
+@lru_cache(maxsize=1)
+def unpacked(common: bytes) -> Any:
+    """What all tasks have in common."""
+    return pickle.loads(zlib.decompress(common))
+
+
+def done(equipment: Equipment, function: Callable[[Any, Any], Any], common: bytes, task: Any) -> Any:
     """A task's result, on a worker. Dask may still have the function as an earlier command sent it, so it is looked up anew."""
     use(engine_here(equipment))
     module = importlib.import_module(function.__module__)
     see_version(equipment, str(module.__file__))
-    return getattr(module, function.__name__)(common, task)
+    return getattr(module, function.__name__)(unpacked(common), task)
 
 
 # Where the tasks come from
@@ -171,11 +182,13 @@ class Workers:
         self._count, self._looked = 0, -math.inf
 
     def results(self, function: Callable[[Any, Any], Any], common: Any, tasks: Iterable[Any]) -> Iterator[tuple[int, Any]]:
-        """`function(common, task)` for each task, with the task's place, in the order in which they are done. A task is taken only when it is
-        handed out: so many at once that no worker has to wait, and that their results don't pile up."""
+        """`function(common, task)` for each task, with the task's place, in the order in which they are done. A task is taken only when it
+        is handed out: so many at once that no worker has to wait, and that their results don't pile up. What is common isn't a task of its
+        own where it is small, since Dask has the first tasks wait for the worker that has done that one."""
         from distributed import as_completed
 
-        shared = self.client.submit(pickle.loads, pickle.dumps(common), pure=False)
+        packed = zlib.compress(pickle.dumps(common), 1)
+        shared = packed if len(packed) <= MOST_IN_A_TASK else self.client.submit(bytes, packed, pure=False)
         waiting, asked, running = iter(enumerate(tasks)), {}, as_completed()
 
         def hand_out(place: int, task: Any, handings: int) -> None:
@@ -258,6 +271,7 @@ def connected(address: str, engine: Engine | None = None, modules: Mapping[str, 
     """The workers of the scheduler at an address; `local` starts one with a worker for each processor, `local:N` one with N workers. The
     workers are sent the package, the engine, and further modules by the names of their files."""
     try:
+        import dask
         from distributed import Client, LocalCluster
     except ImportError as fault:
         raise WorkersFault("--dask needs Dask, which isn't installed: apt install python3-distributed, or pip install distributed") from fault
@@ -268,7 +282,8 @@ def connected(address: str, engine: Engine | None = None, modules: Mapping[str, 
         local = LOCAL.fullmatch(address)
         if local:
             count = int(local[1] or os.cpu_count() or 1)
-            cluster = LocalCluster(n_workers=count, threads_per_worker=1, silence_logs=logging.ERROR)
+            with dask.config.set(LOCAL_SETTINGS):
+                cluster = LocalCluster(n_workers=count, threads_per_worker=1, silence_logs=logging.ERROR)
             address = stack.enter_context(cluster).scheduler_address
         client = stack.enter_context(Client(address, timeout=CONNECT_SECONDS))
         sending = Sending(client)

@@ -2,11 +2,12 @@
 """Sweeps and hunts on the workers of a Dask scheduler, against the same without one: lost workers, a sweep that is broken off, and the time.
 
     python3 tools/test/test_dask.py [--runs 400] [--scripts 320] [--only NAME] [--folder FOLDER]
-    python3 tools/test/test_dask.py --speed [--runs 20000] [--scripts 3200] [--workers 1,2,4]
+    python3 tools/test/test_dask.py --speed [--runs 4000] [--long 2000] [--scripts 3200] [--workers 1,2,4]
 
 It starts a scheduler and workers of its own on 127.0.0.1, and kills workers in the middle. A sweep has to have the table of tools/sweep.py
 without Dask, a hunt the script that its generations find in this one process. --speed measures in place of that: seconds, and the seconds of
-processor time of the workers, of the scheduler and of the command, on 1, 2 and 4 workers, with one process, and by GNU parallel.
+processor time of the workers, of the scheduler and of the command, on 1, 2 and 4 workers, with one process, and by GNU parallel: of short runs, of
+long ones, and of hunts, where 0 of one leaves it out.
 It needs Debian's python3-distributed, for the hunt python3-hypothesis, and a built program or library. The exit status is 1 where anything differs.
 """
 import argparse
@@ -32,8 +33,8 @@ LONG = 3000
 HUNTED = [os.path.join(TOP, 'docs', 'hunt', name) for name in ('three-controllers.json', 'one-crash.json')]
 BUILT = os.path.join(TOP, 'crates', 'kube_replay', 'out', 'kube_replay')
 ENVIRONMENT = {**os.environ, 'PYTHONPATH': os.pathsep.join([os.path.join(TOP, 'python'), os.environ.get('PYTHONPATH', '')])}
-# A worker has neither the package nor an engine of its own: both are sent.
-BARE = {key: value for key, value in os.environ.items() if not key.startswith('KUBE_REPLAY')}
+# A worker has neither the package nor an engine of its own: both are sent. It is started as docs/pictures.md says.
+BARE = {key: value for key, value in os.environ.items() if not key.startswith('KUBE_REPLAY')} | {'DASK_DISTRIBUTED__WORKER__PROFILE__ENABLED': 'False'}
 CLOCK = os.sysconf('SC_CLK_TCK')
 NO_WORKER = 'dask: no worker is left; waiting for one\n'
 faults = []
@@ -291,6 +292,35 @@ def test_unseen_folder(given, folder):
     print('unseen: 20 runs, as without Dask', flush=True)
 
 
+def test_large_in_common(given, folder):
+    """What tasks have in common is more than is sent with each of them, and all workers that have it are killed: the results of all tasks."""
+    with open(os.path.join(folder, 'slow_lengths.py'), 'w') as file:
+        file.write(SLOW_LENGTHS)
+    sys.path[:0] = [folder, os.path.join(TOP, 'python')]
+    import slow_lengths
+    from kube_replay import engine, workers
+    common = os.urandom(4 * workers.MOST_IN_A_TASK)
+    with scheduler(2) as dask:
+        with workers.connected(dask.address, engine.Program([BUILT]), {'slow_lengths.py': SLOW_LENGTHS.encode()}) as found:
+            results = {}
+            for place, length in found.results(slow_lengths.length, common, range(40)):
+                results[place] = length
+                if len(results) == 10:
+                    dask.add(1)
+                    dask.lose()
+                    dask.lose()
+    same('all tasks with what is large in common', results, {place: len(common) + place for place in range(40)})
+
+
+SLOW_LENGTHS = """import time
+
+
+def length(common, task):
+    time.sleep(.1)
+    return len(common) + task
+"""
+
+
 def hunt_words(scripts, *more):
     return [*HUNT, *HUNTED, '--scripts', str(scripts), '--seconds', '36000', '--seed', '7', *more]
 
@@ -340,20 +370,28 @@ def timed(what, words, folder, dask=None):
 
 
 def speed(given, folder):
-    """Sweeps and hunts on each number of workers, after each other, and what does the same without Dask."""
+    """Sweeps and hunts on each number of workers, after each other, and the sweeps without Dask: in one process, and by GNU parallel, its runs alone."""
+    sweeps = {'short runs': (sweep_words, given.runs), 'long runs': (long_words, given.long)}
+    sweeps = {what: lambda name, words=words, runs=runs: words(runs, name) for what, (words, runs) in sweeps.items() if runs}
+    first = {}
     for count in given.workers:
         with scheduler(count) as dask:
-            words = sweep_words(given.runs, 'on-%d' % count)
-            timed('sweep, workers: %d' % count, [*SWEEP, 'all', *words, '--dask', dask.address], folder, dask)
-            timed('long runs, workers: %d' % count, [*SWEEP, 'all', *long_words(given.long, 'long-%d' % count), '--dask', dask.address], folder, dask)
+            for what, words in sweeps.items():
+                on_workers(what, count, [*SWEEP, 'all', *words('%s-%d' % (what[:4], count))], folder, dask, first)
             if given.scripts:
-                timed('hunt, workers: %d' % count, hunt_words(given.scripts, '--dask', dask.address), folder, dask)
-    timed('sweep, one thread', [*SWEEP, 'all', *sweep_words(given.runs, 'one'), '--jobs', '1'], folder)
-    timed('sweep, all cores', [*SWEEP, 'all', *sweep_words(given.runs, 'cores'), '--program', BUILT], folder)
-    if shutil.which('parallel'):
-        run([*SWEEP, 'plan', *sweep_words(given.runs, 'shared')], folder)
-        line = "%s %s missing shared | parallel --will-cite '%s replay < {} > {.}.trace'" % (*SWEEP, BUILT)
-        timed('GNU parallel, its runs alone', ['sh', '-c', line], folder)
+                on_workers('hunt', count, hunt_words(given.scripts), folder, dask, first)
+    for what, words in sweeps.items():
+        timed(what + ', one process', [*SWEEP, 'all', *words(what[:4] + '-one'), '--jobs', '1'], folder)
+        if shutil.which('parallel'):
+            run([*SWEEP, 'plan', *words(what[:4])], folder)
+            line = "%s %s missing %s | parallel --will-cite '%s replay < {} > {.}.trace'" % (*SWEEP, what[:4], BUILT)
+            timed(what + ', GNU parallel', ['sh', '-c', line], folder)
+
+
+def on_workers(what, count, words, folder, dask, first):
+    """A row, and how many times as fast it was as the first of its kind."""
+    seconds, *_ = timed('%s, workers: %d' % (what, count), [*words, '--dask', dask.address], folder, dask)
+    print('    %.2f times as fast as the first' % (first.setdefault(what, seconds) / seconds), flush=True)
 
 
 TESTS = {name.removeprefix('test_'): test for name, test in globals().copy().items() if name.startswith('test_')}
@@ -363,14 +401,14 @@ def options():
     parser = argparse.ArgumentParser(description=__doc__, formatter_class=argparse.RawDescriptionHelpFormatter)
     parser.add_argument('--runs', type=int)
     parser.add_argument('--scripts', type=int)
-    parser.add_argument('--long', type=int, default=1000)
+    parser.add_argument('--long', type=int, default=2000)
     parser.add_argument('--only', choices=TESTS)
     parser.add_argument('--folder')
     parser.add_argument('--speed', action='store_true')
     parser.add_argument('--workers', type=lambda text: [int(part) for part in text.split(',')], default=[1, 2, 4])
     given = parser.parse_args()
     if given.runs is None:
-        given.runs = 20_000 if given.speed else 400
+        given.runs = 4000 if given.speed else 400
     if given.scripts is None:
         given.scripts = 3200 if given.speed else 320
     return given

@@ -132,12 +132,17 @@ class Nodes:
     rate: int = 100
     ahead: int = 0
     are_posted: bool = True
+    has_work: bool = False
+    has_own_evictions: bool = True
 
     def are_marked(self, calm):
-        return self.are_posted and 2 * calm.far * self.post[1] <= self.timeout
+        return self.are_posted and not self.has_work and 2 * calm.far * self.post[1] <= self.timeout
 
     def are_tainted(self, calm):
         return self.are_marked(calm) and self.rate > 0
+
+    def are_gone(self, calm):
+        return self.are_tainted(calm) and self.has_own_evictions
 
     def marked(self, calm):
         near, far = calm.needed(self.monitor), calm.enough(self.monitor)
@@ -213,7 +218,7 @@ class Told:
         return self.at(self.nodes.tainted(self.calm)) if self.nodes.are_tainted(self.calm) else None
 
     def gone(self, seconds):
-        return self.at(self.nodes.gone(self.calm, seconds)) if self.nodes.are_tainted(self.calm) else None
+        return self.at(self.nodes.gone(self.calm, seconds)) if self.nodes.are_gone(self.calm) else None
 
     # Lines
 
@@ -318,7 +323,8 @@ def told_of_document(doc):
     of = lambda key, default: Fraction(settings.get(key, default))
     nodes = Nodes((passes(min(posts)), passes(max(posts))) if posts else (1, 1), of('callTimeoutMillis', 2000) / 1000,
                   of('monitorPeriodMillis', 5000) / 1000, of('gracePeriodMillis', 40000) / 1000, of('nodeLeaseDurationSeconds', 40),
-                  settings.get('primaryRate', 100), are_posted=bool(kubelets))
+                  settings.get('primaryRate', 100), are_posted=bool(kubelets), has_work=settings.get('readyMillis', 0) > 0,
+                  has_own_evictions=settings.get('evictFrom', 'added') == 'added' and settings.get('evictBurst', 0) == 0)
     margin = test_lens.Reference(doc)
     waited = lambda one: min(each.lease for each in everyone) if by_own else one.lease
     safe = all(waited(one) * 1000 > margin.bound(place, 0) for place, one in enumerate(everyone))
@@ -377,6 +383,9 @@ def with_nodes(dice, doc):
             settings[key] = dice.choice(values)
     if 'primaryRate' in settings:
         settings['secondaryRate'] = 0
+    for key, values in (('evictFrom', ('added', 'seen')), ('evictBurst', (0, 1, 30)), ('evictRate', (0, 20000)), ('readyMillis', (0, 1, 100)), ('readyBurst', (0, 15))):
+        if doc['version'] == 4 and dice.random() < 0.2:
+            settings[key] = dice.choice(values)
     for one in doc['controllers']:
         if doc['version'] == 4 and dice.random() < 0.6:
             one['waits'] = [dice.choice((1000, 2200, dice.randint(1000, 2200))) for _ in range(dice.randint(1, 4))]

@@ -102,6 +102,14 @@ stays
 '''
 
 
+# Where passes take time nothing of nodes is told, and of pods nothing where they are due by what is seen, or go within a limit.
+NODES = ['node unknown at-least=35100ms at-most=49900ms', 'node tainted ahead=0 at-least=35100ms at-most=59900ms at-most-with-token=49900ms']
+NO_PODS = ['pods gone toleration=30s none', 'pods gone toleration=0s none']
+UNBOUND = [({'readyMillis': 1}, ['node unknown none', 'node tainted ahead=0 none'], NO_PODS), ({'evictFrom': 'seen'}, NODES, NO_PODS),
+           ({'evictBurst': 30}, NODES, NO_PODS),
+           ({'readyBurst': 15, 'evictRate': 0, 'evictFrom': 'added', 'evictBurst': 0}, NODES, [line for line in LINES.splitlines() if line.startswith('pods ')])]
+
+
 def answer(program, words, text=''):
     ran = subprocess.run([program, 'bounds', *words], input=text, stdout=subprocess.PIPE, text=True, check=False)
     return ran.returncode, ran.stdout
@@ -134,6 +142,11 @@ def main():
               'c1 calm leads at-most=19800ms stays-from at-most=30200ms', 'node unknown none', 'node tainted ahead=0 none', 'stays']
     if alone != (0, '\n'.join(wanted) + '\n'):
         wrong.append(alone)
+    for settings, nodes, pods in UNBOUND:
+        found = answer(program, [], json.dumps({**DOCUMENT, 'version': 4, 'settings': {'endBeat': 100, **settings}}))
+        lines = [line for line in LINES.splitlines() if not line.startswith(('node ', 'pods '))]
+        if found != (0, '\n'.join(lines[:-1] + nodes + pods + lines[-1:]) + '\n'):
+            wrong.append((settings, found))
     print(f'{len(wrong)} differ', *wrong[:3], sep='\n')
     sys.exit(1 if wrong else 0)
 

@@ -12,8 +12,8 @@ import os
 import lens_frame
 import test_lens_trace
 
-KINDS = ('start', 'crash', 'stop', 'end', 'pause', 'lead', 'create-election', 'update-election', 'nodelease', 'status', 'put', 'remove', 'unknown',
-         'mode', 'zone', 'taint', 'swap', 'untaint', 'evict')
+KINDS = ('start', 'crash', 'stop', 'end', 'pause', 'stall', 'lead', 'create-election', 'update-election', 'nodelease', 'status', 'put', 'remove',
+         'unknown', 'mode', 'zone', 'taint', 'swap', 'untaint', 'evict')
 NODES = ('n1', 'n2', 'n3.example')
 ANSWERS = ('v=3', 'v=18446744073709551615', 'conflict v=12', 'absent')
 
@@ -40,7 +40,7 @@ def line(dice):
         (kubelet, dice.choice(('start', 'crash', 'pause beats=3', f'create nodelease {node} v=3', f'create nodelease {node} exists',
                                f'update nodelease {node} conflict v=8', f'update nodelease {node} absent'))),
         (kubelet, f'status {node} {dice.choice(("True", "False"))} {dice.choice(("v=3", "absent"))}'),
-        ('script', dice.choice(('put pod/default/web v=8', f'put node/{node} v=9', 'remove lease/default/db v=10')))))
+        ('script', dice.choice(('put pod/default/web v=8', f'put node/{node} v=9', 'remove lease/default/db v=10', 'stall beats=7')))))
 
 
 def trace(dice):
@@ -139,7 +139,7 @@ def kind(says):
 
 def answer(says):
     """How what a line writes was answered, or `-`."""
-    if kind(says) in ('start', 'crash', 'stop', 'end', 'pause', 'lead', 'mode', 'zone'):
+    if kind(says) in ('start', 'crash', 'stop', 'end', 'pause', 'stall', 'lead', 'mode', 'zone'):
         return '-'
     return next(word for word in ('conflict', 'absent', 'exists', 'written') if word == 'written' or word in says[1:])
 

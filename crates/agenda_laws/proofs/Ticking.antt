@@ -1,10 +1,10 @@
 -- What a tick adds something for.
-use Rattle.std.proofs.Common.{◌≡◌, ◌↔◌, ◌⊎◌, ℕ, zero, suc, ◌+◌, ◌-◌, ◌*◌, ◌<◌, ◌≤◌, ◌==◌, ◌&&◌, ◌||◌, nat_lt, nat_le, Bool, true, false, cond, List, [], ◌∷◌, Option, Some, None, refl, sym, ap, ◌∙◌, subst, inl, inr, arith}
+use Rattle.std.proofs.Common.{◌≡◌, ◌↔◌, ◌⊎◌, ℕ, zero, suc, ◌+◌, ◌-◌, ◌*◌, ◌<◌, ◌≤◌, ◌==◌, ◌&&◌, ◌||◌, max, nat_lt, nat_le, Bool, true, false, cond, List, [], ◌∷◌, Option, Some, None, refl, sym, ap, ◌∙◌, subst, inl, inr, ⊎_elim, arith}
 use Rattle.std.specs.Prelude.{if◌then◌else◌}
 use Rattle.std.specs.Int.{div_ceil}
 use Rattle.std.specs.List.{list_any}
 use Rattle.std.proofs.Math.Nat.{mul-le-mul_right}
-use Rattle.std.proofs.lemmas.Bool.{cases_lt, eqb-true, leb-false, ltb-true, lt-ltb, lt-leb}
+use Rattle.std.proofs.lemmas.Bool.{cases_lt, eqb-true, leb-false, le-leb, ltb-true, lt-ltb, lt-leb}
 use Rattle.std.proofs.lemmas.Bool.Decides.{nat_tests}
 use Rattle.std.proofs.lemmas.Grind.{div_ceil_times}
 use Rattle.kube_base.specs.declared.numbers.Version.{Version}
@@ -14,31 +14,36 @@ use Rattle.kube_objects.specs.declared.node.ZoneState.{ZoneState}
 use Rattle.kube_objects.specs.declared.pod.Due.{Due}
 use Rattle.kube_objects.specs.declared.pod.Due.TheVariants.{Never, At}
 use Rattle.kube_objects.specs.declared.pod.Pod.{Pod}
+use Rattle.kube_objects.specs.declared.rules.EvictRule.{EvictRule}
+use Rattle.kube_objects.specs.declared.rules.EvictRule.TheVariants as evictions
 use Rattle.kube_objects.specs.Clocks.{local, wall}
+use Rattle.kube_objects.specs.Deletes.{no_version}
 use Rattle.kube_objects.specs.Document.{Doc, of_millis}
 use Rattle.kube_objects.specs.Elector.{led_at}
-use Rattle.kube_objects.specs.Entry.{Entry, Identity, Place, Pass, Sync, Mode, Zone}
-use Rattle.kube_objects.specs.Health.{mark_of, last_pass, is_after_pass, is_pass_due}
+use Rattle.kube_objects.specs.Entry.{Entry, Identity, Place, Pass, Sync, Mode, Zone, Delete}
+use Rattle.kube_objects.specs.Health.{mark_of, last_pass, pass_period, is_after_pass, is_pass_due}
 use Rattle.kube_objects.specs.Modes.{nodes, places, mode, state_in, rate_in, all_full}
 use Rattle.kube_objects.specs.Newest.{only_if, has}
 use Rattle.kube_objects.specs.Seen.{seen_node, seen_pod, is_synced, is_stale, node_names, pod_keys}
+use Rattle.kube_objects.specs.Sightings.{sighted_due}
 use Rattle.kube_objects.specs.Stored.{node_key}
 use Rattle.kube_objects.specs.Tainting.{Wants, Nothing, Wanted, Whatever, wants, has_condition, is_opposite, lacks_in, waits, Queued, queued, queued_as, first, head_of}
-use Rattle.kube_objects.specs.Tick.{add, has_settled, sync, is_stripped, mark_as, mark_seen, mark, marks, is_same_mode, set_mode, zone, set_zones, pass, clean_as, clean_seen, clean, taint_as, taint_head, taint, evict_due, evict_on, evict_seen, evict, tick, whole_pass, add_untaint, add_swap, taint_first, add_delete}
+use Rattle.kube_objects.specs.Tick.{add, has_settled, sync, is_stripped, mark_as, mark_seen, mark, marks, is_same_mode, set_mode, zone, set_zones, pass, clean_as, clean_seen, clean, taint_as, taint_head, taint, evict_due, evict_on, evict_seen, evict_sighted, evict_by, evict, evict_within, evicted, tick, whole_pass, add_untaint, add_swap, taint_first, add_delete, for_each, due_on_seen, due_seen as in_cache, due_by, insert_due, and_due, dues, has_room, spends}
 use Rattle.kube_objects.specs.Tokens.{Rated, rated, is_rated, base, token_size, is_grown, has_token}
 use Rattle.kube_objects.specs.Tolerations.{due}
+use Rattle.kube_objects.specs.Tries.{try_delete_alone}
 use Rattle.history_laws.specs.Tails.{IsTail}
 use Rattle.history_laws.proofs.Plainly.{true_is, false_is, some_is, none_is}
 use Rattle.history_laws.proofs.Tailed.{tail_all, tail_trans}
 use Rattle.agenda_laws.specs.Parts.{IsStillSynced}
 use Rattle.agenda_laws.specs.Standing.{Among}
-use Rattle.agenda_laws.specs.Ticking.{is_sync_due, is_sync_at_once, sync_at, IsEarlySync, SyncsWake, synced_reading, is_unclean, is_unclean_seen, is_clean_due, CleansWake, pass_after, pass_at, PassesWake, token_after, token_at, head_at, HeadsWake, heads_at, time_of, due_on, due_seen, due_at, DeletesWake, dues_at, IsEarlyTick, TicksWake}
+use Rattle.agenda_laws.specs.Ticking.{is_sync_due, is_sync_at_once, sync_at, IsEarlySync, SyncsWake, synced_reading, is_unclean, is_unclean_seen, is_clean_due, CleansWake, pass_after, pass_at, PassesWake, token_after, token_at, head_at, HeadsWake, heads_at, time_of, due_on, due_seen, due_sighted, due_at_by, due_at, DeletesWake, dues_at, later, room_after, room_from, RoomsWake, room_at, IsEarlyTick, TicksWake}
 use Rattle.agenda_laws.specs.Times.{is_early, sooner}
 use Rattle.agenda_laws.proofs.Between.{longer, grew, each_adds, each_still, still_each, or_none, none_or, and_none, none_and, sooner_both, both_sooner}
 use Rattle.agenda_laws.proofs.Parts.{ticks_add_by_parts}
 use Rattle.agenda_laws.proofs.Times.{Waits, never}
 use Rattle.kube_objects.specs.Own.{IsOwn}
-use Rattle.kube_objects.proofs.Own.{pass_period-own, cleaned-own, tainted-own, has_token-own, evict-own, evicted-own}
+use Rattle.kube_objects.proofs.Own.{cleaned-own, tainted-own, has_token-own}
 
 -- what adds nothing exactly where a test fails
 abbrev Needs : List Entry → List Entry → Bool → Type 0
@@ -119,6 +124,69 @@ pub grown_waits : (reads from : ℕ) (o : Option Rated) → is_grown (reads - fr
 grown_waits reads from None = (λ is. refl, λ is. refl)
 grown_waits reads from (Some x) = grown_by token_size reads from x.1 token_some (x.1 == 0) refl
 
+-- ---- a further delete within the limit
+
+zero_never : (reads : ℕ) → nat_lt reads 0 ≡ false
+zero_never reads = grind (arith, nat_tests)
+
+later_early : (reads : ℕ) (a b : Option ℕ) (x y : Bool) → (x ≡ false ↔ is_early reads a ≡ true) → (y ≡ false ↔ is_early reads b ≡ true) → (x && y) ≡ false ↔ is_early reads (later a b) ≡ true
+later_early reads a b x y one other = (λ is. by_left x y a b one.0 other.0 is, λ is. by_right x y a b one.1 other.1 is)
+  where
+    most : (m n : ℕ) → (nat_lt reads m ≡ true) ⊎ (nat_lt reads n ≡ true) → nat_lt reads (max m n) ≡ true
+    most m n (inl is) = grind (arith, nat_tests)
+    most m n (inr is) = grind (arith, nat_tests)
+
+    of_most : (m n : ℕ) → nat_lt reads (max m n) ≡ true → (nat_lt reads m ≡ true) ⊎ (nat_lt reads n ≡ true)
+    of_most m n is = by_first (nat_lt reads m) refl
+      where
+        by_first : (t : Bool) → nat_lt reads m ≡ t → (t ≡ true) ⊎ (nat_lt reads n ≡ true)
+        by_first true first = inl refl
+        by_first false first = inr (grind (arith, nat_tests))
+
+    one_of : (a b : Option ℕ) → (is_early reads a ≡ true) ⊎ (is_early reads b ≡ true) → is_early reads (later a b) ≡ true
+    one_of None b is = refl
+    one_of (Some m) None is = refl
+    one_of (Some m) (Some n) is = most m n is
+
+    of_one : (a b : Option ℕ) → is_early reads (later a b) ≡ true → (is_early reads a ≡ true) ⊎ (is_early reads b ≡ true)
+    of_one None b is = inl refl
+    of_one (Some m) None is = inr refl
+    of_one (Some m) (Some n) is = of_most m n is
+
+    by_left : (x y : Bool) (a b : Option ℕ) → (x ≡ false → is_early reads a ≡ true) → (y ≡ false → is_early reads b ≡ true) → (x && y) ≡ false → is_early reads (later a b) ≡ true
+    by_left true y a b one other is = one_of a b (inr (other is))
+    by_left false y a b one other is = one_of a b (inl (one refl))
+
+    by_right : (x y : Bool) (a b : Option ℕ) → (is_early reads a ≡ true → x ≡ false) → (is_early reads b ≡ true → y ≡ false) → is_early reads (later a b) ≡ true → (x && y) ≡ false
+    by_right true y a b one other is = ⊎_elim (λ first. absurd (true_is (one first))) (λ second. other second) (of_one a b is)
+    by_right false y a b one other is = refl
+
+room_waits : (reads from owed rate : ℕ) → nat_le owed ((reads - from) * rate) ≡ false ↔ is_early reads (room_after from owed rate) ≡ true
+room_waits reads from zero rate = (λ is. absurd (true_is (sym (le-leb 0 ((reads - from) * rate) (omega arith)) ∙ is)), λ is. absurd (false_is (sym (zero_never reads) ∙ is)))
+room_waits reads from (suc owed) rate = grown_by (suc owed) reads from rate (omega arith) (rate == 0) refl
+
+rooms_wait : RoomsWake
+rooms_wait doc k q after [] = (λ is. absurd (true_is is), λ is. absurd (false_is (sym (zero_never (local doc q.process k)) ∙ is)))
+rooms_wait doc k q after (e ∷ h) = by_spent (rooms_wait doc k q after h) (rooms_wait doc k q (after + 1) h) (spends q e.actor e.fact)
+  where
+    at : ℕ
+    at = local doc q.process e.beat
+
+    owed : ℕ
+    owed = (after + 2 - doc.settings.rules.evict_burst) * token_size
+
+    Wakes : ℕ → Type 0
+    Wakes after = has_room doc q k after h ≡ false ↔ is_early (local doc q.process k) (room_from doc q after h) ≡ true
+
+    by_spent : Wakes after → Wakes (after + 1) → (b : Bool)
+        → elim b [ true ↦ nat_le owed ((local doc q.process k - at) * doc.settings.rules.evict_rate) && has_room doc q k (after + 1) h | false ↦ has_room doc q k after h ] ≡ false
+        ↔ is_early (local doc q.process k) (elim b [ true ↦ later (room_after at owed doc.settings.rules.evict_rate) (room_from doc q (after + 1) h) | false ↦ room_from doc q after h ]) ≡ true
+    by_spent same more false = same
+    by_spent same more true =
+        later_early (local doc q.process k) (room_after at owed doc.settings.rules.evict_rate) (room_from doc q (after + 1) h)
+        (nat_le owed ((local doc q.process k - at) * doc.settings.rules.evict_rate)) (has_room doc q k (after + 1) h)
+        (room_waits (local doc q.process k) at owed doc.settings.rules.evict_rate) more
+
 -- ---- the heads of all zones
 
 -- before the soonest is before each
@@ -165,7 +233,6 @@ module _ (doc : Doc) (k : ℕ) (q : Identity) where
         λ s. needs.1 (tells.1 (s.at_once, s.reading)),
       )
 
-module _ (doc : Doc) (own : IsOwn doc) (k : ℕ) (q : Identity) where
   -- the pass
 
   mark_as_adds : (name : ℕ) (given : Version) (o : Option Node) (h : List Entry) → IsTail h (mark_as k q name given o h)
@@ -206,17 +273,260 @@ module _ (doc : Doc) (own : IsOwn doc) (k : ℕ) (q : Identity) where
   pass_needs true h = (λ is. absurd (longer _ h (if true then whole_pass doc k q h else h) (pass_on h) is), λ is. absurd (true_is is))
   pass_needs false h = idle h
 
-  pass_is : (o : Option ℕ) → is_after_pass doc k q (of_millis doc.settings.monitor_period_millis) o ≡ false ↔ nat_lt (local doc q.process k) (pass_after doc q o) ≡ true
-  pass_is None = (λ is. absurd (true_is is), λ is. grind (arith, nat_tests))
-  pass_is (Some last) = (λ is. grind (arith, nat_tests), λ is. grind (arith, nat_tests))
+  pass_is : (period : ℕ) (o : Option ℕ) → is_after_pass doc k q period o ≡ false ↔ nat_lt (local doc q.process k) (pass_after doc q period o) ≡ true
+  pass_is period None = (λ is. absurd (true_is is), λ is. grind (arith, nat_tests))
+  pass_is period (Some last) = (λ is. grind (arith, nat_tests), λ is. grind (arith, nat_tests))
 
   pass_waits : (h : List Entry) → Waits (pass doc k q h) h (is_early (local doc q.process k) (pass_at doc q h))
   pass_waits h =
       let needs = pass_needs (is_pass_due doc k q h) h in
-      let tells = pass_is (last_pass q h) in
-      let same : is_pass_due doc k q h ≡ is_after_pass doc k q (of_millis doc.settings.monitor_period_millis) (last_pass q h) = ap (λ n. is_after_pass doc k q n (last_pass q h)) (pass_period-own doc own q h) in
-      (λ is. tells.0 (sym same ∙ needs.0 is), λ is. needs.1 (same ∙ tells.1 is))
+      let tells = pass_is (pass_period doc q h) (last_pass q h) in
+      (λ is. tells.0 (needs.0 is), λ is. needs.1 (tells.1 is))
 
+-- ---- deletes
+
+module _ (doc : Doc) (k : ℕ) (q : Identity) where
+  delete_none : (pod : Key) (given : Version) (node : ℕ) (node_given : Version) (at : ℕ) (b : Bool) (h : List Entry) → Needs (if b then add_delete k q pod given node node_given at h else h) h b
+  delete_none pod given node node_given at true h = busy _ h
+  delete_none pod given node node_given at false h = idle h
+
+  evict_due_waits : (pod : Key) (given : Version) (node : ℕ) (node_given : Version) (o : Due) (h : List Entry) → Waits (evict_due doc k q pod given node node_given o h) h (is_early (wall doc q.process k) (time_of o))
+  evict_due_waits pod given node node_given Never h = never h
+  evict_due_waits pod given node node_given (At at) h =
+      let needs = delete_none pod given node node_given at (nat_le at (wall doc q.process k)) h in
+      let tells = due_is at (wall doc q.process k) in
+      (λ is. tells.0 (needs.0 is), λ is. needs.1 (tells.1 is))
+
+  evict_on_waits : (pod : Key) (x : Version × Pod) (o : Option (Version × Node)) (h : List Entry) → Waits (evict_on doc k q pod x o h) h (is_early (wall doc q.process k) (due_on x.1 o))
+  evict_on_waits pod x None h = never h
+  evict_on_waits pod x (Some y) h = evict_due_waits pod x.0 x.1.node y.0 (due x.1 y.1) h
+
+  evict_seen_waits : (pod : Key) (stale : Bool) (o : Option (Version × Pod)) (h : List Entry) → Waits (evict_seen doc k q pod stale o h) h (is_early (wall doc q.process k) (due_seen q stale o h))
+  evict_seen_waits pod true o h = never h
+  evict_seen_waits pod false None h = never h
+  evict_seen_waits pod false (Some x) h = evict_on_waits pod x (seen_node q x.1.node h) h
+
+  sighted_none : (pod : Key) (x : Version × Pod) (at : ℕ) (b : Bool) (h : List Entry) → Needs (if b then add k q (Delete pod x.0 no_version at (try_delete_alone q pod x.0 h)) h else h) h b
+  sighted_none pod x at true h = busy _ h
+  sighted_none pod x at false h = idle h
+
+  sighted_waits : (pod : Key) (stale : Bool) (o : Option (Version × Pod)) (d : Due) (h : List Entry) → Waits (evict_sighted doc k q pod stale o d h) h (is_early (wall doc q.process k) (due_sighted stale o d))
+  sighted_waits pod true o d h = never h
+  sighted_waits pod false None d h = never h
+  sighted_waits pod false (Some x) Never h = never h
+  sighted_waits pod false (Some x) (At at) h =
+      let needs = sighted_none pod x at (nat_le at (wall doc q.process k)) h in
+      let tells = due_is at (wall doc q.process k) in
+      (λ is. tells.0 (needs.0 is), λ is. needs.1 (tells.1 is))
+
+  evict_waits : (pod : Key) (h : List Entry) → Waits (evict doc k q pod h) h (is_early (wall doc q.process k) (due_at doc q pod h))
+  evict_waits pod h = by_rule doc.settings.rules.evict_from
+    where
+      by_rule : (rule : EvictRule) → Waits (evict_by rule doc k q pod h) h (is_early (wall doc q.process k) (due_at_by rule doc q pod h))
+      by_rule evictions.Added = evict_seen_waits pod (is_stale q pod h) (seen_pod q pod h) h
+      by_rule evictions.Seen = sighted_waits pod (is_stale q pod h) (seen_pod q pod h) (sighted_due doc q pod h) h
+
+  delete_adds : (pod : Key) (given : Version) (node : ℕ) (node_given : Version) (at : ℕ) (b : Bool) (h : List Entry) → IsTail h (if b then add_delete k q pod given node node_given at h else h)
+  delete_adds pod given node node_given at true h = inr (tail_all h)
+  delete_adds pod given node node_given at false h = tail_all h
+
+  evict_due_adds : (pod : Key) (given : Version) (node : ℕ) (node_given : Version) (o : Due) (h : List Entry) → IsTail h (evict_due doc k q pod given node node_given o h)
+  evict_due_adds pod given node node_given Never h = tail_all h
+  evict_due_adds pod given node node_given (At at) h = delete_adds pod given node node_given at (nat_le at (wall doc q.process k)) h
+
+  evict_on_adds : (pod : Key) (x : Version × Pod) (o : Option (Version × Node)) (h : List Entry) → IsTail h (evict_on doc k q pod x o h)
+  evict_on_adds pod x None h = tail_all h
+  evict_on_adds pod x (Some y) h = evict_due_adds pod x.0 x.1.node y.0 (due x.1 y.1) h
+
+  evict_seen_adds : (pod : Key) (stale : Bool) (o : Option (Version × Pod)) (h : List Entry) → IsTail h (evict_seen doc k q pod stale o h)
+  evict_seen_adds pod true o h = tail_all h
+  evict_seen_adds pod false None h = tail_all h
+  evict_seen_adds pod false (Some x) h = evict_on_adds pod x (seen_node q x.1.node h) h
+
+  evict_adds : (pod : Key) (h : List Entry) → IsTail h (evict doc k q pod h)
+  evict_adds pod h = by_rule doc.settings.rules.evict_from
+    where
+      by_test : (x : Version × Pod) (at : ℕ) (b : Bool) → IsTail h (if b then add k q (Delete pod x.0 no_version at (try_delete_alone q pod x.0 h)) h else h)
+      by_test x at true = inr (tail_all h)
+      by_test x at false = tail_all h
+
+      by_sight : (stale : Bool) (o : Option (Version × Pod)) (d : Due) → IsTail h (evict_sighted doc k q pod stale o d h)
+      by_sight true o d = tail_all h
+      by_sight false None d = tail_all h
+      by_sight false (Some x) Never = tail_all h
+      by_sight false (Some x) (At at) = by_test x at (nat_le at (wall doc q.process k))
+
+      by_rule : (rule : EvictRule) → IsTail h (evict_by rule doc k q pod h)
+      by_rule evictions.Added = evict_seen_adds pod (is_stale q pod h) (seen_pod q pod h) h
+      by_rule evictions.Seen = by_sight (is_stale q pod h) (seen_pod q pod h) (sighted_due doc q pod h)
+
+  within_adds : (x : ℕ × Key) (h : List Entry) → IsTail h (evict_within doc k q x h)
+  within_adds x h = by_room (has_room doc q k 0 h)
+    where
+      by_room : (b : Bool) → IsTail h (if b then evict doc k q x.1 h else h)
+      by_room true = evict_adds x.1 h
+      by_room false = tail_all h
+
+  -- before the soonest is before each
+  dues_early : (reads : ℕ) (xs : List Key) (h : List Entry) → is_early reads (dues_at doc q xs h) ≡ true → (pod : Key) → Among pod xs → is_early reads (due_at doc q pod h) ≡ true
+  dues_early reads [] h is pod at = absurd at
+  dues_early reads (x ∷ xs) h is pod (inl same) = subst (λ z. is_early reads (due_at doc q z h) ≡ true) (sym same) (sooner_both reads (due_at doc q x h) (dues_at doc q xs h) is).0
+  dues_early reads (x ∷ xs) h is pod (inr at) = dues_early reads xs h (sooner_both reads (due_at doc q x h) (dues_at doc q xs h) is).1 pod at
+
+  early_dues : (reads : ℕ) (xs : List Key) (h : List Entry) → ((pod : Key) → Among pod xs → is_early reads (due_at doc q pod h) ≡ true) → is_early reads (dues_at doc q xs h) ≡ true
+  early_dues reads [] h each = refl
+  early_dues reads (x ∷ xs) h each = both_sooner reads (due_at doc q x h) (dues_at doc q xs h) (each x (inl refl)) (early_dues reads xs h (λ pod at. each pod (inr at)))
+
+  -- ---- the deletes of all pods
+
+  -- a due is that of a pod, and each pod that is due ever has one
+  insert_from : (at : ℕ) (pod : Key) (ys : List (ℕ × Key)) (x : ℕ × Key) → Among x (insert_due at pod ys) → (x.1 ≡ pod) ⊎ Among x ys
+  insert_from at pod [] x (inl is) = inl (ap (λ (x : ℕ × Key). x.1) is)
+  insert_from at pod [] x (inr mine) = absurd mine
+  insert_from at pod (y ∷ ys) x mine = by_order (insert_from at pod ys x) (nat_le at y.0) mine
+    where
+      by_order : (Among x (insert_due at pod ys) → (x.1 ≡ pod) ⊎ Among x ys) → (b : Bool) → Among x (elim b [ true ↦ (at, pod) ∷ y ∷ ys | false ↦ y ∷ insert_due at pod ys ]) → (x.1 ≡ pod) ⊎ Among x (y ∷ ys)
+      by_order later true (inl is) = inl (ap (λ (x : ℕ × Key). x.1) is)
+      by_order later true (inr mine) = inr mine
+      by_order later false (inl is) = inr (inl is)
+      by_order later false (inr mine) = ⊎_elim (λ is. inl is) (λ mine. inr (inr mine)) (later mine)
+
+  insert_among : (at : ℕ) (pod : Key) (ys : List (ℕ × Key)) → Among (at, pod) (insert_due at pod ys)
+  insert_among at pod [] = inl refl
+  insert_among at pod (y ∷ ys) = by_order (insert_among at pod ys) (nat_le at y.0)
+    where
+      by_order : Among (at, pod) (insert_due at pod ys) → (b : Bool) → Among (at, pod) (elim b [ true ↦ (at, pod) ∷ y ∷ ys | false ↦ y ∷ insert_due at pod ys ])
+      by_order later true = inl refl
+      by_order later false = inr later
+
+  insert_keeps : (at : ℕ) (pod : Key) (ys : List (ℕ × Key)) (x : ℕ × Key) → Among x ys → Among x (insert_due at pod ys)
+  insert_keeps at pod [] x mine = absurd mine
+  insert_keeps at pod (y ∷ ys) x mine = by_order (insert_keeps at pod ys x) (nat_le at y.0) mine
+    where
+      by_order : (Among x ys → Among x (insert_due at pod ys)) → (b : Bool) → (x ≡ y) ⊎ Among x ys → Among x (elim b [ true ↦ (at, pod) ∷ y ∷ ys | false ↦ y ∷ insert_due at pod ys ])
+      by_order later true mine = inr mine
+      by_order later false (inl is) = inl is
+      by_order later false (inr mine) = inr (later mine)
+
+  dues_of_pods : (h : List Entry) (pods : List Key) (x : ℕ × Key) → Among x (dues doc q pods h) → Among x.1 pods
+  dues_of_pods h [] x mine = absurd mine
+  dues_of_pods h (pod ∷ pods) x mine = by_due (dues_of_pods h pods x) (due_by doc.settings.rules.evict_from doc q pod h) mine
+    where
+      by_due : (Among x (dues doc q pods h) → Among x.1 pods) → (d : Due) → Among x (and_due pod d (dues doc q pods h)) → (x.1 ≡ pod) ⊎ Among x.1 pods
+      by_due later Never mine = inr (later mine)
+      by_due later (At at) mine = ⊎_elim (λ is. inl is) (λ mine. inr (later mine)) (insert_from at pod (dues doc q pods h) x mine)
+
+  pods_of_dues : (h : List Entry) (pods : List Key) (pod : Key) (at : ℕ) → due_by doc.settings.rules.evict_from doc q pod h ≡ At at → Among pod pods → Among (at, pod) (dues doc q pods h)
+  pods_of_dues h [] pod at due mine = absurd mine
+  pods_of_dues h (p ∷ pods) pod at due (inl is) =
+      subst (λ p. Among (at, pod) (and_due p (due_by doc.settings.rules.evict_from doc q p h) (dues doc q pods h))) is
+      (subst (λ d. Among (at, pod) (and_due pod d (dues doc q pods h))) (sym due) (insert_among at pod (dues doc q pods h)))
+  pods_of_dues h (p ∷ pods) pod at due (inr mine) = by_due (pods_of_dues h pods pod at due mine) (due_by doc.settings.rules.evict_from doc q p h)
+    where
+      by_due : Among (at, pod) (dues doc q pods h) → (d : Due) → Among (at, pod) (and_due p d (dues doc q pods h))
+      by_due later Never = later
+      by_due later (At other) = insert_keeps other p (dues doc q pods h) (at, pod) later
+
+  -- a pod that is due never has no time
+  never_at : (pod : Key) (h : List Entry) → due_by doc.settings.rules.evict_from doc q pod h ≡ Never → due_at doc q pod h ≡ None
+  never_at pod h = by_rule doc.settings.rules.evict_from
+    where
+      by_node : (x : Version × Pod) (o : Option (Version × Node)) → due_on_seen x.1 o ≡ Never → due_on x.1 o ≡ None
+      by_node x None is = refl
+      by_node x (Some y) is = ap time_of is
+
+      by_pod : (stale : Bool) (o : Option (Version × Pod)) → in_cache q o h ≡ Never → due_seen q stale o h ≡ None
+      by_pod true o is = refl
+      by_pod false None is = refl
+      by_pod false (Some x) is = by_node x (seen_node q x.1.node h) is
+
+      by_sight : (stale : Bool) (o : Option (Version × Pod)) (d : Due) → d ≡ Never → due_sighted stale o d ≡ None
+      by_sight true o d is = refl
+      by_sight false None d is = refl
+      by_sight false (Some x) d is = ap time_of is
+
+      by_rule : (rule : EvictRule) → due_by rule doc q pod h ≡ Never → due_at_by rule doc q pod h ≡ None
+      by_rule evictions.Added is = by_pod (is_stale q pod h) (seen_pod q pod h) is
+      by_rule evictions.Seen is = by_sight (is_stale q pod h) (seen_pod q pod h) (sighted_due doc q pod h) is
+
+  early_never : (reads : ℕ) (o : Option ℕ) → o ≡ None → is_early reads o ≡ true
+  early_never reads o is = ap (is_early reads) is
+
+  abbrev IsEarlyDelete : List Entry → Type 0
+  IsEarlyDelete h = (is_early (wall doc q.process k) (dues_at doc q (pod_keys h) h) || is_early (local doc q.process k) (room_at doc q h)) ≡ true
+
+  or_left : (a b : Bool) → a ≡ true → (a || b) ≡ true
+  or_left a b is = ap (λ x. x || b) is
+
+  or_right : (a b : Bool) → b ≡ true → (a || b) ≡ true
+  or_right true b is = refl
+  or_right false b is = is
+
+  or_one : (a b : Bool) → (a || b) ≡ true → (a ≡ true) ⊎ (b ≡ true)
+  or_one true b is = inl refl
+  or_one false b is = inr is
+
+  -- within the limit each that is due is deleted
+  roomy_still : (h : List Entry) → has_room doc q k 0 h ≡ true → for_each (evict_within doc k q) (dues doc q (pod_keys h) h) h ≡ h → is_early (wall doc q.process k) (dues_at doc q (pod_keys h) h) ≡ true
+  roomy_still h room still = early_dues (wall doc q.process k) (pod_keys h) h (λ pod among. by_due pod among (due_by doc.settings.rules.evict_from doc q pod h) refl)
+    where
+      by_due : (pod : Key) → Among pod (pod_keys h) → (d : Due) → due_by doc.settings.rules.evict_from doc q pod h ≡ d → is_early (wall doc q.process k) (due_at doc q pod h) ≡ true
+      by_due pod among Never is = early_never (wall doc q.process k) (due_at doc q pod h) (never_at pod h is)
+      by_due pod among (At at) is =
+          let one = each_still (evict_within doc k q) within_adds (dues doc q (pod_keys h) h) h still (at, pod) (pods_of_dues h (pod_keys h) pod at is among) in
+          (evict_waits pod h).0 (subst (λ b. (if b then evict doc k q pod h else h) ≡ h) room one)
+
+  within_still : (h : List Entry) → (doc.settings.rules.evict_burst == 0) ≡ false → for_each (evict_within doc k q) (dues doc q (pod_keys h) h) h ≡ h → IsEarlyDelete h
+  within_still h limited still = by_room (has_room doc q k 0 h) refl
+    where
+      Time : Bool
+      Time = is_early (wall doc q.process k) (dues_at doc q (pod_keys h) h)
+
+      by_room : (b : Bool) → has_room doc q k 0 h ≡ b → IsEarlyDelete h
+      by_room true room = or_left Time (is_early (local doc q.process k) (room_at doc q h)) (roomy_still h room still)
+      by_room false room =
+          or_right Time (is_early (local doc q.process k) (room_at doc q h))
+          (subst (λ b. is_early (local doc q.process k) (cond b (Some 0) (room_from doc q 0 h)) ≡ true) (sym limited) ((rooms_wait doc k q 0 h).0 room))
+
+  still_within : (h : List Entry) → (doc.settings.rules.evict_burst == 0) ≡ false → IsEarlyDelete h → for_each (evict_within doc k q) (dues doc q (pod_keys h) h) h ≡ h
+  still_within h limited early = still_each (evict_within doc k q) (dues doc q (pod_keys h) h) h (λ x among. by_cause x among (or_one (is_early (wall doc q.process k) (dues_at doc q (pod_keys h) h)) (is_early (local doc q.process k) (room_at doc q h)) early))
+    where
+      by_test : (b : Bool) (x : ℕ × Key) → evict doc k q x.1 h ≡ h → (if b then evict doc k q x.1 h else h) ≡ h
+      by_test true x is = is
+      by_test false x is = refl
+
+      by_cause : (x : ℕ × Key) → Among x (dues doc q (pod_keys h) h) → (is_early (wall doc q.process k) (dues_at doc q (pod_keys h) h) ≡ true) ⊎ (is_early (local doc q.process k) (room_at doc q h) ≡ true) → evict_within doc k q x h ≡ h
+      by_cause x among (inl time) = by_test (has_room doc q k 0 h) x ((evict_waits x.1 h).1 (dues_early (wall doc q.process k) (pod_keys h) h time x.1 (dues_of_pods h (pod_keys h) x among)))
+      by_cause x among (inr room) =
+          let none : has_room doc q k 0 h ≡ false = (rooms_wait doc k q 0 h).1 (subst (λ b. is_early (local doc q.process k) (cond b (Some 0) (room_from doc q 0 h)) ≡ true) limited room) in
+          subst (λ b. (if b then evict doc k q x.1 h else h) ≡ h) (sym none) refl
+
+  evicted_still : (h : List Entry) → evicted doc k q h ≡ h ↔ IsEarlyDelete h
+  evicted_still h = by_limit (doc.settings.rules.evict_burst == 0) refl
+    where
+      Time : Bool
+      Time = is_early (wall doc q.process k) (dues_at doc q (pod_keys h) h)
+
+      Room : Bool → Bool
+      Room b = is_early (local doc q.process k) (cond b (Some 0) (room_from doc q 0 h))
+
+      free : (Time || Room true) ≡ true → Time ≡ true
+      free is = ⊎_elim (λ time. time) (λ room. absurd (false_is (sym (zero_never (local doc q.process k)) ∙ room))) (or_one Time (Room true) is)
+
+      Waited : Bool → Type 0
+      Waited b = elim b [ true ↦ for_each (evict doc k q) (pod_keys h) h | false ↦ for_each (evict_within doc k q) (dues doc q (pod_keys h) h) h ] ≡ h ↔ (Time || Room b) ≡ true
+
+      by_limit : (b : Bool) → (doc.settings.rules.evict_burst == 0) ≡ b → Waited b
+      by_limit true is = (
+        λ still. or_left Time (Room true) (early_dues (wall doc q.process k) (pod_keys h) h (λ pod at. (evict_waits pod h).0 (each_still (evict doc k q) evict_adds (pod_keys h) h still pod at))),
+        λ early. still_each (evict doc k q) (pod_keys h) h (λ pod at. (evict_waits pod h).1 (dues_early (wall doc q.process k) (pod_keys h) h (free early) pod at)),
+      )
+      by_limit false is = (
+        λ still. subst (λ b. (Time || Room b) ≡ true) is (within_still h is still),
+        λ early. still_within h is (subst (λ b. (Time || Room b) ≡ true) (sym is) early),
+      )
+
+module _ (doc : Doc) (own : IsOwn doc) (k : ℕ) (q : Identity) where
   -- untaints and swaps
 
   untaint_needs : (name : ℕ) (given : Version) (node : Node) (b : Bool) (h : List Entry) → Needs (if b then add_untaint k q name given node h else h) h b
@@ -344,87 +654,31 @@ module _ (doc : Doc) (own : IsOwn doc) (k : ℕ) (q : Identity) where
       let tells = both_wait (has_token doc q k place h) (has (head_of q place (node_names h) h)) (local doc q.process k) (token_at doc q place h) grown in
       (λ is. tells.0 (needs.0 is), λ is. needs.1 (tells.1 is))
 
-  -- deletes
-
-  delete_none : (pod : Key) (given : Version) (node : ℕ) (node_given : Version) (at : ℕ) (b : Bool) (h : List Entry) → Needs (if b then add_delete k q pod given node node_given at h else h) h b
-  delete_none pod given node node_given at true h = busy _ h
-  delete_none pod given node node_given at false h = idle h
-
-  evict_due_waits : (pod : Key) (given : Version) (node : ℕ) (node_given : Version) (o : Due) (h : List Entry) → Waits (evict_due doc k q pod given node node_given o h) h (is_early (wall doc q.process k) (time_of o))
-  evict_due_waits pod given node node_given Never h = never h
-  evict_due_waits pod given node node_given (At at) h =
-      let needs = delete_none pod given node node_given at (nat_le at (wall doc q.process k)) h in
-      let tells = due_is at (wall doc q.process k) in
-      (λ is. tells.0 (needs.0 is), λ is. needs.1 (tells.1 is))
-
-  evict_on_waits : (pod : Key) (x : Version × Pod) (o : Option (Version × Node)) (h : List Entry) → Waits (evict_on doc k q pod x o h) h (is_early (wall doc q.process k) (due_on x.1 o))
-  evict_on_waits pod x None h = never h
-  evict_on_waits pod x (Some y) h = evict_due_waits pod x.0 x.1.node y.0 (due x.1 y.1) h
-
-  evict_seen_waits : (pod : Key) (stale : Bool) (o : Option (Version × Pod)) (h : List Entry) → Waits (evict_seen doc k q pod stale o h) h (is_early (wall doc q.process k) (due_seen q stale o h))
-  evict_seen_waits pod true o h = never h
-  evict_seen_waits pod false None h = never h
-  evict_seen_waits pod false (Some x) h = evict_on_waits pod x (seen_node q x.1.node h) h
-
-  evict_waits : (pod : Key) (h : List Entry) → Waits (evict doc k q pod h) h (is_early (wall doc q.process k) (due_at q pod h))
-  evict_waits pod h =
-      subst (λ g. Waits g h (is_early (wall doc q.process k) (due_at q pod h))) (sym (evict-own doc own k q pod h)) (evict_seen_waits pod (is_stale q pod h) (seen_pod q pod h) h)
-
-  delete_adds : (pod : Key) (given : Version) (node : ℕ) (node_given : Version) (at : ℕ) (b : Bool) (h : List Entry) → IsTail h (if b then add_delete k q pod given node node_given at h else h)
-  delete_adds pod given node node_given at true h = inr (tail_all h)
-  delete_adds pod given node node_given at false h = tail_all h
-
-  evict_due_adds : (pod : Key) (given : Version) (node : ℕ) (node_given : Version) (o : Due) (h : List Entry) → IsTail h (evict_due doc k q pod given node node_given o h)
-  evict_due_adds pod given node node_given Never h = tail_all h
-  evict_due_adds pod given node node_given (At at) h = delete_adds pod given node node_given at (nat_le at (wall doc q.process k)) h
-
-  evict_on_adds : (pod : Key) (x : Version × Pod) (o : Option (Version × Node)) (h : List Entry) → IsTail h (evict_on doc k q pod x o h)
-  evict_on_adds pod x None h = tail_all h
-  evict_on_adds pod x (Some y) h = evict_due_adds pod x.0 x.1.node y.0 (due x.1 y.1) h
-
-  evict_seen_adds : (pod : Key) (stale : Bool) (o : Option (Version × Pod)) (h : List Entry) → IsTail h (evict_seen doc k q pod stale o h)
-  evict_seen_adds pod true o h = tail_all h
-  evict_seen_adds pod false None h = tail_all h
-  evict_seen_adds pod false (Some x) h = evict_on_adds pod x (seen_node q x.1.node h) h
-
-  evict_adds : (pod : Key) (h : List Entry) → IsTail h (evict doc k q pod h)
-  evict_adds pod h = subst (λ g. IsTail h g) (sym (evict-own doc own k q pod h)) (evict_seen_adds pod (is_stale q pod h) (seen_pod q pod h) h)
-
   -- ---- the tick
-
-  -- before the soonest is before each
-  dues_early : (reads : ℕ) (xs : List Key) (h : List Entry) → is_early reads (dues_at q xs h) ≡ true → (pod : Key) → Among pod xs → is_early reads (due_at q pod h) ≡ true
-  dues_early reads [] h is pod at = absurd at
-  dues_early reads (x ∷ xs) h is pod (inl same) = subst (λ z. is_early reads (due_at q z h) ≡ true) (sym same) (sooner_both reads (due_at q x h) (dues_at q xs h) is).0
-  dues_early reads (x ∷ xs) h is pod (inr at) = dues_early reads xs h (sooner_both reads (due_at q x h) (dues_at q xs h) is).1 pod at
-
-  early_dues : (reads : ℕ) (xs : List Key) (h : List Entry) → ((pod : Key) → Among pod xs → is_early reads (due_at q pod h) ≡ true) → is_early reads (dues_at q xs h) ≡ true
-  early_dues reads [] h each = refl
-  early_dues reads (x ∷ xs) h each = both_sooner reads (due_at q x h) (dues_at q xs h) (each x (inl refl)) (early_dues reads xs h (λ pod at. each pod (inr at)))
 
   -- of a synced tick
   record Early (h : List Entry) : Type 0 where
     clean : list_any (is_clean_due q h) (node_names h) ≡ false
     reading : is_early (local doc q.process k) (sooner (pass_at doc q h) (heads_at doc q (places (nodes q h)) h)) ≡ true
-    time : is_early (wall doc q.process k) (dues_at q (pod_keys h) h) ≡ true
+    time : (is_early (wall doc q.process k) (dues_at doc q (pod_keys h) h) || is_early (local doc q.process k) (room_at doc q h)) ≡ true
 
   still_early : (h : List Entry) → IsStillSynced doc k q h → Early h
   still_early h s =
       record {
         clean = none_any (is_clean_due q h) (node_names h) (λ name at. (clean_needs name h).0 (each_still (clean doc k q) clean_adds (node_names h) h (sym (cleaned-own doc own k q h) ∙ s.cleans) name at));
-        reading = both_sooner (local doc q.process k) (pass_at doc q h) (heads_at doc q (places (nodes q h)) h) ((pass_waits h).0 s.passes)
+        reading = both_sooner (local doc q.process k) (pass_at doc q h) (heads_at doc q (places (nodes q h)) h) ((pass_waits doc k q h).0 s.passes)
             (early_heads doc q (local doc q.process k) (places (nodes q h)) h (λ place at. (taint_waits place h).0 (each_still (taint doc k q) taint_adds (places (nodes q h)) h (sym (tainted-own doc own k q h) ∙ s.taints) place at)));
-        time = early_dues (wall doc q.process k) (pod_keys h) h (λ pod at. (evict_waits pod h).0 (each_still (evict doc k q) evict_adds (pod_keys h) h (sym (evicted-own doc own k q h) ∙ s.evicts) pod at));
+        time = (evicted_still doc k q h).0 s.evicts;
       }
 
   early_still : (h : List Entry) → Early h → IsStillSynced doc k q h
   early_still h s =
       let both = sooner_both (local doc q.process k) (pass_at doc q h) (heads_at doc q (places (nodes q h)) h) s.reading in
       record {
-        passes = (pass_waits h).1 both.0;
+        passes = (pass_waits doc k q h).1 both.0;
         cleans = cleaned-own doc own k q h ∙ still_each (clean doc k q) (node_names h) h (λ name at. (clean_needs name h).1 (any_none (is_clean_due q h) (node_names h) s.clean name at));
         taints = tainted-own doc own k q h ∙ still_each (taint doc k q) (places (nodes q h)) h (λ place at. (taint_waits place h).1 (heads_early doc q (local doc q.process k) (places (nodes q h)) h both.1 place at));
-        evicts = evicted-own doc own k q h ∙ still_each (evict doc k q) (pod_keys h) h (λ pod at. (evict_waits pod h).1 (dues_early (wall doc q.process k) (pod_keys h) h s.time pod at));
+        evicts = (evicted_still doc k q h).1 s.time;
       }
 
   only_early : (reads : ℕ) (b : Bool) (o : Option ℕ) → (b ≡ true → is_early reads o ≡ true) → is_early reads (only_if b o) ≡ true
@@ -435,6 +689,14 @@ module _ (doc : Doc) (own : IsOwn doc) (k : ℕ) (q : Identity) where
   early_only reads true o is yet = is
   early_only reads false o is yet = absurd (false_is yet)
 
+  only_early_or : (b : Bool) (o : Option ℕ) (other : Bool) → (b ≡ true → (is_early (wall doc q.process k) o || other) ≡ true) → (is_early (wall doc q.process k) (only_if b o) || other) ≡ true
+  only_early_or true o other is = is refl
+  only_early_or false o other is = refl
+
+  early_only_or : (b : Bool) (o : Option ℕ) (other : Bool) → (is_early (wall doc q.process k) (only_if b o) || other) ≡ true → b ≡ true → (is_early (wall doc q.process k) o || other) ≡ true
+  early_only_or true o other is yet = is
+  early_only_or false o other is yet = absurd (false_is yet)
+
   tick_early : (h : List Entry) → tick doc k q h ≡ h → IsEarlyTick doc k q h
   tick_early h is =
       let s = (ticks_add_by_parts doc k q h).0 is in
@@ -444,7 +706,7 @@ module _ (doc : Doc) (own : IsOwn doc) (k : ℕ) (q : Identity) where
             (none_and (is_synced q h) (list_any (is_clean_due q h) (node_names h)) (λ yet. (early yet).clean));
         reading = both_sooner (local doc q.process k) (sync_at doc q h) (synced_reading doc q h) ((sync_waits doc k q h).0 s.syncs).reading
             (only_early (local doc q.process k) (is_synced q h) (sooner (pass_at doc q h) (heads_at doc q (places (nodes q h)) h)) (λ yet. (early yet).reading));
-        time = only_early (wall doc q.process k) (is_synced q h) (dues_at q (pod_keys h) h) (λ yet. (early yet).time);
+        time = only_early_or (is_synced q h) (dues_at doc q (pod_keys h) h) (is_early (local doc q.process k) (room_at doc q h)) (λ yet. (early yet).time);
       }
 
   early_tick : (h : List Entry) → IsEarlyTick doc k q h → tick doc k q h ≡ h
@@ -456,7 +718,7 @@ module _ (doc : Doc) (own : IsOwn doc) (k : ℕ) (q : Identity) where
         synced = λ yet. early_still h (record {
           clean = and_none (is_synced q h) (list_any (is_clean_due q h) (node_names h)) parts.1 yet;
           reading = early_only (local doc q.process k) (is_synced q h) (sooner (pass_at doc q h) (heads_at doc q (places (nodes q h)) h)) readings.1 yet;
-          time = early_only (wall doc q.process k) (is_synced q h) (dues_at q (pod_keys h) h) s.time yet;
+          time = early_only_or (is_synced q h) (dues_at doc q (pod_keys h) h) (is_early (local doc q.process k) (room_at doc q h)) s.time yet;
         });
       })
 
@@ -464,7 +726,7 @@ pub syncs_wake : SyncsWake
 syncs_wake doc k q h = sync_waits doc k q h
 
 pub passes_wake : PassesWake
-passes_wake doc own k q h = pass_waits doc own k q h
+passes_wake doc k q h = pass_waits doc k q h
 
 pub cleans_wake : CleansWake
 cleans_wake doc own k q name h = clean_needs doc own k q name h
@@ -473,7 +735,10 @@ pub heads_wake : HeadsWake
 heads_wake doc own k q place h = taint_waits doc own k q place h
 
 pub deletes_wake : DeletesWake
-deletes_wake doc own k q pod h = evict_waits doc own k q pod h
+deletes_wake doc k q pod h = evict_waits doc k q pod h
+
+pub rooms_wake : RoomsWake
+rooms_wake doc k q after h = rooms_wait doc k q after h
 
 pub ticks_wake : TicksWake
 ticks_wake doc own k q h = (tick_early doc own k q h, early_tick doc own k q h)

@@ -1,6 +1,6 @@
--- What a leader's tick adds something for: at once, from a reading, or from a time of day; it is read from the history alone.
+-- What a leader's tick adds something for: at once, from a reading, or from a time of day and a reading; it is read from the history alone.
 -- Source: the node lifecycle controller of Kubernetes and its taint eviction controller; the profile.
-use Rattle.std.specs.Prelude.{◌≡◌, ◌↔◌, ℕ, ◌+◌, ◌==◌, ◌&&◌, ◌||◌, not, Bool, true, false, cond, List, [], ◌∷◌, Option, Some, None}
+use Rattle.std.specs.Prelude.{◌≡◌, ◌↔◌, ℕ, zero, suc, ◌+◌, ◌-◌, ◌*◌, ◌==◌, ◌&&◌, ◌||◌, max, not, Bool, true, false, cond, List, [], ◌∷◌, Option, Some, None}
 use Rattle.std.specs.Int.{div_ceil}
 use Rattle.std.specs.List.{list_any}
 use Rattle.kube_base.specs.declared.numbers.Version.{Version}
@@ -9,17 +9,20 @@ use Rattle.kube_objects.specs.declared.node.Node.{Node}
 use Rattle.kube_objects.specs.declared.pod.Due.{Due}
 use Rattle.kube_objects.specs.declared.pod.Due.TheVariants.{Never, At}
 use Rattle.kube_objects.specs.declared.pod.Pod.{Pod}
+use Rattle.kube_objects.specs.declared.rules.EvictRule.{EvictRule}
+use Rattle.kube_objects.specs.declared.rules.EvictRule.TheVariants as evictions
 use Rattle.kube_objects.specs.Clocks.{local, wall}
-use Rattle.kube_objects.specs.Document.{Doc, of_millis}
+use Rattle.kube_objects.specs.Document.{Doc}
 use Rattle.kube_objects.specs.Entry.{Entry, Identity, Place}
-use Rattle.kube_objects.specs.Health.{last_pass}
+use Rattle.kube_objects.specs.Health.{last_pass, pass_period}
 use Rattle.kube_objects.specs.InForce.{watches}
 use Rattle.kube_objects.specs.Modes.{nodes, places, mode}
 use Rattle.kube_objects.specs.Newest.{only_if, has}
 use Rattle.kube_objects.specs.Seen.{seen_node, seen_pod, is_fresh, is_synced, is_stale, node_names, pod_keys}
+use Rattle.kube_objects.specs.Sightings.{sighted_due}
 use Rattle.kube_objects.specs.Stored.{node_key}
 use Rattle.kube_objects.specs.Tainting.{Wants, Nothing, Wanted, Whatever, wants, has_condition, is_opposite, head_of}
-use Rattle.kube_objects.specs.Tick.{settles_at, sync, pass, clean, taint, evict, tick}
+use Rattle.kube_objects.specs.Tick.{settles_at, sync, pass, clean, taint, evict, has_room, spends, tick}
 use Rattle.kube_objects.specs.Tokens.{Rated, rated, base, token_size}
 use Rattle.kube_objects.specs.Tolerations.{due}
 use Rattle.agenda_laws.specs.Times.{is_early, sooner}
@@ -72,18 +75,17 @@ is_due_at_once doc q h = is_sync_at_once doc q h || (is_synced q h && list_any (
 
 -- ---- from a reading: the pass, and a token of a zone in which a node waits
 
--- the first pass is due at once
-abbrev pub pass_after : Doc → Identity → Option ℕ → ℕ
-pass_after doc q None = 0
-pass_after doc q (Some last) = local doc q.process last + of_millis doc.settings.monitor_period_millis
+-- the first pass is due at once, and another one a period after the last
+abbrev pub pass_after : Doc → Identity → (period : ℕ) → Option ℕ → ℕ
+pass_after doc q period None = 0
+pass_after doc q period (Some last) = local doc q.process last + period
 
+-- the period is the monitor's, and the last pass's work
 abbrev pub pass_at : Doc → Identity → List Entry → Option ℕ
-pass_at doc q h = Some (pass_after doc q (last_pass q h))
+pass_at doc q h = Some (pass_after doc q (pass_period doc q h) (last_pass q h))
 
 abbrev pub PassesWake : Type 0
-PassesWake =
-    (doc : Doc) → IsOwn doc → (k : ℕ) (q : Identity) (h : List Entry)
-    → pass doc k q h ≡ h ↔ is_early (local doc q.process k) (pass_at doc q h) ≡ true
+PassesWake = (doc : Doc) (k : ℕ) (q : Identity) (h : List Entry) → pass doc k q h ≡ h ↔ is_early (local doc q.process k) (pass_at doc q h) ≡ true
 
 -- at a rate of 0 there is never one; else the span in which it grows, rounded up
 abbrev pub token_after : ℕ → Option Rated → Option ℕ
@@ -107,7 +109,7 @@ abbrev pub heads_at : Doc → Identity → List Place → List Entry → Option 
 heads_at doc q [] h = None
 heads_at doc q (place ∷ places) h = sooner (head_at doc q place h) (heads_at doc q places h)
 
--- ---- from a time of day: the least due of the cache's pods
+-- ---- from a time of day, and within a limit from a reading: the least due of the cache's pods
 
 abbrev pub time_of : Due → Option ℕ
 time_of Never = None
@@ -123,18 +125,60 @@ due_seen q true x h = None
 due_seen q false None h = None
 due_seen q false (Some x) h = due_on x.1 (seen_node q x.1.node h)
 
--- when a pod is due that isn't stale and whose node the cache has
-abbrev pub due_at : Identity → Key → List Entry → Option ℕ
-due_at q pod h = due_seen q (is_stale q pod h) (seen_pod q pod h) h
+-- the same of a pod that is due by what the term has seen of it
+abbrev pub due_sighted : Bool → Option (Version × Pod) → Due → Option ℕ
+due_sighted true x due = None
+due_sighted false None due = None
+due_sighted false (Some x) due = time_of due
+
+abbrev pub due_at_by : EvictRule → Doc → Identity → Key → List Entry → Option ℕ
+due_at_by evictions.Added doc q pod h = due_seen q (is_stale q pod h) (seen_pod q pod h) h
+due_at_by evictions.Seen doc q pod h = due_sighted (is_stale q pod h) (seen_pod q pod h) (sighted_due doc q pod h)
+
+-- when a pod is due that isn't stale: by the taints of its node, where the cache has it, or by what the term has seen
+abbrev pub due_at : Doc → Identity → Key → List Entry → Option ℕ
+due_at doc q pod h = due_at_by doc.settings.rules.evict_from doc q pod h
 
 abbrev pub DeletesWake : Type 0
 DeletesWake =
-    (doc : Doc) → IsOwn doc → (k : ℕ) (q : Identity) (pod : Key) (h : List Entry)
-    → evict doc k q pod h ≡ h ↔ is_early (wall doc q.process k) (due_at q pod h) ≡ true
+    (doc : Doc) (k : ℕ) (q : Identity) (pod : Key) (h : List Entry)
+    → evict doc k q pod h ≡ h ↔ is_early (wall doc q.process k) (due_at doc q pod h) ≡ true
 
-abbrev pub dues_at : Identity → List Key → List Entry → Option ℕ
-dues_at q [] h = None
-dues_at q (pod ∷ pods) h = sooner (due_at q pod h) (dues_at q pods h)
+abbrev pub dues_at : Doc → Identity → List Key → List Entry → Option ℕ
+dues_at doc q [] h = None
+dues_at doc q (pod ∷ pods) h = sooner (due_at doc q pod h) (dues_at doc q pods h)
+
+-- the later of two
+abbrev pub later : Option ℕ → Option ℕ → Option ℕ
+later None other = None
+later (Some one) None = None
+later (Some one) (Some other) = Some (max one other)
+
+-- the least reading at which a rate has made up what is owed since another one; at a rate of 0 it never does
+abbrev pub room_after : (from owed rate : ℕ) → Option ℕ
+room_after from zero rate = Some 0
+room_after from (suc owed) rate = cond (rate == 0) None (Some (from + div_ceil (suc owed) rate))
+
+-- the least reading at which a further delete is within the limit, counted from each one that wasn't lost; after is how many came after these
+abbrev pub room_from : Doc → Identity → (after : ℕ) → List Entry → Option ℕ
+room_from doc q after [] = Some 0
+room_from doc q after (e ∷ h) =
+    elim (spends q e.actor e.fact) [
+      | true ↦
+          later
+          (room_after (local doc q.process e.beat) ((after + 2 - doc.settings.rules.evict_burst) * token_size) doc.settings.rules.evict_rate)
+          (room_from doc q (after + 1) h)
+      | false ↦ room_from doc q after h
+    ]
+
+abbrev pub RoomsWake : Type 0
+RoomsWake =
+    (doc : Doc) (k : ℕ) (q : Identity) (after : ℕ) (h : List Entry)
+    → has_room doc q k after h ≡ false ↔ is_early (local doc q.process k) (room_from doc q after h) ≡ true
+
+-- without a limit there is room at each reading
+abbrev pub room_at : Doc → Identity → List Entry → Option ℕ
+room_at doc q h = cond (doc.settings.rules.evict_burst == 0) (Some 0) (room_from doc q 0 h)
 
 -- ---- the tick
 
@@ -145,14 +189,14 @@ synced_reading doc q h = only_if (is_synced q h) (sooner (pass_at doc q h) (head
 abbrev pub term_reading : Doc → Identity → List Entry → Option ℕ
 term_reading doc q h = sooner (sync_at doc q h) (synced_reading doc q h)
 
-abbrev pub term_time : Identity → List Entry → Option ℕ
-term_time q h = only_if (is_synced q h) (dues_at q (pod_keys h) h)
+abbrev pub term_time : Doc → Identity → List Entry → Option ℕ
+term_time doc q h = only_if (is_synced q h) (dues_at doc q (pod_keys h) h)
 
 -- nothing of a tick's is due at beat k
 pub record IsEarlyTick (doc : Doc) (k : ℕ) (q : Identity) (h : List Entry) : Type 0 where
   pub at_once : is_due_at_once doc q h ≡ false
   pub reading : is_early (local doc q.process k) (term_reading doc q h) ≡ true
-  pub time : is_early (wall doc q.process k) (term_time q h) ≡ true
+  pub time : (is_early (wall doc q.process k) (term_time doc q h) || is_early (local doc q.process k) (room_at doc q h)) ≡ true
 
 abbrev pub TicksWake : Type 0
 TicksWake = (doc : Doc) → IsOwn doc → (k : ℕ) (q : Identity) (h : List Entry) → tick doc k q h ≡ h ↔ IsEarlyTick doc k q h

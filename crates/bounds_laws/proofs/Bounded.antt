@@ -119,6 +119,7 @@ module _ (doc : Doc) (lawful : IsLawfulDoc doc) where
       role = l.role;
       steady = steady doc lawful q.process l.role 0 (b - 1) l.own;
       others = λ p role other. steady doc lawful p role 0 e (l.others p role other);
+      goes = l.goes;
       within = l.within;
       long = l.long;
       acts = l.acts;
@@ -255,12 +256,12 @@ module _ (doc : Doc) (lawful : IsLawfulDoc doc) where
 
       module _ (stop : IsStopped doc b e q) (gives : GivesUp doc b e q) (h : Handover) (h_is : others (calm_of doc) q.process leader doc.controllers ≡ Some h) where
         stop_before : (k : ℕ) → IsLead doc b e q k → 4 ≤ k - b
-        stop_before k is = omega (arith, releases_last doc 1 far b e q leads_until bearing stop (released doc lawful b e q l.role gives) k is)
+        stop_before k is = omega (arith, releases_last doc 1 far b e q leads_until bearing stop (released doc lawful b e q l.role l.goes gives) k is)
 
         stop_by : (p n : ℕ) → IsOther doc b q p → b ≤ n → h.stop_most ≤ n - b → n ≤ e → IsFollowed doc b n e q
         stop_by p n o from le to =
             followed_later doc b (b + wait (calm_of doc) (at_place doc p o.role).proc + (6 * far - 1)) n e q by_n
-            (releases_are_followed doc 1 far b e q leads_until bearing stop (released doc lawful b e q l.role gives) (replies_come doc lawful q.process l.role (suc b) b (omega arith) l.awake)
+            (releases_are_followed doc 1 far b e q leads_until bearing stop (released doc lawful b e q l.role l.goes gives) (replies_come doc lawful q.process l.role (suc b) b (omega arith) l.awake)
             (others_renew_around doc lawful stays b e q) p (calm_of doc).slow (calm_of doc).fast (wait (calm_of doc) (at_place doc p o.role).proc) (rival p o) (wait_is doc lawful p o.role (some_slow doc lawful)) (omega (arith, by_n, to)))
           where
             by_n : b + wait (calm_of doc) (at_place doc p o.role).proc + (6 * far - 1) ≤ n

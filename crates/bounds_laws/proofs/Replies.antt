@@ -1,6 +1,7 @@
 -- Replies to a process that is awake come within the document's greatest delay, and so does the release of a stop.
-use Rattle.std.proofs.Common.{◌≡◌, ◌<◌, ◌≤◌, ℕ, suc, ◌+◌, ◌==◌, Bool, true, false, List, ◌∷◌, Option, Some, None, IfSome, refl, sym, ◌∙◌, subst, inr, ⊎_elim, arith}
+use Rattle.std.proofs.Common.{◌≡◌, ◌<◌, ◌≤◌, ℕ, suc, ◌+◌, ◌==◌, Bool, true, false, List, ◌∷◌, Option, Some, None, IfSome, refl, sym, subst, inr, ⊎_elim, arith}
 use Rattle.std.proofs.lemmas.Bool.{eqb-true}
+use Rattle.kube_objects.specs.declared.call.Reply.TheVariants.{Done}
 use Rattle.kube_objects.specs.declared.deed.Actor.{Actor}
 use Rattle.kube_objects.specs.declared.deed.Actor.TheVariants as actors
 use Rattle.kube_objects.specs.Document.{Doc, is_controller}
@@ -9,7 +10,8 @@ use Rattle.kube_objects.specs.Identities.{of_process}
 use Rattle.kube_objects.specs.Newest.{when, has, or_else}
 use Rattle.kube_objects.specs.Pauses.{pause_end, is_paused, resume, held_up}
 use Rattle.kube_objects.specs.Wire.{back_of, arrival, request_arrival, reply_arrival, request_delay, reply_delay, loses_requests, loses_replies}
-use Rattle.kube_objects.proofs.Stalls.{arrives_now}
+use Rattle.kube_objects.specs.Stalls.{is_stalled, awake, at_store}
+use Rattle.kube_objects.proofs.Stalls.{awake_now, awake_later}
 use Rattle.history.specs.History.{history}
 use Rattle.history_laws.specs.Tails.{IsTail}
 use Rattle.history_laws.proofs.Order.{entries_are_earlier}
@@ -113,8 +115,9 @@ module _ (doc : Doc) (lawful : IsLawfulDoc doc) (p : ℕ) (role : is_controller 
           (no_answer x.actor x.fact x.beat x.step place.before (are_made doc (sound-document doc lawful).2 m x place.before place.position) is)
 
 -- a release that arrives travels as the document's delays have it
-pub released : (doc : Doc) → IsLawfulDoc doc → (b e : ℕ) (q : Identity) → is_controller doc q.process ≡ true → GivesUp doc b e q → IsReleased doc 1 (far_of doc) b e q
-released doc lawful b e q role g = record {
+pub released : (doc : Doc) → IsLawfulDoc doc → (b e : ℕ) (q : Identity) → is_controller doc q.process ≡ true → ((k : ℕ) → k ≤ e → is_stalled doc k ≡ false) → GivesUp doc b e q
+    → IsReleased doc 1 (far_of doc) b e q
+released doc lawful b e q role goes g = record {
   call = g.call;
   at = g.at;
   kind = g.kind;
@@ -139,12 +142,25 @@ released doc lawful b e q role g = record {
     way : (1 ≤ request_delay q.process place.before) × (request_delay q.process place.before ≤ far_of doc)
     way = request_within doc lawful q.process role (suc b) place.before low
 
-    arrives : Some g.at ≡ arrival (loses_requests q.process place.before) b (request_delay q.process place.before)
+    arrives : Some g.at ≡ at_store doc (arrival (loses_requests q.process place.before) b (request_delay q.process place.before))
     arrives =
         (subst (λ o. IfSome o (λ s. (s.call.sent ≡ b) × (s.arrives ≡ request_arrival doc s.who.process b place.before))) (sent_is x q g.call (Some g.at) refl refl)
         (messages_travel doc (sound-document doc lawful).2 (suc b) x place.before place.position).0).1
-        ∙ arrives_now doc q.process b place.before (g.goes (b + request_delay q.process place.before) (omega arith) (omega (arith, way.1)))
 
-    by_loss : (lost : Bool) → Some g.at ≡ arrival lost b (request_delay q.process place.before) → (b + 1 ≤ g.at) × (g.at ≤ b + far_of doc)
+    at_by : g.at ≤ e
+    at_by =
+        ⊎_elim (λ lt. omega (arith, lt)) (λ first. absurd (omega (arith, first.1)))
+        (entries_are_earlier doc (suc e) (entry g.at 2 q (Answers g.call (Done g.version) g.comes (Some g.object))) g.accepted)
+
+    by_loss : (lost : Bool) → Some g.at ≡ at_store doc (arrival lost b (request_delay q.process place.before)) → (b + 1 ≤ g.at) × (g.at ≤ b + far_of doc)
     by_loss true is = absurd (none_is g.at (sym is))
-    by_loss false is = let same : g.at ≡ b + request_delay q.process place.before = some_is g.at (b + request_delay q.process place.before) is in (omega (arith, same, way.0), omega (arith, same, way.1))
+    by_loss false is = (omega (arith, woken, now, way.0), omega (arith, woken, now, way.1))
+      where
+        there : ℕ
+        there = b + request_delay q.process place.before
+
+        woken : g.at ≡ awake doc there
+        woken = some_is g.at (awake doc there) is
+
+        now : awake doc there ≡ there
+        now = awake_now doc there (goes there (omega (arith, woken, awake_later doc there, at_by)))

@@ -12,7 +12,7 @@ use Rattle.kube_objects.specs.Pauses.{is_paused}
 use Rattle.kube_objects.specs.Process.{alive}
 use Rattle.kube_objects.specs.Stalls.{is_stalled}
 use Rattle.kube_objects.specs.Stored.{election, key_of}
-use Rattle.kube_objects.specs.Wire.{loses_requests, loses_replies, request_delay, sent_of, back_of}
+use Rattle.kube_objects.specs.Wire.{loses_requests, loses_replies, sent_of, back_of}
 use Rattle.history.specs.History.{history, at_turn}
 use Rattle.history.specs.Safe.{Acts}
 use Rattle.history_laws.specs.Tails.{In}
@@ -26,13 +26,12 @@ use Rattle.lens_bounds.specs.Documents.{calm_of}
 abbrev pub far_of : Doc → ℕ
 far_of doc = (calm_of doc).far
 
--- with what is in force after a beat's events, none of a process's messages is lost, and it isn't paused; the store goes where a request
--- arrives that it sends then
+-- with what is in force after a beat's events, none of a process's messages is lost, it isn't paused, and the store goes
 pub record IsHeard (doc : Doc) (p k : ℕ) : Type 0 where
   pub requests : loses_requests p (with_events doc k) ≡ false
   pub replies : loses_replies p (with_events doc k) ≡ false
   pub awake : is_paused doc p k ≡ false
-  pub goes : is_stalled doc (k + request_delay p (with_events doc k)) ≡ false
+  pub goes : is_stalled doc k ≡ false
 
 -- so it is from beat a to beat e, and it isn't taken down but by the deadline of its term, and not so at a itself. It may be down, and start
 pub record IsUndisturbed (doc : Doc) (a e p : ℕ) : Type 0 where
@@ -42,12 +41,13 @@ pub record IsUndisturbed (doc : Doc) (a e p : ℕ) : Type 0 where
   pub ends : AllBeats doc e p Ends (λ k. k ≡ a → ⊥)
 
 -- a leader, up to the beat before b: it has led for three ways or longer, and is undisturbed up to then, and awake for one way more; each other
--- controller is undisturbed up to beat e
+-- controller is undisturbed up to beat e, and the store goes
 pub record LeadsUndisturbed (doc : Doc) (b e : ℕ) (q : Identity) : Type 0 where
   pub role : is_controller doc q.process ≡ true
   pub own : IsUndisturbed doc 0 (b - 1) q.process
   pub awake : (k : ℕ) → k ≤ b + far_of doc → is_paused doc q.process k ≡ false
   pub others : (p : ℕ) → is_controller doc p ≡ true → (p ≡ q.process → ⊥) → IsUndisturbed doc 0 e p
+  pub goes : (k : ℕ) → k ≤ e → is_stalled doc k ≡ false
   pub within : b ≤ e
   pub end : e ≤ end_beat doc
   pub long : 3 * far_of doc ≤ b
@@ -59,7 +59,7 @@ pub record IsOther (doc : Doc) (b : ℕ) (q : Identity) (p : ℕ) : Type 0 where
   pub other : p ≡ q.process → ⊥
   pub up : has (alive p (at_turn doc (suc p) b)) ≡ true
 
--- by a stop at beat b a leader gives up its lead, and the release is accepted; the store goes for one way
+-- by a stop at beat b a leader gives up its lead, and the release is accepted
 pub record GivesUp (doc : Doc) (b e : ℕ) (q : Identity) : Type 0 where
   pub call : Call
   pub at : ℕ
@@ -68,7 +68,6 @@ pub record GivesUp (doc : Doc) (b e : ℕ) (q : Identity) : Type 0 where
   pub version : Version
   pub comes : Option ℕ
   pub object : Object
-  pub goes : (k : ℕ) → b ≤ k → k ≤ b + far_of doc → is_stalled doc k ≡ false
   pub accepted : In (entry at 2 q (Answers call (Done version) comes (Some object))) (history doc (suc e))
 
 -- from beat a to beat e each controller is undisturbed, or writes no election Lease, and what of the election was under way at a comes within one way

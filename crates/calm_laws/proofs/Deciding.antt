@@ -1,5 +1,5 @@
 -- Whether a controller's messages pass in a span, and whether somebody acts in it, is decided by looking.
-use Rattle.std.proofs.Common.{◌≡◌, ◌⊎◌, ◌<◌, ◌≤◌, ℕ, zero, suc, ◌+◌, Bool, true, false, List, [], ◌∷◌, Option, Some, None, refl, sym, ap, ◌∙◌, subst, inl, inr, ⊎_elim, arith}
+use Rattle.std.proofs.Common.{◌≡◌, ◌⊎◌, ◌<◌, ◌≤◌, ℕ, zero, suc, Bool, true, false, List, [], ◌∷◌, Option, Some, None, refl, sym, ap, ◌∙◌, subst, inl, inr, ⊎_elim, arith}
 use Rattle.std.proofs.lemmas.Bool.{cases_lt, cases_eq}
 use Rattle.kube_objects.specs.Clocks.{local}
 use Rattle.kube_objects.specs.Document.{Doc, processes, is_controller}
@@ -167,7 +167,7 @@ passes doc near far p k =
     (λ s. record { requests = s.0; replies = s.1.0; request_least = s.1.1.0; request_most = s.1.1.1.0; reply_least = s.1.1.1.1.0; reply_most = s.1.1.1.1.1.0; awake = s.1.1.1.1.1.1.0; goes = s.1.1.1.1.1.1.1 })
     (λ s. (s.requests, (s.replies, (s.request_least, (s.request_most, (s.reply_least, (s.reply_most, (s.awake, s.goes))))))))
     (both _ _ (same (loses_requests p h) false) (both _ _ (same (loses_replies p h) false) (both _ _ (at_most near (request_delay p h)) (both _ _ (at_most (request_delay p h) far)
-    (both _ _ (at_most near (reply_delay p h)) (both _ _ (at_most (reply_delay p h) far) (both _ _ (same (is_paused doc p k) false) (same (is_stalled doc (k + request_delay p h)) false))))))))
+    (both _ _ (at_most near (reply_delay p h)) (both _ _ (at_most (reply_delay p h) far) (both _ _ (same (is_paused doc p k) false) (same (is_stalled doc k) false))))))))
   where
     h : List Entry
     h = with_events doc k
@@ -175,7 +175,7 @@ passes doc near far p k =
     Parts : Type 0
     Parts =
         (loses_requests p h ≡ false) × ((loses_replies p h ≡ false) × ((near ≤ request_delay p h) × ((request_delay p h ≤ far)
-        × ((near ≤ reply_delay p h) × ((reply_delay p h ≤ far) × ((is_paused doc p k ≡ false) × (is_stalled doc (k + request_delay p h) ≡ false)))))))
+        × ((near ≤ reply_delay p h) × ((reply_delay p h ≤ far) × ((is_paused doc p k ≡ false) × (is_stalled doc k ≡ false)))))))
 
 pub steady : (doc : Doc) (near far a e p : ℕ) → Decided (IsSteady doc near far a e p)
 steady doc near far a e p =

@@ -34,7 +34,7 @@ no_takeover doc rules near far a settled e n kept ordered one ways within q role
     kept.no_write answer_entry r.before q answer_at refl role (since, wrote) (omega (arith, r.most, late))
   where
     r : IsRound doc near far q call arrives x.beat
-    r = rounds_in doc rules near far a e q steady one m x T call arrives stands actor fact step (omega (arith, ordered, from)) (omega (arith, late, within)) (λ k is most. omega (arith, most, late, within))
+    r = rounds_in doc rules near far a e q steady one m x T call arrives stands actor fact step (omega (arith, ordered, from)) (omega (arith, late, within)) (λ k n least is most. omega (arith, most, late, within))
 
     in_time : r.at + far ≤ n
     in_time = omega (arith, r.most, late)

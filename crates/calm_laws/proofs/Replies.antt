@@ -29,7 +29,7 @@ use Rattle.call_laws.proofs.Making.{Replied}
 use Rattle.call_laws.proofs.Placing.{in_own_beat, not_before, forces_stand, messages_travel}
 use Rattle.takeover_laws.specs.Calm.{Passes, IsSteady, IsCalm, WritesElection}
 use Rattle.takeover_laws.specs.Taking.{FitsStored}
-use Rattle.takeover_laws.proofs.Rounds.{request_passes, reply_passes, sent_is}
+use Rattle.takeover_laws.proofs.Rounds.{request_comes, reply_passes, sent_is}
 use Rattle.calm_laws.proofs.Asked.{IsWrite, IsNext, Reason, next_is, asks_same, fails_not, reason_key, reason_of, InTurn, AfterReply}
 use Rattle.calm_laws.proofs.Kept.{IsKept, no_takeover}
 use Rattle.calm_laws.proofs.Origins.{Origin, origin}
@@ -134,10 +134,10 @@ module _ (doc : Doc) (rules : IsOwn doc) (near far a settled e n : ℕ) (calm : 
 
             arrives : o.e.beat ≡ o.begun.f.beat + request_delay q.process (with_events doc o.begun.f.beat)
             arrives =
-                some_is o.e.beat (o.begun.f.beat + request_delay q.process (with_events doc o.begun.f.beat))
-                (sym o.arrives
-                ∙ (subst (λ p. IfSome p (λ s. (s.call.sent ≡ o.begun.f.beat) × (s.arrives ≡ request_arrival doc s.who.process o.begun.f.beat o.begun.before))) (sent_is o.begun.f q w o.begun.arrives o.begun.actor o.begun.fact) travels).1
-                ∙ request_passes doc rules near far q.process o.begun.f.beat o.begun.before passes (forces_stand doc rules (suc n) o.begun.f o.begun.before sending (omega (arith, asked_in.1))))
+                request_comes doc rules near far q.process o.begun.f.beat o.begun.before passes (forces_stand doc rules (suc n) o.begun.f o.begun.before sending (omega (arith, asked_in.1))) o.e.beat
+                (λ j low high. (steady.passes j (omega (arith, from, low)) (omega (arith, high, answered_by, within))).goes)
+                (sym (sym o.arrives
+                ∙ (subst (λ p. IfSome p (λ s. (s.call.sent ≡ o.begun.f.beat) × (s.arrives ≡ request_arrival doc s.who.process o.begun.f.beat o.begun.before))) (sent_is o.begun.f q w o.begun.arrives o.begun.actor o.begun.fact) travels).1))
 
         early : o.begun.f.beat < a → ⊥
         early lt =

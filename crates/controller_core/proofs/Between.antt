@@ -1,12 +1,11 @@
 -- What a phase of a tick leaves that has no entry of its kind.
 use Rattle.std.proofs.Common.{◌≡◌, ◌∙◌, ℕ, ◌&&◌, not, Bool, true, false, List, Option, IfSome, option_map, refl, sym, ap, subst}
 use Rattle.std.specs.Prelude.{if◌then◌else◌}
-use Rattle.kube_base.specs.declared.numbers.Local.{Local}
 use Rattle.kube_objects.specs.declared.deed.Deed.{Deed}
 use Rattle.kube_objects.specs.Clocks.{local}
 use Rattle.kube_objects.specs.Document.{Doc}
 use Rattle.kube_objects.specs.Entry.{Entry, Identity, Tick, Ticks, Sync, Untaint, Swap, Head, Skip, Delete, entry}
-use Rattle.kube_objects.specs.Health.{last_pass}
+use Rattle.kube_objects.specs.Health.{last_pass, pass_period}
 use Rattle.kube_objects.specs.InForce.{watches}
 use Rattle.kube_objects.specs.Own.{IsOwn}
 use Rattle.kube_objects.specs.Seen.{is_fresh, is_synced}
@@ -17,6 +16,8 @@ use Rattle.node_health.proofs.Frames.{SaysSame, says-same, says-then, unheard-ki
 use Rattle.taint_zones.specs.declared.zones.Zones.{Zones}
 use Rattle.taint_zones.specs.Limits.{LimitsStand, limit_at}
 use Rattle.controller_core.specs.Passing.{LastStands}
+use Rattle.controller_core.specs.Working.{kept}
+use Rattle.controller_core.specs.declared.pass.work.LastPass.{LastPass}
 use Rattle.term_state.specs.declared.told.Told.{Told}
 use Rattle.term_state.specs.MidTick.{IsTold}
 use Rattle.term_state.proofs.Telling.{told_beside}
@@ -49,7 +50,7 @@ module _ (doc : Doc) (own : IsOwn doc) (k : ℕ) (q : Identity) (h : List Entry)
   tainted_says = tainted_keeps doc k q (SaysSame q h) (λ t g is made s. says_more q k h g t (heading_unheard t is) s) own h (says-same q h)
 
   pub evicted_says : SaysSame q h (evicted doc k q h)
-  evicted_says = evicted_keeps doc k q (SaysSame q h) (λ pod given node_given at a g made s. says_more q k h g (Delete pod given node_given at a) refl s) own h (says-same q h)
+  evicted_says = evicted_keeps doc k q (SaysSame q h) (λ pod given node_given at a g made s. says_more q k h g (Delete pod given node_given at a) refl s) h (says-same q h)
 
 -- ---- limits, and the last pass
 
@@ -60,8 +61,11 @@ limits_stand doc q h g zones k s place = record {
   base = subst (λ n. IfSome (limit_at zones place) (λ limit. limit.bucket.base ≡ local doc q.process n)) (sym (k.base place)) (s place).base;
 }
 
-pub last_stands : (doc : Doc) (q : Identity) (h g : List Entry) (last : Option Local) → last_pass q g ≡ last_pass q h → LastStands doc q h last → LastStands doc q g last
-last_stands doc q h g last same s = s ∙ ap (option_map (local doc q.process)) (sym same)
+pub last_stands : (doc : Doc) (q : Identity) (h g : List Entry) (last : Option LastPass) → last_pass q g ≡ last_pass q h → pass_period doc q g ≡ pass_period doc q h → LastStands doc q h last → LastStands doc q g last
+last_stands doc q h g last same alike s = record {
+  reading = s.reading ∙ ap (option_map (local doc q.process)) (sym same);
+  period = subst (λ n. IfSome last (λ x. x.period ≡ kept n)) (sym alike) s.period;
+}
 
 -- ---- a sync
 

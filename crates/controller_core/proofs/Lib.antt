@@ -5,6 +5,7 @@ pub mod Passing
 pub mod Cleaning
 pub mod Tainting
 pub mod Evicting
+pub mod Allowed
 pub mod Between
 pub mod FirstSync
 pub mod Others

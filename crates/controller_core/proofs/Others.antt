@@ -15,7 +15,9 @@ use Rattle.watch_cache.specs.Stands.{is_tick_by}
 use Rattle.controller_core.specs.declared.term.Term.{Term}
 use Rattle.controller_core.specs.TermStands.{TermStands}
 use Rattle.controller_core.specs.FirstSync.{SettlesStand}
+use Rattle.controller_core.proofs.Allowed.{allowance_foreign}
 use Rattle.controller_core.proofs.Between.{last_stands, limits_stand}
+use Rattle.controller_core.proofs.Evicting.Settled.{settled_foreign}
 use Rattle.controller_core.proofs.FirstSync.{settles_beside}
 
 others_health : (q : Identity) (h : List Entry) (e : Entry) → is_tick_by q e.actor e.fact ≡ false → SaysSame q h (e ∷ h)
@@ -30,11 +32,14 @@ pub others_with : (doc : Doc) (q : Identity) (h : List Entry) (e : Entry) (t : T
     → TermStands doc q (e ∷ h) (record t { settles = at })
 others_with doc q h e t at other settles s = record {
   cluster = same_aside q h (e ∷ h) no_node no_pod t.cluster (foreign_change q h e other) s.cluster;
+  from = s.from;
+  sights = settled_foreign doc.settings.rules.evict_from doc q h e no_pod t.cluster other s.sights;
+  allowance = allowance_foreign doc q h e t.allowance other s.allowance;
   reached = foreign_reached q h e other s.reached;
   health = health-same doc q h (e ∷ h) t.health (others_health q h e other) s.health;
   limits = limits_stand doc q h (e ∷ h) t.zones (foreign_limits q h e other) s.limits;
   queues = λ place n. s.queues place n ∙ sym (foreign_since q h e other place n);
-  last = last_stands doc q h (e ∷ h) t.last (foreign_limits q h e other).passed s.last;
+  last = last_stands doc q h (e ∷ h) t.last (foreign_limits q h e other).passed ((foreign_limits q h e other).period doc) s.last;
   range = s.range;
   settles = settles;
   settings = s.settings;

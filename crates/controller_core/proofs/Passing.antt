@@ -4,5 +4,6 @@ pub mod Marks
 pub mod Moding
 pub mod Numbered
 pub mod Passed
+pub mod Working
 pub mod ZoneLimits
 pub mod ZoneWalk

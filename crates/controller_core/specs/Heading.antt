@@ -14,7 +14,7 @@ use Rattle.controller_core.specs.QueuesStand.{AreFresh, QueuesStand}
 -- within a tick, once it is settled who waits
 pub record Heading (doc : Doc) (q : Identity) (k : ℕ) (before : List Deed) (h : List Entry)
     (z : Zones) (c : Cluster) (s : Store) (t : Told) : Type 0 where
-  pub running : MidTick q k before h c s t
+  pub running : MidTick doc q k before h c s t
   pub limits : LimitsStand doc q h z
   pub queues : QueuesStand q h z.queues
   pub fresh : AreFresh q k h

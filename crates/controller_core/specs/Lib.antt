@@ -1,3 +1,4 @@
+pub mod Allowing
 pub mod Attempts
 pub mod Cleaning
 pub mod Costs
@@ -10,4 +11,5 @@ pub mod QueuesStand
 pub mod Settling
 pub mod TermStands
 pub mod Wakes
+pub mod Working
 pub mod Zoned

@@ -10,20 +10,27 @@ use Rattle.node_health.specs.Stands.{HealthStands}
 use Rattle.object_store.specs.Stands.{StoreStands}
 use Rattle.object_store.specs.declared.store.Store.{Store}
 use Rattle.taint_zones.specs.Limits.{LimitsStand}
+use Rattle.controller_core.specs.Allowing.{AllowanceStands}
 use Rattle.controller_core.specs.FirstSync.{SettlesStand}
 use Rattle.controller_core.specs.Passing.{IsLastInRange, LastStands}
 use Rattle.term_state.specs.declared.told.Told.{Told}
-use Rattle.term_state.specs.ClusterStands.{ClusterStands}
+use Rattle.term_state.specs.ClusterStands.{ClusterStands, no_pod}
 use Rattle.term_state.specs.MidTick.{IsTold, MidTick}
+use Rattle.term_state.specs.Sights.{SettledBy}
+use Rattle.controller_core.specs.Deleting.{Deleting}
 use Rattle.controller_core.specs.QueuesStand.{QueuesStand}
 use Rattle.tick_laws.specs.Rows.{no_heads}
 use Rattle.tick_laws.specs.Since.{AreReached}
 use Rattle.zone_counts.specs.Settings.{AreSettings}
 use Rattle.controller_core.specs.declared.term.Term.{Term}
 
--- one clause for each field, that the last pass was at a reading in range, and that stale keys were written since the last sync
+-- one clause for each field, that the cluster has the document's rule and its rows, that the last pass was at a reading in range, and that stale
+-- keys were written since the last sync
 pub record TermStands (doc : Doc) (q : Identity) (h : List Entry) (t : Term) : Type 0 where
   pub cluster : ClusterStands q h t.cluster
+  pub from : t.cluster.evict_from ≡ doc.settings.rules.evict_from
+  pub sights : SettledBy doc.settings.rules.evict_from doc q h no_pod t.cluster
+  pub allowance : AllowanceStands doc q h t.allowance
   pub reached : AreReached q h
   pub health : HealthStands doc q h t.health
   pub limits : LimitsStand doc q h t.zones
@@ -43,7 +50,8 @@ pub record Ticked (doc : Doc) (k : ℕ) (q : Identity) (h : List Entry) (deeds :
 
 -- after the sync; who waits is as before the tick
 pub record Begun (doc : Doc) (k : ℕ) (q : Identity) (before : List Deed) (h : List Entry) (t : Term) (s : Store) (o : Told) : Type 0 where
-  pub running : MidTick q k before h t.cluster s o
+  pub running : MidTick doc q k before h t.cluster s o
+  pub allowance : AllowanceStands doc q h t.allowance
   pub health : HealthStands doc q h t.health
   pub limits : LimitsStand doc q h t.zones
   pub queues : QueuesStand q (before_tick q k h) t.zones.queues
@@ -55,7 +63,8 @@ pub record Begun (doc : Doc) (k : ℕ) (q : Identity) (before : List Deed) (h : 
 
 -- after the evictions
 pub record Acted (doc : Doc) (k : ℕ) (q : Identity) (before : List Deed) (h : List Entry) (t : Term) (s : Store) (o : Told) : Type 0 where
-  pub running : MidTick q k before h t.cluster s o
+  pub running : Deleting doc q k before h no_pod t.cluster s o
+  pub allowance : AllowanceStands doc q h t.allowance
   pub health : HealthStands doc q h t.health
   pub limits : LimitsStand doc q h t.zones
   pub queues : QueuesStand q h t.zones.queues

@@ -1,12 +1,14 @@
 -- The readings for which a term waits.
-use Rattle.std.specs.Prelude.{◌≡◌, ◌⊎◌, ◌+◌, ◌-◌, ◌≤◌, ℕ, Bool, true, List, Option, Some, option_map}
+use Rattle.std.specs.Prelude.{◌≡◌, ◌⊎◌, ◌+◌, ◌-◌, ◌==◌, ◌||◌, ◌≤◌, ℕ, nat_lt, not, Bool, true, List, Option, Some, None, option_map}
 use Rattle.kube_objects.specs.Clocks.{local}
-use Rattle.kube_objects.specs.Document.{Doc, of_millis}
+use Rattle.kube_objects.specs.Document.{Doc}
 use Rattle.kube_objects.specs.Entry.{Entry, Identity, Place}
-use Rattle.kube_objects.specs.Health.{last_pass}
+use Rattle.kube_objects.specs.Health.{last_pass, pass_period}
 use Rattle.kube_objects.specs.Newest.{has}
 use Rattle.kube_objects.specs.Tainting.{waits}
+use Rattle.kube_objects.specs.Tick.{has_room}
 use Rattle.kube_objects.specs.Tokens.{base, has_token, is_grown, rated}
+use Rattle.tick_laws.specs.Room.{AreUpTo}
 
 -- the zone's token is there at a beat, and somebody waits in the zone
 pub record IsHeadDue (doc : Doc) (k : ℕ) (q : Identity) (h : List Entry) (place : Place) : Type 0 where
@@ -25,14 +27,25 @@ pub record IsTokenReading (doc : Doc) (q : Identity) (h : List Entry) (place : P
   pub name : ℕ
   pub waiting : has (waits q place name h) ≡ true
 
--- a period after the last pass
+-- whether a reading is before another one; none is never reached
+abbrev pub is_before : ℕ → Option ℕ → Bool
+is_before now None = true
+is_before now (Some at) = nat_lt now at
+
+-- the least reading from which on a further delete is within the limit, told at the beats that no entry is later than
+abbrev pub IsRoomReading : Doc → Identity → List Entry → Option ℕ → Type 0
+IsRoomReading doc q h at =
+    (k : ℕ) → AreUpTo k h → is_before (local doc q.process k) at ≡ not ((doc.settings.rules.evict_burst == 0) || has_room doc q k 0 h)
+
+-- a period after the last pass, and that one's work
 abbrev pub pass_reading : Doc → Identity → List Entry → Option ℕ
-pass_reading doc q h = option_map (λ k. local doc q.process k + of_millis doc.settings.monitor_period_millis) (last_pass q h)
+pass_reading doc q h = option_map (λ k. local doc q.process k + pass_period doc q h) (last_pass q h)
 
 abbrev pub IsAwaited : Doc → Identity → List Entry → ℕ → Type 0
 IsAwaited doc q h at = (pass_reading doc q h ≡ Some at) ⊎ ((place : Place) × IsTokenReading doc q h place at)
 
--- the least of the readings for which a term waits
+-- the least of the readings for which a term waits, or the greatest u64 where they are beyond it
 pub record IsLeastAwaited (doc : Doc) (q : Identity) (h : List Entry) (at : ℕ) : Type 0 where
-  pub there : IsAwaited doc q h at
+  pub there : IsAwaited doc q h at ⊎ (at ≡ 18446744073709551615)
+  pub fits : at ≤ 18446744073709551615
   pub least : (other : ℕ) → IsAwaited doc q h other → at ≤ other

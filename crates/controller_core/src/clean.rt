@@ -7,6 +7,7 @@ ghost use Rattle.kube_objects.specs.Tick as tick;
 ghost use Rattle.kube_objects.specs.declared.deed.Deed.{Deed};
 ghost use Rattle.controller_core.specs.Costs.{HaveCost};
 ghost use Rattle.term_state.specs.MidTick.{IsView, MidTick};
+ghost use Rattle.term_state.specs.Sights.{spent};
 
 mod attempt;
 
@@ -27,9 +28,9 @@ pub(crate) fn clean<L>(
     steps: &mut Steps<L>,
 ) -> Result<(), NoMemory>
     ensures { (doc : Doc) (k : ℕ) (q : Identity) (before : List Deed) (h : List Entry)
-        → IsOwn doc → MidTick q k before h cluster.old store.old told.old → IsView doc k q h view.entry.now
-        → OnOk result (MidTick q k before (tick.cleaned doc k q h) cluster.new store.new told.new
-        × HaveCost q k h (tick.cleaned doc k q h) steps.old steps.new) }
+        → IsOwn doc → MidTick doc q k before h cluster.old store.old told.old → IsView doc k q h view.entry.now
+        → OnOk result (MidTick doc q k before (tick.cleaned doc k q h) cluster.new store.new told.new
+        × HaveCost q k h (tick.cleaned doc k q h) (spent cluster.old steps.old) (spent cluster.new steps.new)) }
 {
     let mut next = cluster.next_unclean(None);
     while let Some(name) = next {

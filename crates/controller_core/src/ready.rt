@@ -66,9 +66,9 @@ impl Term {
         least
     }
 
-    /// The least reading at which a tick has a pass, or a queued taint of those who wait now: a period after the last pass, or
-    /// where the token of a zone is there in which somebody waits. None exactly where there was no pass. At which beats it has come
-    /// is told for readings of at most `most_local`.
+    /// The least reading at which a tick has a pass, or a queued taint of those who wait now: a period after the last pass and its
+    /// work, or where the token of a zone is there in which somebody waits; where that is no u64, the greatest one. None exactly where
+    /// there was no pass. At which beats it has come is told for readings of at most `most_local`.
     pub fn wake(&self) -> Option<Local>
         ensures none { (doc : Doc) (q : Identity) (h : List Entry) → TermStands doc q h self.now → IfNone result (last_pass q h ≡ None) }
         ensures some { (doc : Doc) (q : Identity) (h : List Entry) → TermStands doc q h self.now
@@ -83,7 +83,6 @@ impl Term {
             → (is_pass_due doc k q h ≡ true) ⊎ ((place : model.Place) × IsHeadDue doc k q h place)) }
     {
         let last = self.last?;
-        let period = u64::from(self.settings.monitor_period_millis) * 1_000_000_000;
-        Some(self.first_ready(Local(last.0.saturating_add(period))))
+        Some(self.first_ready(Local(last.at.0.saturating_add(last.period))))
     }
 }

@@ -1,5 +1,5 @@
 // The sync of a tick: what was written since the last one is taken over, and judged.
-ghost use Rattle.std.specs.Prelude.{◌≡◌, ◌≤◌, ◌+◌, ◌==◌, ◌&&◌, not, ℕ, cond, List, Some, None, OnOk};
+ghost use Rattle.std.specs.Prelude.{◌≡◌, ◌≤◌, ◌+◌, ◌==◌, ◌&&◌, not, ℕ, false, cond, List, Some, None, OnOk};
 ghost use Rattle.kube_base.specs.Bounds.{most_local};
 ghost use Rattle.kube_objects.specs.Clocks.{local};
 ghost use Rattle.kube_objects.specs.Document.{Doc, of_millis};
@@ -10,11 +10,13 @@ ghost use Rattle.kube_objects.specs.Tainting.{before_tick};
 ghost use Rattle.kube_objects.specs.Tick as tick;
 ghost use Rattle.object_store.specs.Stands.{StoreStands};
 ghost use Rattle.tick_laws.specs.Since.{AreReached};
+ghost use Rattle.tick_laws.specs.Steps.{pods_back};
 ghost use Rattle.controller_core.specs.Costs.{HaveCost};
 ghost use Rattle.controller_core.specs.FirstSync.{IsSettling};
 ghost use Rattle.controller_core.specs.Passing.{reading_of};
-ghost use Rattle.term_state.specs.ClusterStands.{ClusterStands};
+ghost use Rattle.term_state.specs.ClusterStands.{ClusterStands, no_pod};
 ghost use Rattle.term_state.specs.MidTick.{IsMoved, IsView};
+ghost use Rattle.term_state.specs.Sights.{SettledBy, SightedBy, spent};
 
 mod judge;
 
@@ -86,14 +88,21 @@ pub(crate) fn sync<L>(
     steps: &mut Steps<L>,
 ) -> Result<(), NoMemory>
     ensures stands { (doc : Doc) (k : ℕ) (q : Identity) (h : List Entry) → IsSettling doc q h settles → ClusterStands q h cluster.old
-        → StoreStands h store.now → AreReached q h → IsView doc k q h view.entry.now
-        → OnOk result (ClusterStands q (tick.sync doc k q h) cluster.new × HaveCost q k h (tick.sync doc k q h) steps.old steps.new) }
+        → StoreStands h store.now → AreReached q h → IsView doc k q h view.entry.now → cluster.old.evict_from ≡ doc.settings.rules.evict_from
+        → OnOk result (ClusterStands q (tick.sync doc k q h) cluster.new
+        × HaveCost q k h (tick.sync doc k q h) (spent cluster.old steps.old + pods_back doc q h (tick.sync doc k q h)) (spent cluster.new steps.new)) }
     ensures store { (doc : Doc) (k : ℕ) (q : Identity) (h : List Entry) → StoreStands h store.now
         → StoreStands (tick.sync doc k q h) store.now }
     ensures moved { (doc : Doc) (k : ℕ) (q : Identity) (h : List Entry) → IsSettling doc q h settles → ClusterStands q h cluster.old
         → StoreStands h store.now → AreReached q h → IsView doc k q h view.entry.now → IsMoved q k h cluster.old
         → before_tick q k (tick.sync doc k q h) ≡ before_tick q k h
         → OnOk result (IsMoved q k (tick.sync doc k q h) cluster.new) }
+    ensures sights { (doc : Doc) (k : ℕ) (q : Identity) (h : List Entry) → IsSettling doc q h settles → ClusterStands q h cluster.old
+        → StoreStands h store.now → AreReached q h → IsView doc k q h view.entry.now → before_tick q k h ≡ h
+        → cluster.old.evict_from ≡ doc.settings.rules.evict_from → SettledBy doc.settings.rules.evict_from doc q h no_pod cluster.old
+        → OnOk result ((cluster.new.evict_from ≡ doc.settings.rules.evict_from)
+        × SightedBy doc.settings.rules.evict_from doc k q (tick.sync doc k q h) cluster.new
+        × (seen_words.is_synced q (tick.sync doc k q h) ≡ false → SettledBy doc.settings.rules.evict_from doc q h no_pod cluster.new)) }
 {
     if !has_settled(settles, view.now) {
         return Ok(());

@@ -7,6 +7,7 @@ ghost use Rattle.kube_objects.specs.Own.{IsOwn};
 ghost use Rattle.kube_objects.specs.Tick as tick;
 ghost use Rattle.kube_objects.specs.declared.deed.Deed.{Deed};
 ghost use Rattle.term_state.specs.MidTick.{IsView};
+ghost use Rattle.term_state.specs.Sights.{spent};
 ghost use Rattle.controller_core.specs.Costs.{HaveCost};
 ghost use Rattle.controller_core.specs.Heading.{Heading};
 
@@ -38,7 +39,7 @@ pub(crate) fn taint<L>(
     ensures { (doc : Doc) (q : Identity) (k : ℕ) (before : List Deed) (h : List Entry)
         → IsOwn doc → Heading doc q k before h zones.old cluster.old store.old told.old → IsView doc k q h view.entry.now
         → OnOk result (Heading doc q k before (tick.tainted doc k q h) zones.new cluster.new store.new told.new
-        × HaveCost q k h (tick.tainted doc k q h) steps.old steps.new) }
+        × HaveCost q k h (tick.tainted doc k q h) (spent cluster.old steps.old) (spent cluster.new steps.new)) }
 {
     let mut next = zones.queues.next_zone(None);
     while let Some(place) = next {

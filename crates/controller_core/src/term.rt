@@ -13,16 +13,20 @@ ghost use Rattle.kube_objects.specs.Tick as model;
 ghost use Rattle.leader_elector.specs.Stands.{acting_identity};
 ghost use Rattle.object_store.specs.Stands.{StoreStands};
 ghost use Rattle.term_state.specs.MidTick.{IsView};
-ghost use Rattle.tick_laws.specs.Steps.{tick_cost};
+ghost use Rattle.tick_laws.specs.Room.{AreInBeats, AreUpTo};
+ghost use Rattle.tick_laws.specs.Steps.{pods_back, tick_cost};
+ghost use Rattle.controller_core.specs.Working.{pods_passed};
 ghost use Rattle.watch_cache.specs.Stands.{ticks};
 ghost use Rattle.zone_counts.specs.Settings.{AreSettings};
 
+use crate::pass::work::LastPass;
 use crate::sync::settles_after;
 use kube_base::{Local, NoMemory, Steps};
 use kube_objects::{Actor, Deeds, TickSettings};
 use leader_elector::Acting;
 use node_health::Health;
 use object_store::Store;
+use rate_bucket::Allowance;
 use std::alloc::Global;
 use taint_zones::Zones;
 use term_state::{Cluster, Told, View};
@@ -39,9 +43,11 @@ pub struct Term {
     pub(crate) cluster: Cluster,
     pub(crate) health: Health,
     pub(crate) zones: Zones,
-    pub(crate) last: Option<Local>,
+    pub(crate) last: Option<LastPass>,
     // The reading from which it may sync, where it waits for one.
     pub(crate) settles: Option<Local>,
+    // How many pods it may still evict.
+    pub(crate) allowance: Allowance,
     ghost ordered: { settings.secondary_rate ≤ settings.primary_rate },
 }
 
@@ -57,11 +63,12 @@ impl Term {
         Term {
             alloc,
             settings: *settings,
-            cluster: Cluster::new(alloc),
+            cluster: Cluster::new(alloc, settings.evict_from),
             health: Health::new(alloc),
             zones: Zones::new(alloc),
             last: None,
             settles: None,
+            allowance: Allowance::full(settings.evict_burst, settings.evict_rate),
         }
     }
 
@@ -82,8 +89,10 @@ impl Term {
         self.settles = settles_after(now, self.settings.first_sync_millis);
     }
 
-    /// One tick of a term that leads: a sync, once it has settled, and after the first one a pass where it is due, untaints and swaps, queued taints, and evictions.
-    /// Answers the printed deeds in order. It counts at most one step more than the cost of the tick.
+    /// One tick of a term that leads: a sync, once it has settled, and after the first one a pass where it is due, untaints and swaps, queued
+    /// taints, and evictions.
+    /// Answers the printed deeds in order. It counts at most one step more than the cost of the tick, the pods that its pass sets not
+    /// ready, where that takes time, and twice those of nodes that its sync sees anew, where dues count from what is seen.
     pub fn tick<L>(
         &mut self,
         acting: &Acting<'_>,
@@ -94,10 +103,12 @@ impl Term {
     ) -> Result<Deeds, NoMemory>
         requires { view.now.now.0 ≤ most_local }
         ensures { (doc : Doc) (k : ℕ) (q : Identity) (h : List Entry) → TermStands doc q h self.old → StoreStands h store.old
-            → IsView doc k q h view.entry.now → acting_identity acting.now ≡ q → leads q h ≡ true → before_tick q k h ≡ h
+            → IsView doc k q h view.entry.now → acting_identity acting.now ≡ q → AreInBeats h → AreUpTo k h → leads q h ≡ true
+            → before_tick q k h ≡ h
             → length (nodes q (model.sync doc k q h)) < 4294967296
             → IfOk result (λ deeds. Ticked doc k q h deeds self.new store.new
-            × (steps.new ≤ steps.old + (1 + tick_cost q k (model.tick doc k q h)))) }
+            × (steps.new ≤ steps.old + (1 + pods_back doc q h (model.sync doc k q h) + pods_passed doc k q (model.sync doc k q h)
+            + tick_cost q k (model.tick doc k q h)))) }
     {
         let (process, incarnation) = acting.identity();
         let mut told = Told::new(self.alloc, Actor::Proc(process, incarnation), view.beat);

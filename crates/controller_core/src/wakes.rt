@@ -9,7 +9,9 @@ ghost use Rattle.kube_objects.specs.Seen.{is_fresh};
 ghost use Rattle.kube_objects.specs.Tick.{settles_at};
 ghost use Rattle.kube_objects.specs.declared.pod.Due.TheVariants.{Never, At};
 ghost use Rattle.object_store.specs.Stands.{StoreStands};
-ghost use Rattle.tick_laws.specs.Judged.{is_dirty, seen_due};
+ghost use Rattle.tick_laws.specs.Judged.{is_dirty, term_due};
+ghost use Rattle.tick_laws.specs.Room.{AreInBeats};
+ghost use Rattle.controller_core.specs.Wakes.{IsRoomReading};
 ghost use Rattle.controller_core.specs.Passing.{reading_of};
 
 use crate::Term;
@@ -21,17 +23,25 @@ impl Term {
     ghost use Rattle.kube_objects.specs.declared.key.Key.{Key};
     ghost use Rattle.controller_core.specs.TermStands.{TermStands};
 
-    /// The least due of the pods that aren't stale and whose node is seen, in microseconds since 1970; none exactly where none
-    /// is due ever.
+    /// The least due of the pods that aren't stale, in microseconds since 1970: of those whose node is seen, or of those that have a row; none
+    /// exactly where none is due ever.
     pub fn least_due(&self) -> Option<u128>
         ensures there { (doc : Doc) (q : Identity) (h : List Entry) → TermStands doc q h self.now
-            → IfSome result (λ at. (key : Key) × (seen_due q key h ≡ At at)) }
+            → IfSome result (λ at. (key : Key) × (term_due doc q key h ≡ At at)) }
         ensures least { (doc : Doc) (q : Identity) (h : List Entry) → TermStands doc q h self.now
-            → IfSome result (λ at. (key : Key) (other : ℕ) → seen_due q key h ≡ At other → at ≤ other) }
+            → IfSome result (λ at. (key : Key) (other : ℕ) → term_due doc q key h ≡ At other → at ≤ other) }
         ensures none { (doc : Doc) (q : Identity) (h : List Entry) → TermStands doc q h self.now
-            → IfNone result ((key : Key) → seen_due q key h ≡ Never) }
+            → IfNone result ((key : Key) → term_due doc q key h ≡ Never) }
     {
         self.cluster.least_due()
+    }
+
+    /// The reading from which on a tick may delete a pod that is due; none where none may any more.
+    pub fn delete_wake(&self) -> Option<Local>
+        ensures { (doc : Doc) (q : Identity) (h : List Entry) → TermStands doc q h self.now → AreInBeats h
+            → IsRoomReading doc q h (reading_of result) }
+    {
+        self.allowance.ready_at()
     }
 
     /// Whether a tick now would have a sync, an untaint or a swap, whatever the time: a sync only where a term settles at its lead.

@@ -9,7 +9,7 @@ use Rattle.kube_objects.specs.Clocks.{whole_second}
 use Rattle.kube_objects.specs.Document.{Doc, of_seconds}
 use Rattle.kube_objects.specs.Entry.{Identity}
 use Rattle.kube_objects.specs.Health.{hears, pass_period, is_after_pass}
-use Rattle.kube_objects.specs.Own.{IsOwn}
+use Rattle.kube_objects.specs.Own.{IsOwn, EvictsByOwn, PassesTakeNoWork}
 use Rattle.kube_objects.specs.Seen.{is_pod}
 use Rattle.kube_objects.specs.Tick.{new_taint}
 use Rattle.kube_objects.specs.Tolerations.{first_tolerating}
@@ -32,7 +32,7 @@ use Rattle.death_laws.specs.Deaths.{WatchesOver, IsPaced, MarkedAfter, DeadNodes
 
 -- ---- the mark
 
-module _ (doc : Doc) (own : IsOwn doc) (q : Identity) (name a e v : ℕ) (watches : WatchesOver doc q name a e) (told : IsLastTold doc name v e) (slow near far enough needed most : ℕ) (paced : IsPaced doc q a e slow near far enough needed most)
+module _ (doc : Doc) (own : IsOwn doc) (free : PassesTakeNoWork doc) (q : Identity) (name a e v : ℕ) (watches : WatchesOver doc q name a e) (told : IsLastTold doc name v e) (slow near far enough needed most : ℕ) (paced : IsPaced doc q a e slow near far enough needed most)
     (latest : ℕ) (first : a ≤ latest) (word : v + far ≤ suc latest) (within : latest + most ≤ e) where
   abbrev hears_at : ℕ → Bool
   hears_at k = has_pass doc q k && hears q name (synced_at doc q k)
@@ -66,7 +66,7 @@ module _ (doc : Doc) (own : IsOwn doc) (q : Identity) (name a e v : ℕ) (watche
   early : last.at ≤ latest
   early =
       ⊎_elim (λ same. omega (arith, same, first)) (λ lt. omega (arith, lt, word))
-      (passes_hear_in_time doc own q name a last.at e v watches.attends due told slow far paced.slowly paced.far_enough paced.some last.least end
+      (passes_hear_in_time doc own free q name a last.at e v watches.attends due told slow far paced.slowly paced.far_enough paced.some last.least end
       (record { pass = pass; heard = heard; found = watches.stored last.at last.least end }))
 
   -- not before the latest renewal
@@ -80,7 +80,7 @@ module _ (doc : Doc) (own : IsOwn doc) (q : Identity) (name a e v : ℕ) (watche
           next : a < v → (k : ℕ) × (v ≤ k) × (k ≤ e) × (has_pass doc q k ≡ true)
           next lt =
               let r = last_of (has_pass doc q) a (v - 1 - a) due in
-              let n = next_pass doc own q a e watches.attends slow far paced.slowly paced.far_enough r.at r.least paced.some (omega (arith, r.most, word, within, lt)) r.is in
+              let n = next_pass doc own free q a e watches.attends slow far paced.slowly paced.far_enough r.at r.least paced.some (omega (arith, r.most, word, within, lt)) r.is in
               (n.at, ⊎_elim (λ before. absurd (true_is (sym n.pass ∙ r.none n.at n.after (omega (arith, before, lt))))) (λ le. le) (cases_lt n.at v), omega (arith, n.most, r.most, word, within, lt), n.pass)
 
       by_pass : (k : ℕ) × (v ≤ k) × (k ≤ e) × (has_pass doc q k ≡ true) → v ≤ last.at
@@ -91,7 +91,7 @@ module _ (doc : Doc) (own : IsOwn doc) (q : Identity) (name a e v : ℕ) (watche
   pub marks : MarkedAfter doc q name a e v latest near far enough needed most (IsLatestRenewal name told.x told.before)
   marks =
       let m =
-      nodes_are_marked doc own q name last.at e (λ k low high. watches.attends k (omega (arith, low, last.least)) high) is_last slow paced.fast near far (λ j low high. paced.slowly j (omega (arith, low, last.least)) high)
+      nodes_are_marked doc own free q name last.at e (λ k low high. watches.attends k (omega (arith, low, last.least)) high) is_last slow paced.fast near far (λ j low high. paced.slowly j (omega (arith, low, last.least)) high)
       (λ j low high. paced.fastly j (omega (arith, low, last.least)) high) paced.near_needed paced.far_enough paced.some enough needed most paced.is_enough paced.is_needed paced.greatest (let le = early in omega (arith, le, within)) in
       record {
         p = last.at;
@@ -108,21 +108,21 @@ module _ (doc : Doc) (own : IsOwn doc) (q : Identity) (name a e v : ℕ) (watche
       }
 
 pub dead_nodes_are_marked : DeadNodesAreMarked
-dead_nodes_are_marked doc own q name a e v watches told slow near far enough needed most paced latest first word within = marks doc own q name a e v watches told slow near far enough needed most paced latest first word within
+dead_nodes_are_marked doc own free q name a e v watches told slow near far enough needed most paced latest first word within = marks doc own free q name a e v watches told slow near far enough needed most paced latest first word within
 
 pub deaths_are_marked : DeathsAreMarked
-deaths_are_marked doc q name a e v watches told slow near far enough needed most paced short long s last kubelet sound one lives some alone reach latest first word within =
+deaths_are_marked doc free q name a e v watches told slow near far enough needed most paced short long s last kubelet sound one lives some alone reach latest first word within =
     let soon = last_words_are_soon doc short long s last e v kubelet name sound one lives some alone reach told in
-    marks doc sound.2 q name a e v watches told slow near far enough needed most paced latest first (omega (arith, soon, word)) within
+    marks doc sound.2 free q name a e v watches told slow near far enough needed most paced latest first (omega (arith, soon, word)) within
 
 -- ---- the taint, and the pods
 
 pub dead_nodes_end : DeadNodesEnd
-dead_nodes_end doc own q name a e v watches told slow near far enough needed most paced latest first word within place y k rate interval turn last late keeps interval_enough turn_enough few last_is end =
+dead_nodes_end doc own free q name a e v watches told slow near far enough needed most paced latest first word within place y k rate interval turn last late keeps interval_enough turn_enough few last_is end =
     (marked, t.0, t.1, omega (arith, t.2, bound, last_is), t.3, gone)
   where
     marked : MarkedAfter doc q name a e v latest near far enough needed most (IsLatestRenewal name told.x told.before)
-    marked = marks doc own q name a e v watches told slow near far enough needed most paced latest first word within
+    marked = marks doc own free q name a e v watches told slow near far enough needed most paced latest first word within
 
     from : a ≤ marked.m
     from = omega (arith, marked.from, marked.after)
@@ -141,15 +141,15 @@ dead_nodes_end doc own q name a e v watches told slow near far enough needed mos
         taints_come_anyway doc own q place name marked.m y e (λ j low high. watches.attends j (omega (arith, low, from)) high) (omega (arith, marked.soon, late)) rate slow interval turn keeps runs interval_enough turn_enough
         (omega (arith, bound, last_is, end))
 
-    gone : IsDated doc q.process → (seconds beats j : ℕ) → IsEnough slow (of_seconds seconds) beats → last + beats ≤ j → j ≤ e → (key : Key) → is_pod key.kind ≡ true → IsDoomed doc q t.0 seconds key (after_turn doc q.process j) → ⊥
-    gone dated seconds beats j is le stop key kind doomed =
-        pods_go doc own q t.0 j seconds slow beats dated (watches.attends j (omega (arith, from, t.1, t.2, bound, last_is, le)) stop) (λ i low high. paced.slowly i (omega (arith, low, from, t.1)) (omega (arith, high, stop))) is
+    gone : EvictsByOwn doc → IsDated doc q.process → (seconds beats j : ℕ) → IsEnough slow (of_seconds seconds) beats → last + beats ≤ j → j ≤ e → (key : Key) → is_pod key.kind ≡ true → IsDoomed doc q t.0 seconds key (after_turn doc q.process j) → ⊥
+    gone evicts dated seconds beats j is le stop key kind doomed =
+        pods_go doc own evicts q t.0 j seconds slow beats dated (watches.attends j (omega (arith, from, t.1, t.2, bound, last_is, le)) stop) (λ i low high. paced.slowly i (omega (arith, low, from, t.1)) (omega (arith, high, stop))) is
         (omega (arith, t.2, bound, last_is, le)) key kind doomed
 
 -- ---- another's taint
 
 pub pods_go_after_failovers : PodsGoAfterFailovers
-pods_go_after_failovers doc own r q t k seconds slow enough same dated attended runs is le key kind doomed = pods_go doc own q t k seconds slow enough dated attended runs is le key kind mine
+pods_go_after_failovers doc own evicts r q t k seconds slow enough same dated attended runs is le key kind doomed = pods_go doc own evicts q t k seconds slow enough dated attended runs is le key kind mine
   where
     taint_is : (wanted : ℕ) → new_taint doc t r wanted ≡ new_taint doc t q wanted
     taint_is wanted = ap (λ at. record { key = wanted; value = 0; effect = NoExecute; added = Some (record { 0 = whole_second at }) }) same

@@ -1,5 +1,5 @@
--- A document whose version isn't 4 has the project's own rules of elections, its terms sync at once, and its script never stops the store: the
--- keys and the type of event that say otherwise are unknown there.
+-- A document whose version isn't 4 has the project's own rules of elections and of evictions, its terms sync at once, its passes take no time,
+-- and its script never stops the store: the keys and the type of event that say otherwise are unknown there.
 use Rattle.std.proofs.Common.{◌≡◌, ℕ, ◌+◌, ◌==◌, ◌&&◌, ◌||◌, nat_lt, ◌++◌, Bool, true, false, List, [], ◌∷◌, codes, Option, Some, None, Result, refl, sym, ap, ◌∙◌, Ordering, Less, Equal, Greater}
 use Rattle.std.specs.Prelude.{option_and_then, ℤ, if◌then◌else◌}
 use Rattle.std.specs.Cmp.Lexicographic.{slice_cmp}
@@ -13,11 +13,12 @@ use Rattle.serde_json.specs.Data.{Data, null, boolean, number, string, array, ob
 use Rattle.serde_json.specs.Find.{get, get_member, as_number, as_object, as_u64, as_i64}
 use Rattle.kube_base.specs.Names.{fixed_names}
 use Rattle.kube_objects.specs.Document.{own_waits_each}
-use Rattle.kube_objects.specs.Own.{ElectsByOwn, SettlesAtOnce, AreUnstalled}
+use Rattle.kube_objects.specs.Own.{ElectsByOwn, EvictsByOwn, SettlesAtOnce, PassesTakeNoWork, AreUnstalled}
 use Rattle.kube_objects.specs.Rules.{own_rules, own_waits}
 use Rattle.kube_objects.specs.declared.rules.Rules.{Rules}
 use Rattle.kube_objects.specs.declared.rules.RetryRule.TheVariants as retries
 use Rattle.kube_objects.specs.declared.rules.RespectRule.TheVariants as respects
+use Rattle.kube_objects.specs.declared.rules.EvictRule.TheVariants as evictions
 use Rattle.kube_objects.specs.declared.script.Event.{Event}
 use Rattle.kube_objects.specs.declared.script.Proc.{Proc}
 use Rattle.kube_objects.specs.declared.script.What.{What}
@@ -111,23 +112,31 @@ required-version (Some d) other = earlier-version d other
 
 -- ---- settings
 
--- the rules of elections are the project's own, and a term syncs at once
+-- the rules of elections and of evictions are the project's own, a term syncs at once, and a pass takes no time
 record GoByOwn (rules : Rules) : Type 0 where
   pub retries : rules.retries ≡ retries.After
   pub respect : rules.respect ≡ respects.Record
   pub at_once : rules.first_sync_millis ≡ 0
+  pub from : rules.evict_from ≡ evictions.Added
+  pub burst : rules.evict_burst ≡ 0
+  pub no_work : rules.ready_millis ≡ 0
 
 -- settings without the keys of these
 record HaveNone (d : Data) : Type 0 where
   pub retries : get (codes "retries") d ≡ None
   pub respect : get (codes "respect") d ≡ None
   pub first_sync : get (codes "firstSyncMillis") d ≡ None
+  pub evict_from : get (codes "evictFrom") d ≡ None
+  pub evict_burst : get (codes "evictBurst") d ≡ None
+  pub evict_rate : get (codes "evictRate") d ≡ None
+  pub ready_millis : get (codes "readyMillis") d ≡ None
+  pub ready_burst : get (codes "readyBurst") d ≡ None
 
 judging-own : (preset : Preset) (path : List ℕ) (d : Data) → AreOwn preset d → HaveNone d → Gets GoByOwn (judging_at own_rules path d)
 unfolding judging_at
 judging-own preset path d own none =
     rw (none.retries, none.respect, none.first_sync, own.judging.probe, own.judging.judge, own.judging.first_sight)
-    (done _ (record { retries = refl; respect = refl; at_once = refl }))
+    (done _ (record { retries = refl; respect = refl; at_once = refl; from = refl; burst = refl; no_work = refl }))
 
 rules-own : (preset : Preset) (path : List ℕ) (d : Data) → AreOwn preset d → HaveNone d → Gets GoByOwn (rules_at preset path d)
 unfolding rules_at
@@ -136,7 +145,8 @@ rules-own preset path d own none = by preset own.own own
     by : (preset : Preset) → preset ≡ presets.Own → AreOwn preset d → Gets GoByOwn (rules_at preset path d)
     by presets.Own e own =
         and_then (judging-own presets.Own path d own none) (λ judging goes.
-        rw (tainting-default judging path d own.tainting, ending-default judging path d own.ending) (done judging goes))
+        rw (tainting-default judging path d own.tainting none.evict_from none.evict_burst none.evict_rate)
+        (rw (ending-default judging path d own.ending none.ready_millis none.ready_burst) (done judging goes)))
     by presets.Upstream120 e own = absurd (let none : ⊥ = cc in none)
     by presets.Upstream136 e own = absurd (let none : ⊥ = cc in none)
 
@@ -158,6 +168,36 @@ first_sync-unknown versions.One earlier = refl
 first_sync-unknown versions.Two earlier = refl
 first_sync-unknown versions.Three earlier = refl
 first_sync-unknown versions.Four earlier = absurd (let none : ⊥ = cc in none)
+
+evict_from-unknown : (version : Version) → is_four version ≡ false → is_key_of (tables.Settings version) (codes "evictFrom") ≡ false
+evict_from-unknown versions.One earlier = refl
+evict_from-unknown versions.Two earlier = refl
+evict_from-unknown versions.Three earlier = refl
+evict_from-unknown versions.Four earlier = absurd (let none : ⊥ = cc in none)
+
+evict_burst-unknown : (version : Version) → is_four version ≡ false → is_key_of (tables.Settings version) (codes "evictBurst") ≡ false
+evict_burst-unknown versions.One earlier = refl
+evict_burst-unknown versions.Two earlier = refl
+evict_burst-unknown versions.Three earlier = refl
+evict_burst-unknown versions.Four earlier = absurd (let none : ⊥ = cc in none)
+
+evict_rate-unknown : (version : Version) → is_four version ≡ false → is_key_of (tables.Settings version) (codes "evictRate") ≡ false
+evict_rate-unknown versions.One earlier = refl
+evict_rate-unknown versions.Two earlier = refl
+evict_rate-unknown versions.Three earlier = refl
+evict_rate-unknown versions.Four earlier = absurd (let none : ⊥ = cc in none)
+
+ready_millis-unknown : (version : Version) → is_four version ≡ false → is_key_of (tables.Settings version) (codes "readyMillis") ≡ false
+ready_millis-unknown versions.One earlier = refl
+ready_millis-unknown versions.Two earlier = refl
+ready_millis-unknown versions.Three earlier = refl
+ready_millis-unknown versions.Four earlier = absurd (let none : ⊥ = cc in none)
+
+ready_burst-unknown : (version : Version) → is_four version ≡ false → is_key_of (tables.Settings version) (codes "readyBurst") ≡ false
+ready_burst-unknown versions.One earlier = refl
+ready_burst-unknown versions.Two earlier = refl
+ready_burst-unknown versions.Three earlier = refl
+ready_burst-unknown versions.Four earlier = absurd (let none : ⊥ = cc in none)
 
 waits-unknown : (version : Version) → is_four version ≡ false → is_key_of (tables.Controller version) (codes "waits") ≡ false
 waits-unknown versions.One earlier = refl
@@ -189,6 +229,11 @@ module _ (version : Version) (earlier : is_four version ≡ false) where
         retries = get-unknown (tables.Settings version) (codes "retries") (retries-unknown version earlier) d known;
         respect = get-unknown (tables.Settings version) (codes "respect") (respect-unknown version earlier) d known;
         first_sync = get-unknown (tables.Settings version) (codes "firstSyncMillis") (first_sync-unknown version earlier) d known;
+        evict_from = get-unknown (tables.Settings version) (codes "evictFrom") (evict_from-unknown version earlier) d known;
+        evict_burst = get-unknown (tables.Settings version) (codes "evictBurst") (evict_burst-unknown version earlier) d known;
+        evict_rate = get-unknown (tables.Settings version) (codes "evictRate") (evict_rate-unknown version earlier) d known;
+        ready_millis = get-unknown (tables.Settings version) (codes "readyMillis") (ready_millis-unknown version earlier) d known;
+        ready_burst = get-unknown (tables.Settings version) (codes "readyBurst") (ready_burst-unknown version earlier) d known;
       } in
       skip (beats_at path d) (λ beats.
       skip (timings_at standard path d) (λ timings.
@@ -369,9 +414,9 @@ module _ (scope : Scope) (cast : Cast) (earlier : is_four scope.version ≡ fals
 
 -- ---- the document
 
--- the three rules that run are the project's own
+-- the rules that run are the project's own
 abbrev IsByOwn : Document → Type 0
-IsByOwn d = ElectsByOwn (doc_of d) × SettlesAtOnce (doc_of d) × AreUnstalled (doc_of d).events
+IsByOwn d = ElectsByOwn (doc_of d) × SettlesAtOnce (doc_of d) × EvictsByOwn (doc_of d) × PassesTakeNoWork (doc_of d) × AreUnstalled (doc_of d).events
 
 document-own : (value : Data) → says_four (get (codes "version") value) ≡ false → Gets IsByOwn (document_at value)
 unfolding document_at
@@ -383,7 +428,7 @@ document-own value other =
     skip (default_of ([], controllers.1) (kubelets_in version settings controllers.1) (get (codes "kubelets") d)) (λ kubelets.
     skip (objects_at version kubelets.1 (numbers_of controllers.0.0) d) (λ objects.
     and_then (events-go (scope_of version settings) (cast_of controllers.0.0 kubelets.0) earlier objects.1 d) (λ events unstalled.
-    done _ (record { retries = own.retries; waits = waits; respect = own.respect }, own.at_once, unstalled))))))))
+    done _ (record { retries = own.retries; waits = waits; respect = own.respect }, own.at_once, record { from = own.from; burst = own.burst }, own.no_work, unstalled))))))))
 
 pub earlier-own : EarlierGoByOwn
 unfolding document_walk

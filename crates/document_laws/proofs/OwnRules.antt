@@ -1,17 +1,18 @@
--- A document that is read has the project's own rules, but for those of its elections and of a term's first sync: where a key says another
--- one, or the same, it is refused as not built.
-use Rattle.std.proofs.Common.{◌≡◌, ℕ, codes, List, Option, Some, None, Result, Ok, refl}
+-- A document that is read has the project's own rules, but for those of its elections, of a term's first sync, of evictions and of what a pass
+-- takes: where a key says another one, or the same, it is refused as not built.
+use Rattle.std.proofs.Common.{◌≡◌, ℕ, codes, List, Option, Some, None, Result, Ok, refl, ap}
 use Rattle.serde_json.specs.Data.{Data}
 use Rattle.serde_json.specs.Find.{get}
 use Rattle.kube_objects.specs.Own.{own_but_built}
 use Rattle.kube_objects.specs.Rules.{own_rules}
+use Rattle.kube_objects.specs.declared.rules.EvictRule.{EvictRule}
 use Rattle.kube_objects.specs.declared.rules.Rules.{Rules}
 use Rattle.manifest_json.specs.declared.fault.Refusal.{Refusal}
 use Rattle.manifest_laws.proofs.Getting.{Gets, done, refused, weaker, and_then, skip}
 use Rattle.script_reader.specs.declared.choice.Preset.{Preset}
 use Rattle.script_reader.specs.declared.choice.Preset.TheVariants as presets
 use Rattle.script_reader.specs.Built.{if_none, unless_there, if_own, judging_built, tainting_built, ending_built, rules_built}
-use Rattle.script_reader.specs.Choices.{choice_at, retries_of, respect_of}
+use Rattle.script_reader.specs.Choices.{choice_at, retries_of, respect_of, evict_from_of}
 use Rattle.script_reader.specs.Fields.{under, whole_at}
 use Rattle.script_reader.specs.Rules.{judging_at, tainting_at, ending_at, rules_at}
 
@@ -55,42 +56,53 @@ judging-own path d h =
 pub record NoTainting (d : Data) : Type 0 where
   pub queue : get (codes "queue") d ≡ None
   pub bucket : get (codes "bucket") d ≡ None
-  pub evict_from : get (codes "evictFrom") d ≡ None
-  pub evict_burst : get (codes "evictBurst") d ≡ None
-  pub evict_rate : get (codes "evictRate") d ≡ None
 
 tainting-none : (path : List ℕ) (d : Data) → Gets (λ e. NoTainting d) (tainting_built path d)
 unfolding tainting_built
 tainting-none path d =
     and_then (unless-none path (codes "queue") d) (λ x0 queue.
-    and_then (unless-none path (codes "bucket") d) (λ x1 bucket.
-    and_then (unless-none path (codes "evictFrom") d) (λ x2 evict_from.
-    and_then (unless-none path (codes "evictBurst") d) (λ x3 evict_burst.
-    weaker (unless-none path (codes "evictRate") d) (λ e evict_rate. record { queue = queue; bucket = bucket; evict_from = evict_from; evict_burst = evict_burst; evict_rate = evict_rate })))))
+    weaker (unless-none path (codes "bucket") d) (λ e bucket. record { queue = queue; bucket = bucket }))
 
-pub tainting-default : (rules : Rules) (path : List ℕ) (d : Data) → NoTainting d → tainting_at rules path d ≡ Ok rules
+pub tainting-default : (rules : Rules) (path : List ℕ) (d : Data) → NoTainting d → get (codes "evictFrom") d ≡ None → get (codes "evictBurst") d ≡ None → get (codes "evictRate") d ≡ None
+    → tainting_at rules path d ≡ Ok rules
 unfolding tainting_at
-tainting-default rules path d h = rw (h.queue, h.bucket, h.evict_from, h.evict_burst, h.evict_rate) refl
+tainting-default rules path d h from burst rate = rw (h.queue, h.bucket, from, burst, rate) refl
+
+-- how pods are evicted is read; how nodes are tainted stays
+tainting-keeps : (P : Rules → Type 0) (rules : Rules) (path : List ℕ) (d : Data) → NoTainting d
+    → ((from : EvictRule) (burst rate : ℕ) → P (record rules { evict_from = from; evict_burst = burst; evict_rate = rate })) → Gets P (tainting_at rules path d)
+unfolding tainting_at
+tainting-keeps P rules path d h kept =
+    rw (h.queue, h.bucket)
+    (skip (choice_at evict_from_of rules.evict_from path (codes "evictFrom") d) (λ from.
+    skip (whole_at rules.evict_burst 0 30000 path (codes "evictBurst") d) (λ burst.
+    skip (whole_at rules.evict_rate 0 1000000000 path (codes "evictRate") d) (λ rate.
+    done _ (kept from burst rate)))))
 
 pub record NoEnding (d : Data) : Type 0 where
   pub release : get (codes "release") d ≡ None
   pub in_release : get (codes "inRelease") d ≡ None
-  pub ready_millis : get (codes "readyMillis") d ≡ None
-  pub ready_burst : get (codes "readyBurst") d ≡ None
 
 ending-none : (path : List ℕ) (d : Data) → Gets (λ e. NoEnding d) (ending_built path d)
 unfolding ending_built
 ending-none path d =
     and_then (unless-none path (codes "release") d) (λ x0 release.
-    and_then (unless-none path (codes "inRelease") d) (λ x1 in_release.
-    and_then (unless-none path (codes "readyMillis") d) (λ x2 ready_millis.
-    weaker (unless-none path (codes "readyBurst") d) (λ e ready_burst. record { release = release; in_release = in_release; ready_millis = ready_millis; ready_burst = ready_burst }))))
+    weaker (unless-none path (codes "inRelease") d) (λ e in_release. record { release = release; in_release = in_release }))
 
-pub ending-default : (rules : Rules) (path : List ℕ) (d : Data) → NoEnding d → ending_at rules path d ≡ Ok rules
+pub ending-default : (rules : Rules) (path : List ℕ) (d : Data) → NoEnding d → get (codes "readyMillis") d ≡ None → get (codes "readyBurst") d ≡ None → ending_at rules path d ≡ Ok rules
 unfolding ending_at
-ending-default rules path d h = rw (h.release, h.in_release, h.ready_millis, h.ready_burst) refl
+ending-default rules path d h millis burst = rw (h.release, h.in_release, millis, burst) refl
 
--- settings with no rule of their own but for those of elections
+-- what a pass takes is read; how a term ends is the project's own
+ending-own : (rules : Rules) (path : List ℕ) (d : Data) → NoEnding d → IsOwnButBuilt rules → Gets IsOwnButBuilt (ending_at rules path d)
+unfolding ending_at
+ending-own rules path d h own =
+    rw (h.release, h.in_release)
+    (skip (whole_at rules.ready_millis 0 60000 path (codes "readyMillis") d) (λ millis.
+    skip (whole_at rules.ready_burst 0 30000 path (codes "readyBurst") d) (λ burst.
+    done _ (ap (λ (r : Rules). record r { ready_millis = millis; ready_burst = burst }) own))))
+
+-- settings with no rule of their own but for those that run
 pub record AreOwn (preset : Preset) (d : Data) : Type 0 where
   pub own : preset ≡ presets.Own
   pub judging : NoJudging d
@@ -117,6 +129,7 @@ rules-own preset path d h = by preset h.own
     by : (preset : Preset) → preset ≡ presets.Own → Gets IsOwnButBuilt (rules_at preset path d)
     by presets.Own e =
         and_then (judging-own path d h.judging) (λ judging own.
-        rw (tainting-default judging path d h.tainting, ending-default judging path d h.ending) (done judging own))
+        and_then (tainting-keeps IsOwnButBuilt judging path d h.tainting (λ from burst rate. ap (λ (r : Rules). record r { evict_from = from; evict_burst = burst; evict_rate = rate }) own)) (λ tainting own.
+        ending-own tainting path d h.ending own))
     by presets.Upstream120 e = absurd (let none : ⊥ = cc in none)
     by presets.Upstream136 e = absurd (let none : ⊥ = cc in none)

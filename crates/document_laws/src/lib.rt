@@ -19,13 +19,14 @@ pub fn sets_are_written_out()
 {}
 
 /// Every document of version 1, 2 or 3 has the project's own rules of elections: when failed attempts are made again, what each controller
-/// waits after them, and whose lease duration is respected. Its terms sync at once, and its script never stops the store.
+/// waits after them, and whose lease duration is respected; and of evictions. Its terms sync at once, its passes take no time, and its script
+/// never stops the store.
 pub fn earlier_documents_go_by_own()
     ensures { EarlierGoByOwn }
 {}
 
 /// A lawful document leaves the election Lease alone, stops controllers only, has delays of at least one beat, a beat between two
-/// pauses of a process, and but for its elections and a term's first sync no rules but the project's own.
+/// pauses of a process, and but for its elections, a term's first sync, evictions and what a pass takes no rules but the project's own.
 pub fn lawful_documents_are_sound()
     ensures { LawfulIsSound }
 {}

@@ -3,3 +3,4 @@ pub mod Changed
 pub mod Held
 pub mod Order
 pub mod Queue
+pub mod Rows

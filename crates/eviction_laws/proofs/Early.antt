@@ -102,7 +102,7 @@ early_by Seen doc k q pod given node_given at answer h made = sighted doc k q po
 early_at : (doc : Doc) (k : ℕ) (who : Actor) (d : Fact) (h : List Entry) → Made doc k who d h → NotEarlyAt doc k who d h
 early_at doc k who (Ticks (Delete pod given node_given at answer)) h (q, is, acting, made) =
     subst (λ who. IfDone answer (IfBy who (λ q. IsDue (wall doc q.process k) (due_for doc.settings.rules.evict_from doc q pod h)))) (sym is)
-    (early_by doc.settings.rules.evict_from doc k q pod given node_given at answer h made)
+    (early_by doc.settings.rules.evict_from doc k q pod given node_given at answer h made.0)
 early_at doc k who d h made = tt
 
 early_keeps : (doc : Doc) → Keeps doc (λ k step. NotEarlyIn doc)

@@ -19,9 +19,8 @@ use Rattle.kube_objects.specs.Newest.{newest, when, join, has, or_else, or_zero}
 use Rattle.kube_objects.specs.Process.{alive, last_call, call_in, is_late}
 use Rattle.kube_objects.specs.Stored.{Held, node_key, node_lease, key_of, at_key, request_write, stored, next_version}
 use Rattle.kube_objects.specs.Turns.{with_reply, expired_in}
-use Rattle.kube_objects.specs.Wire.{Sent, Back, back_of, back_as, request_delay_of, request_loss_of, request_delay, arrival, request_arrival, reply_arrival, next_call}
+use Rattle.kube_objects.specs.Wire.{Sent, Back, back_of, back_as, request_delay, request_arrival, reply_arrival, next_call}
 use Rattle.kube_objects.specs.Stalls.{is_stalled}
-use Rattle.kube_objects.proofs.Stalls.{arrives_now}
 use Rattle.history.specs.History.{three_steps, history}
 use Rattle.history.specs.Sound.{IsSound}
 use Rattle.history.specs.Steps.{answered}
@@ -41,7 +40,7 @@ use Rattle.call_laws.proofs.Once.{answers_differ}
 use Rattle.call_laws.proofs.Placing.{in_own_beat, forces_stand}
 use Rattle.call_laws.proofs.Starting.{actor_is}
 use Rattle.takeover_laws.specs.Calm.{Passes, IsSteady}
-use Rattle.takeover_laws.proofs.Rounds.{in_events}
+use Rattle.takeover_laws.proofs.Rounds.{in_events, request_passes}
 use Rattle.takeover_laws.proofs.Writers.{sends_of, since_low}
 use Rattle.heard_laws.specs.Heard.{is_about, tells_of}
 use Rattle.heard_laws.proofs.Heard.{below_ordered, no_cycle}
@@ -142,9 +141,9 @@ pub record WritesAt (doc : Doc) (name e w : ℕ) : Type 0 where
 module _ (doc : Doc) (sound : IsSound doc) (near far s l : ℕ) (q : Identity) (role : is_controller doc q.process ≡ false) (steady : IsSteady doc near far s l q.process) where
   -- when a request arrives
   pub arrives_in : (x : Entry) (T : List Entry) (call : Call) (arrives : Option ℕ) (m : ℕ) → IsTail (x ∷ T) (history doc m) → x.actor ≡ actor_of q → x.fact ≡ Sends call arrives → s ≤ x.beat → x.beat ≤ l
-      → (w : ℕ) × (arrives ≡ Some w) × (x.beat + near ≤ w) × (w ≤ x.beat + far)
-  arrives_in x T call arrives m at actor fact from to =
-      (x.beat + request_delay q.process (with_events doc x.beat), sending.arrives_is ∙ request_passes, omega (arith, passes.request_least), omega (arith, passes.request_most))
+      → ((k : ℕ) → s ≤ k → k ≤ l + far → is_stalled doc k ≡ false) → (w : ℕ) × (arrives ≡ Some w) × (x.beat + near ≤ w) × (w ≤ x.beat + far)
+  arrives_in x T call arrives m at actor fact from to goes =
+      (x.beat + request_delay q.process (with_events doc x.beat), sending.arrives_is ∙ comes, omega (arith, passes.request_least), omega (arith, passes.request_most))
     where
       sending : KubeletSends doc x.beat x.step q call arrives T
       sending = sends_as doc sound m q role x T call arrives at actor fact
@@ -152,16 +151,14 @@ module _ (doc : Doc) (sound : IsSound doc) (near far s l : ℕ) (q : Identity) (
       passes : Passes doc near far q.process x.beat
       passes = steady.passes x.beat from to
 
-      request_passes : request_arrival doc q.process x.beat T ≡ Some (x.beat + request_delay q.process (with_events doc x.beat))
-      request_passes =
-          let force = forces_stand doc sound.2 m x T at (omega (arith, sending.late)) in
-          arrives_now doc q.process x.beat T (ap (λ n. is_stalled doc (x.beat + n)) (ap (or_else 1) (force.0 (request_delay_of q.process))) ∙ passes.goes)
-          ∙ ap (λ b. arrival b x.beat (request_delay q.process T)) (ap (or_else false) (force.1 (request_loss_of q.process)) ∙ passes.requests)
-          ∙ ap (λ n. Some (x.beat + n)) (ap (or_else 1) (force.0 (request_delay_of q.process)))
+      comes : request_arrival doc q.process x.beat T ≡ Some (x.beat + request_delay q.process (with_events doc x.beat))
+      comes =
+          request_passes doc sound.2 near far q.process x.beat T passes (forces_stand doc sound.2 m x T at (omega (arith, sending.late)))
+          (goes (x.beat + request_delay q.process (with_events doc x.beat)) (omega (arith, from)) (omega (arith, passes.request_most, to)))
 
 module _ (doc : Doc) (sound : IsSound doc) (near far s l e : ℕ) (q : Identity) (role : is_controller doc q.process ≡ false) (steady : IsSteady doc near far s l q.process)
     (up_first : alive q.process (with_events doc s) ≡ Some q.incarnation) (fast : ℕ) (runs : RunsAtMost doc q.process s e fast) (timeout : (2 * far) * fast ≤ call_timeout doc q.process) (one : 1 ≤ near) (within : l ≤ e) where
-  module _ (alone : TellsAlone doc s e q (node_of doc q.process)) (leases : IsLeaseKey doc e (node_of doc q.process)) (end : l + far ≤ e)
+  module _ (alone : TellsAlone doc s e q (node_of doc q.process)) (leases : IsLeaseKey doc e (node_of doc q.process)) (end : l + far ≤ e) (goes : (k : ℕ) → s ≤ k → k ≤ l + far → is_stalled doc k ≡ false)
       (x : Entry) (T : List Entry) (call : Call) (arrives : Option ℕ) (at : IsTail (x ∷ T) (history doc (suc l))) (actor : x.actor ≡ actor_of q) (fact : x.fact ≡ Sends call arrives) (post : is_post call.request ≡ true)
       (from : s ≤ x.beat) (to : x.beat + 4 * far ≤ l) where
     abbrev name : ℕ
@@ -247,7 +244,7 @@ module _ (doc : Doc) (sound : IsSound doc) (near far s l e : ℕ) (q : Identity)
     in_3e = tail_trans (x3 ∷ D2) (history doc (suc l)) (history doc (suc e)) in_3 (later_tail doc (suc l) (suc e) (omega (arith, within)))
 
     arriving : (w : ℕ) × (request_arrival doc q.process y2 D2 ≡ Some w) × (y2 + near ≤ w) × (w ≤ y2 + far)
-    arriving = arrives_in doc sound near far s l q role steady x3 D2 put (request_arrival doc q.process y2 D2) (suc y2) at_3 refl refl (omega (arith, y2_least, from)) (omega (arith, y2_most, to))
+    arriving = arrives_in doc sound near far s l q role steady x3 D2 put (request_arrival doc q.process y2 D2) (suc y2) at_3 refl refl (omega (arith, y2_least, from)) (omega (arith, y2_most, to)) goes
 
     abbrev w : ℕ
     w = arriving.0

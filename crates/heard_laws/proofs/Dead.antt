@@ -234,7 +234,7 @@ module _ (doc : Doc) (sound : IsSound doc) (near far s l : ℕ) (q : Identity) (
       where
         ends : RoundEnds doc q r.x.beat (r.x.beat + 6 * far) (r.x ∷ r.before) l
         ends =
-            round_ends doc sound near far s l e q lives.role lives.steady lives.up timely.fast timely.runs timely.timeout one (omega (arith, end)) alone_here leases_here end r.x r.before r.call r.arrives r.at r.actor r.fact r.post (omega (arith, from, r.beat))
+            round_ends doc sound near far s l e q lives.role lives.steady lives.up timely.fast timely.runs timely.timeout one (omega (arith, end)) alone_here leases_here end lives.goes r.x r.before r.call r.arrives r.at r.actor r.fact r.post (omega (arith, from, r.beat))
             (omega (arith, to, far_most, r.beat)) (omega (arith, to, far_most, r.beat))
 
         since : IsTail born_at ends.h
@@ -260,7 +260,7 @@ module _ (doc : Doc) (sound : IsSound doc) (near far s l : ℕ) (q : Identity) (
 
     writes : (j : ℕ) (r : RoundAt j) → s ≤ j → j + 4 * far ≤ l → (w : ℕ) × WritesAt doc (node_of doc q.process) e w × (r.x.beat + 5 * near ≤ w)
     writes j r from to =
-        round_writes doc sound near far s l e q lives.role lives.steady lives.up timely.fast timely.runs timely.timeout one (omega (arith, end)) alone_here leases_here end r.x r.before r.call r.arrives r.at r.actor r.fact r.post (omega (arith, from, r.beat))
+        round_writes doc sound near far s l e q lives.role lives.steady lives.up timely.fast timely.runs timely.timeout one (omega (arith, end)) alone_here leases_here end lives.goes r.x r.before r.call r.arrives r.at r.actor r.fact r.post (omega (arith, from, r.beat))
         (omega (arith, to, r.beat))
 
     -- the last round that there is time for
@@ -330,7 +330,7 @@ last_words_are_soon doc near far s last e v q name sound one lives some alone en
 
         in_time : f.beat ≤ last → v ≤ last + far
         in_time le =
-            let a = arrives_in doc sound near far s last q lives.role lives.steady f S c made.s.arrives (suc e) f_in f_actor f_fact f_late le in
+            let a = arrives_in doc sound near far s last q lives.role lives.steady f S c made.s.arrives (suc e) f_in f_actor f_fact f_late le lives.goes in
             let same : told.x.beat ≡ a.0 = some_is told.x.beat a.0 (sym (due_at told.x.beat made.s.arrives made.arriving.now) ∙ a.1) in
             omega (arith, same, told.beat, a.3, le)
 

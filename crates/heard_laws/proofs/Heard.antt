@@ -199,7 +199,7 @@ module _ (doc : Doc) (own : IsOwn doc) (q : Identity) (name r p : ℕ) (attends 
 -- ---- the upper bound
 
 pub passes_hear_in_time : PassesHearInTime
-passes_hear_in_time doc own q name a p e v attends first told slow far runs enough some from to heard = ⊎_elim (λ same. inl same) (λ other. inr (later (omega (arith, from, other)))) (cases_eq p a)
+passes_hear_in_time doc own free q name a p e v attends first told slow far runs enough some from to heard = ⊎_elim (λ same. inl same) (λ other. inr (later (omega (arith, from, other)))) (cases_eq p a)
   where
     later : a < p → p < v + far
     later lt = ⊎_elim (λ early. omega (arith, early, soon)) (λ late. absurd (true_is (sym heard.heard ∙ quiet late))) (cases_lt last.at v)
@@ -218,7 +218,7 @@ passes_hear_in_time doc own q name a p e v attends first told slow far runs enou
           where
             by_next : last.at + far ≤ e → p ≤ last.at + far
             by_next within =
-                let next = next_pass doc own q a e attends slow far runs enough last.at last.least some within last.is in
+                let next = next_pass doc own free q a e attends slow far runs enough last.at last.least some within last.is in
                 ⊎_elim (λ less. absurd (true_is (sym next.pass ∙ none next.at next.after less))) (λ le. omega (arith, le, next.most)) (cases_lt next.at p)
 
         within_span : Attends doc q last.at p

@@ -90,7 +90,7 @@ module _ (doc : Doc) (sound : IsSound doc) (near far s l e : ℕ) (q : Identity)
     sent_beat = ap (λ (c : Call). c.sent) sending.call_is
 
     r : IsRound doc near far q call arrives x.beat
-    r = rounds_in doc sound.2 near far s l q steady one (suc l) x T call arrives at actor fact (omega (arith, sending.late)) from (omega (arith, to)) (λ k is most. omega (arith, most, to))
+    r = rounds_in doc sound.2 near far s l q steady one (suc l) x T call arrives at actor fact (omega (arith, sending.late)) from (omega (arith, to)) (λ k n least is most. omega (arith, most, to))
 
     abbrev y : ℕ
     y = r.comes

@@ -16,14 +16,14 @@ use Rattle.kube_objects.specs.InForce.{watches}
 use Rattle.kube_objects.specs.Modes.{nodes, places, state_in, rate_in, all_full, mode}
 use Rattle.kube_objects.specs.Newest.{when}
 use Rattle.kube_objects.specs.Own.{IsOwn}
-use Rattle.kube_objects.specs.Seen.{seen_node, is_fresh, is_synced, is_stale, node_names, pod_keys, is_pod}
+use Rattle.kube_objects.specs.Seen.{seen_node, is_fresh, is_synced, is_stale, node_names, is_pod}
 use Rattle.kube_objects.specs.Stored.{node_key}
 use Rattle.kube_objects.specs.Tainting.{Wants, Nothing, Wanted, Whatever, wants, has_condition, is_opposite, waits, Queued, head_of}
 use Rattle.kube_objects.specs.Tick.{add, for_each, has_settled, is_stripped, sync, mark_as, mark_seen, mark, is_same_mode, mode_as, set_mode, zone_as, zone, set_zones, marks, whole_pass, pass, clean_as, clean_seen, clean, cleaned, taint_as, taint_head, taint, tainted, evict, add_untaint, add_swap, taint_first, phases, tick}
 use Rattle.kube_objects.specs.Tokens.{rated, is_rated, has_token}
 use Rattle.kube_objects.specs.Tries.{try_node}
-use Rattle.kube_objects.proofs.Own.{cleaned-own, tainted-own, evicted-own}
-use Rattle.history_laws.proofs.Ticks.{IsPodKey, Each, pods_only, evict_step}
+use Rattle.kube_objects.proofs.Own.{cleaned-own, tainted-own}
+use Rattle.history_laws.proofs.Ticks.{IsPodKey, evict_step, evicted_each}
 
 -- a try to write a node over what the cache has, with its heartbeat
 pub record IsOver (q : Identity) (name : ℕ) (given : Version) (written : Node) (answer : Option Answer) (h : List Entry) : Type 0 where
@@ -47,10 +47,6 @@ marked_heartbeat at None = refl
 marked_heartbeat at (Some r) = refl
 
 module _ (doc : Doc) (own : IsOwn doc) (k : ℕ) (q : Identity) (P : List Entry → Type 0) (more : (t : Tick) (h : List Entry) → WritesOver q t h → P h → P (add k q t h)) where
-  each : {A : Type 0} (f : A → List Entry → List Entry) (Q : A → Type 0) → ((a : A) (h : List Entry) → Q a → P h → P (f a h)) → (xs : List A) (h : List Entry) → Each Q xs → P h → P (for_each f xs h)
-  each f Q keeps [] h all p = p
-  each f Q keeps (x ∷ xs) h all p = each f Q keeps xs (f x h) all.1 (keeps x h all.0 p)
-
   every : {A : Type 0} (f : A → List Entry → List Entry) → ((a : A) (h : List Entry) → P h → P (f a h)) → (xs : List A) (h : List Entry) → P h → P (for_each f xs h)
   every f keeps [] h p = p
   every f keeps (x ∷ xs) h p = every f keeps xs (f x h) (keeps x h p)
@@ -161,4 +157,4 @@ module _ (doc : Doc) (own : IsOwn doc) (k : ℕ) (q : Identity) (P : List Entry 
           let d = tainted doc k q c in
           let cleans : P c = subst P (sym (cleaned-own doc own k q b)) (every (clean doc k q) over_clean (node_names b) b (over_pass a (over_sync h p))) in
           let taints : P d = subst P (sym (tainted-own doc own k q c)) (every (taint doc k q) over_taint (places (nodes q c)) c cleans) in
-          subst P (sym (evicted-own doc own k q d)) (each (evict doc k q) IsPodKey over_evict (pod_keys d) d (pods_only d) taints)
+          evicted_each doc k q P over_evict d taints

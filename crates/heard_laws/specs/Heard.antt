@@ -8,7 +8,7 @@ use Rattle.kube_objects.specs.Document.{Doc}
 use Rattle.kube_objects.specs.Entry.{Entry, Identity, Fact, Ticks}
 use Rattle.kube_objects.specs.Health.{hears, last_pass}
 use Rattle.kube_objects.specs.Newest.{has}
-use Rattle.kube_objects.specs.Own.{IsOwn}
+use Rattle.kube_objects.specs.Own.{IsOwn, PassesTakeNoWork}
 use Rattle.kube_objects.specs.Stored.{Write, node_key, node_lease, at_key, write_of}
 use Rattle.history.specs.Evictions.{stored_node}
 use Rattle.history.specs.History.{history}
@@ -56,11 +56,11 @@ pub record HearsAt (doc : Doc) (q : Identity) (name p : ℕ) : Type 0 where
   pub heard : hears q name (synced_at doc q p) ≡ true
   pub found : has (stored_node name (synced_at doc q p)) ≡ true
 
--- with the project's own rules, of a leader that attends to the beats from a pass on: another pass that hears of a node comes sooner after the
+-- with the project's own rules, where the writes of passes take no time, of a leader that attends to the beats from a pass on: another pass that hears of a node comes sooner after the
 -- last write that tells of the node than the monitor period takes on the leader's clock
 abbrev pub PassesHearInTime : Type 0
 PassesHearInTime =
-    (doc : Doc) → IsOwn doc → (q : Identity) (name a p e v : ℕ) → Attends doc q a e → has_pass doc q a ≡ true → IsLastTold doc name v e
+    (doc : Doc) → IsOwn doc → PassesTakeNoWork doc → (q : Identity) (name a p e v : ℕ) → Attends doc q a e → has_pass doc q a ≡ true → IsLastTold doc name v e
     → (slow far : ℕ) → RunsAtLeast doc q.process a e slow → IsEnough slow (monitor_period doc) far → 1 ≤ far
     → a ≤ p → p ≤ e → HearsAt doc q name p → (p ≡ a) ⊎ (p < v + far)
 

@@ -12,6 +12,7 @@ use Rattle.kube_objects.specs.Entry.{Entry, Identity, Call, First, Event, Starts
 use Rattle.kube_objects.specs.Kinds.{IsOfKind}
 use Rattle.kube_objects.specs.Kubelet.{node_of, round_period}
 use Rattle.kube_objects.specs.Process.{alive}
+use Rattle.kube_objects.specs.Stalls.{is_stalled}
 use Rattle.kube_objects.specs.Stored.{event_write}
 use Rattle.history.specs.History.{history}
 use Rattle.history.specs.Sound.{IsSound}
@@ -22,12 +23,13 @@ use Rattle.takeover_laws.specs.Calm.{IsSteady}
 use Rattle.heard_laws.specs.Heard.{is_about, IsLastTold}
 
 -- the incarnation of a node's kubelet that starts in the events of beat s, with messages that pass from then to its last beat, and that isn't up after
--- the events of the next one
+-- the events of the next one; the store goes for one way more
 pub record LivesFrom (doc : Doc) (near far s last : ℕ) (q : Identity) (name : ℕ) : Type 0 where
   pub role : is_controller doc q.process ≡ false
   pub known : q.process < processes doc
   pub node : node_of doc q.process ≡ name
   pub steady : IsSteady doc near far s last q.process
+  pub goes : (k : ℕ) → s ≤ k → k ≤ last + far → is_stalled doc k ≡ false
   pub start : Entry
   pub before : List Entry
   pub stands : IsTail (start ∷ before) (with_events doc s)

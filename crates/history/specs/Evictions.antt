@@ -1,6 +1,6 @@
 -- The claims on evictions: a controller deletes a pod only when it is due on the controller's clock, and at the first tick that
--- reaches the store and is within the limit. The first holds of every document, the second is proved of those that go by the project's own
--- rules, and the limit isn't proved yet. Source: Kubernetes, Taints and Tolerations; the profile.
+-- reaches the store and is within the limit. The first and the limit hold of every document, the second of those that go by the project's own
+-- rules in all that nothing runs yet. Source: Kubernetes, Taints and Tolerations; client-go, `flowcontrol`; the profile.
 use Rattle.std.specs.Prelude.{ℕ, zero, suc, ◌+◌, ◌-◌, ◌*◌, ◌/◌, ◌≤◌, ◌≡◌, ◌⊎◌, ◌&&◌, nat_le, Bool, true, false, List, [], ◌∷◌, Option, Some, None}
 use Rattle.kube_base.specs.declared.numbers.Version.{Version}
 use Rattle.kube_objects.specs.declared.call.Answer.{Answer}

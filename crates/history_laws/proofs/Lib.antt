@@ -13,3 +13,4 @@ pub mod Numbers
 pub mod Starts
 pub mod Bounds
 pub mod OwnRules
+pub mod Sightings

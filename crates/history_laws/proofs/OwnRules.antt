@@ -11,16 +11,16 @@ use Rattle.history_laws.specs.Own.{OwnRulesChangeNothing}
 
 pub own_rules_change_nothing : OwnRulesChangeNothing
 own_rules_change_nothing doc own none = (
-  λ at_once. record {
+  λ at_once no_work evicts. record {
     ticks = λ k p h. ticks_go doc k p h (never_stalled doc k none);
     settles = has_settled-own doc at_once;
-    passes = pass_period-own doc own;
+    passes = pass_period-own doc no_work;
     hears = heard-own doc own;
     cleans = cleaned-own doc own;
     taints = tainted-own doc own;
     tokens = has_token-own doc own;
-    evicts = evict-own doc own;
-    evictions = evicted-own doc own;
+    evicts = evict-own doc evicts;
+    evictions = evicted-own doc evicts;
   },
   λ elects. (
     record {

@@ -1,5 +1,5 @@
 -- One walk through a tick, for every property that each of its entries keeps.
-use Rattle.std.proofs.Common.{◌≡◌, ◌≤◌, ℕ, ◌==◌, ◌&&◌, ◌||◌, not, nat_lt, nat_le, if◌then◌else◌, Bool, true, false, List, [], ◌∷◌, Option, Some, None, refl, arith}
+use Rattle.std.proofs.Common.{◌≡◌, ◌≤◌, ℕ, ◌==◌, ◌&&◌, ◌||◌, not, nat_lt, nat_le, if◌then◌else◌, Bool, true, false, List, [], ◌∷◌, Option, Some, None, refl, sym, ◌∙◌, arith}
 use Rattle.std.specs.Prelude.{if◌then◌else◌}
 use Rattle.std.specs.List.{list_any}
 use Rattle.std.specs.declared.cmp.Ordering.{Ordering}
@@ -40,6 +40,7 @@ use Rattle.kube_objects.specs.Tokens.{rated, is_rated, has_token}
 use Rattle.kube_objects.specs.Tolerations.{due}
 use Rattle.kube_objects.specs.Tries.{try_node, try_delete, try_delete_alone}
 use Rattle.kube_objects.specs.Zones.{state_rate, partial_rate, full_rate, rate_of}
+use Rattle.history_laws.proofs.Plainly.{true_is}
 
 -- a try to write a node as the cache has it
 abbrev pub IsTry : Identity → ℕ → Version → Option Answer → List Entry → Type 0
@@ -70,6 +71,10 @@ abbrev pub IsDeleteBy : EvictRule → Doc → ℕ → Identity → Key → Versi
 IsDeleteBy Added doc k q pod given node_given at answer h = IsDelete doc k q pod given node_given at answer h
 IsDeleteBy Seen doc k q pod given node_given at answer h = IsSightedDelete doc k q pod given node_given at answer h
 
+-- a further delete is within the limit, where there is one
+abbrev pub HasRoom : Doc → ℕ → Identity → List Entry → Type 0
+HasRoom doc k q h = (doc.settings.rules.evict_burst == 0) ≡ false → has_room doc q k 0 h ≡ true
+
 -- a rate isn't above the primary one, where the secondary one isn't
 abbrev pub IsRate : Doc → ℕ → Type 0
 IsRate doc rate = doc.settings.secondary_rate ≤ doc.settings.primary_rate → rate ≤ doc.settings.primary_rate
@@ -84,7 +89,7 @@ MadeTick doc k q (Zone place state rate) h = IsRate doc rate
 MadeTick doc k q (Untaint name given node answer) h = IsTry q name given answer h
 MadeTick doc k q (Swap name wanted given node answer) h = IsTry q name given answer h
 MadeTick doc k q (Head place name wanted given node answer) h = (has_token doc q k place h ≡ true) × IsTry q name given answer h
-MadeTick doc k q (Delete pod given node_given at answer) h = IsDeleteBy doc.settings.rules.evict_from doc k q pod given node_given at answer h
+MadeTick doc k q (Delete pod given node_given at answer) h = IsDeleteBy doc.settings.rules.evict_from doc k q pod given node_given at answer h × HasRoom doc k q h
 MadeTick doc k q (Skip place name) h = has_token doc q k place h ≡ true
 
 -- ---- rates
@@ -209,6 +214,26 @@ evict_step doc k q P pod h kind p more = by_rule doc.settings.rules.evict_from m
     by_rule : (rule : EvictRule) → ((given node_given : Version) (at : ℕ) (a : Option Answer) → IsDeleteBy rule doc k q pod given node_given at a h → P (add k q (Delete pod given node_given at a) h)) → P (evict_by rule doc k q pod h)
     by_rule Added more = evict_added doc k q P pod h kind p more
     by_rule Seen more = evict_sight doc k q P pod h kind p more
+
+-- what the look at each pod keeps, the phase of deletes keeps
+pub evicted_each : (doc : Doc) (k : ℕ) (q : Identity) (P : List Entry → Type 0) → ((pod : Key) (h : List Entry) → IsPodKey pod → P h → P (evict doc k q pod h)) → (h : List Entry) → P h → P (evicted doc k q h)
+evicted_each doc k q P one h p = by_limit (doc.settings.rules.evict_burst == 0)
+  where
+    free : (keys : List Key) (h : List Entry) → Each IsPodKey keys → P h → P (for_each (evict doc k q) keys h)
+    free [] h all p = p
+    free (pod ∷ pods) h all p = free pods (evict doc k q pod h) all.1 (one pod h all.0 p)
+
+    by_room : (x : ℕ × Key) (h : List Entry) → IsPodKey x.1 → P h → (b : Bool) → P (if b then evict doc k q x.1 h else h)
+    by_room x h kind p true = one x.1 h kind p
+    by_room x h kind p false = p
+
+    within : (xs : List (ℕ × Key)) (h : List Entry) → Each (λ x. IsPodKey x.1) xs → P h → P (for_each (evict_within doc k q) xs h)
+    within [] h all p = p
+    within (x ∷ xs) h all p = within xs (evict_within doc k q x h) all.1 (by_room x h all.0 p (has_room doc q k 0 h))
+
+    by_limit : (b : Bool) → P (elim b [ true ↦ for_each (evict doc k q) (pod_keys h) h | false ↦ for_each (evict_within doc k q) (dues doc q (pod_keys h) h) h ])
+    by_limit true = free (pod_keys h) h (pods_only h) p
+    by_limit false = within (dues doc q (pod_keys h) h) h (dues_only doc q h (pod_keys h) (pods_only h)) p
 
 -- ---- the walk
 
@@ -376,22 +401,25 @@ module _ (doc : Doc) (k : ℕ) (q : Identity) (P : List Entry → Type 0) (more 
       by_rule judges.Tick = every (taint doc k q) walk_taint (places (nodes q h)) h p
       by_rule judges.Pass = every (push doc k q) walk_push (places (nodes q (before_pass q h))) h p
 
-  pub walk_evict : (pod : Key) (h : List Entry) → IsPodKey pod → P h → P (evict doc k q pod h)
-  walk_evict pod h kind p = evict_step doc k q P pod h kind p (λ given node_given at a made. more (Delete pod given node_given at a) h made p)
+  walk_evict : (pod : Key) (h : List Entry) → IsPodKey pod → HasRoom doc k q h → P h → P (evict doc k q pod h)
+  walk_evict pod h kind room p = evict_step doc k q P pod h kind p (λ given node_given at a made. more (Delete pod given node_given at a) h (made, room) p)
 
   walk_within : (x : ℕ × Key) (h : List Entry) → IsPodKey x.1 → P h → P (evict_within doc k q x h)
-  walk_within x h kind p = by_room (has_room doc q k 0 h)
+  walk_within x h kind p = by_room (has_room doc q k 0 h) refl
     where
-      by_room : (b : Bool) → P (if b then evict doc k q x.1 h else h)
-      by_room false = p
-      by_room true = walk_evict x.1 h kind p
+      by_room : (b : Bool) → has_room doc q k 0 h ≡ b → P (if b then evict doc k q x.1 h else h)
+      by_room false is = p
+      by_room true is = walk_evict x.1 h kind (λ limited. is) p
 
   pub walk_evicted : (h : List Entry) → P h → P (evicted doc k q h)
-  walk_evicted h p = by_limit (doc.settings.rules.evict_burst == 0)
+  walk_evicted h p = by_limit (doc.settings.rules.evict_burst == 0) refl
     where
-      by_limit : (b : Bool) → P (elim b [ true ↦ for_each (evict doc k q) (pod_keys h) h | false ↦ for_each (evict_within doc k q) (dues doc q (pod_keys h) h) h ])
-      by_limit true = each (evict doc k q) IsPodKey walk_evict (pod_keys h) h (pods_only h) p
-      by_limit false = each (evict_within doc k q) (λ x. IsPodKey x.1) walk_within (dues doc q (pod_keys h) h) h (dues_only doc q h (pod_keys h) (pods_only h)) p
+      by_limit : (b : Bool) → (doc.settings.rules.evict_burst == 0) ≡ b
+          → P (elim b [ true ↦ for_each (evict doc k q) (pod_keys h) h | false ↦ for_each (evict_within doc k q) (dues doc q (pod_keys h) h) h ])
+      by_limit true free =
+          each (evict doc k q) IsPodKey (λ pod g kind p. walk_evict pod g kind (λ limited. absurd (true_is (sym free ∙ limited))) p) (pod_keys h) h (pods_only h) p
+      by_limit false limited =
+          each (evict_within doc k q) (λ x. IsPodKey x.1) walk_within (dues doc q (pod_keys h) h) h (dues_only doc q h (pod_keys h) (pods_only h)) p
 
   pub walk_tick : (h : List Entry) → P h → P (tick doc k q h)
   walk_tick h p = by_test (is_synced q (sync doc k q h))

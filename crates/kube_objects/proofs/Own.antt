@@ -9,7 +9,7 @@ use Rattle.kube_objects.specs.Elector.{acts, leads_on, in_term, led_at, moment, 
 use Rattle.kube_objects.specs.Entry.{Entry, Identity, Place, Call, CallKind, Ends, Expires, entry}
 use Rattle.kube_objects.specs.Health.{heard, probe, pass_period, pass_work}
 use Rattle.kube_objects.specs.Newest.{or_else}
-use Rattle.kube_objects.specs.Own.{IsOwn, ElectsByOwn, SettlesAtOnce}
+use Rattle.kube_objects.specs.Own.{IsOwn, ElectsByOwn, EvictsByOwn, PassesTakeNoWork, SettlesAtOnce}
 use Rattle.kube_objects.specs.Pauses.{is_paused}
 use Rattle.kube_objects.specs.Process.{release_begun, is_release_over, is_late}
 use Rattle.kube_objects.specs.Retries.{wait_after}
@@ -51,12 +51,6 @@ module _ (doc : Doc) (own : IsOwn doc) where
   pub heard-own : (q : Identity) (name : ℕ) (h : List Entry) → heard doc.settings.rules.probe q name h ≡ probe q name h
   heard-own q name h = ap (λ r. heard r.probe q name h) own.rules
 
-  pub pass_period-own : (q : Identity) (h : List Entry) → pass_period doc q h ≡ of_millis doc.settings.monitor_period_millis
-  pass_period-own q h =
-      ap
-      (λ n. elim (n == 0) [ true ↦ of_millis doc.settings.monitor_period_millis | false ↦ of_millis doc.settings.monitor_period_millis + pass_work doc q h ])
-      (ap (λ r. r.ready_millis) own.rules)
-
   pub cleaned-own : (k : ℕ) (q : Identity) (h : List Entry) → cleaned doc k q h ≡ for_each (clean doc k q) (node_names h) h
   cleaned-own k q h = ap (λ r. cleaned_by r.judge doc k q h) own.rules
 
@@ -66,18 +60,26 @@ module _ (doc : Doc) (own : IsOwn doc) where
   pub has_token-own : (q : Identity) (k : ℕ) (place : Place) (h : List Entry) → has_token doc q k place h ≡ is_grown (grown doc q k place h) (rated q place h)
   has_token-own q k place h = ap (λ r. token_by r.bucket doc q k place h) own.rules
 
+module _ (doc : Doc) (own : EvictsByOwn doc) where
   pub evict-own : (k : ℕ) (q : Identity) (pod : Key) (h : List Entry) → evict doc k q pod h ≡ evict_seen doc k q pod (is_stale q pod h) (seen_pod q pod h) h
-  evict-own k q pod h = ap (λ r. evict_by r.evict_from doc k q pod h) own.rules
+  evict-own k q pod h = ap (λ r. evict_by r doc k q pod h) own.from
 
   pub evicted-own : (k : ℕ) (q : Identity) (h : List Entry) → evicted doc k q h ≡ for_each (evict doc k q) (pod_keys h) h
   evicted-own k q h =
       ap
       (λ n. elim (n == 0) [ true ↦ for_each (evict doc k q) (pod_keys h) h | false ↦ for_each (evict_within doc k q) (dues doc q (pod_keys h) h) h ])
-      (ap (λ r. r.evict_burst) own.rules)
+      own.burst
 
 module _ (doc : Doc) (own : SettlesAtOnce doc) where
   pub has_settled-own : (k : ℕ) (q : Identity) (h : List Entry) → has_settled doc k q h ≡ true
   has_settled-own k q h = ap (λ n. (n == 0) || nat_le (local doc q.process (led_at q h) + of_millis n) (local doc q.process k)) own
+
+module _ (doc : Doc) (own : PassesTakeNoWork doc) where
+  pub pass_period-own : (q : Identity) (h : List Entry) → pass_period doc q h ≡ of_millis doc.settings.monitor_period_millis
+  pass_period-own q h =
+      ap
+      (λ n. elim (n == 0) [ true ↦ of_millis doc.settings.monitor_period_millis | false ↦ of_millis doc.settings.monitor_period_millis + pass_work doc q h ])
+      own
 
 module _ (doc : Doc) (own : ElectsByOwn doc) where
   -- ---- retries

@@ -1,9 +1,10 @@
 -- A document that goes by the project's own rules in all that nothing runs yet, as every one of versions 1 to 3 does; and one that goes by
--- them in its elections too, or in a term's first sync. Source: profile.
+-- them in its elections too, in a term's first sync, in its evictions, or in what a pass takes. Source: profile.
 use Rattle.std.specs.Prelude.{◌≡◌, List, [], ◌∷◌, None}
 use Rattle.kube_objects.specs.declared.rules.Rules.{Rules}
 use Rattle.kube_objects.specs.declared.rules.RetryRule.TheVariants as retries
 use Rattle.kube_objects.specs.declared.rules.RespectRule.TheVariants as respects
+use Rattle.kube_objects.specs.declared.rules.EvictRule.TheVariants as evictions
 use Rattle.kube_objects.specs.declared.script.Event.{Event}
 use Rattle.kube_objects.specs.Document.{Doc, own_waits_each}
 use Rattle.kube_objects.specs.Rules.{own_rules}
@@ -14,9 +15,19 @@ abbrev pub AreUnstalled : List Event → Type 0
 AreUnstalled [] = Unit {0}
 AreUnstalled (e ∷ es) = (stall_of e.what ≡ None) × AreUnstalled es
 
--- the own rules, but for those that run: the ones of elections, and how long a term waits with its first sync
+-- the own rules, but for those that run: the ones of elections, how long a term waits with its first sync, the ones of evictions, and how
+-- long a pass takes for the pods that it sets not ready
 abbrev pub own_but_built : Rules → Rules
-own_but_built rules = record own_rules { retries = rules.retries; respect = rules.respect; first_sync_millis = rules.first_sync_millis }
+own_but_built rules = record own_rules {
+  retries = rules.retries;
+  respect = rules.respect;
+  first_sync_millis = rules.first_sync_millis;
+  evict_from = rules.evict_from;
+  evict_burst = rules.evict_burst;
+  evict_rate = rules.evict_rate;
+  ready_millis = rules.ready_millis;
+  ready_burst = rules.ready_burst;
+}
 
 pub record IsOwn (doc : Doc) : Type 0 where
   pub rules : doc.settings.rules ≡ own_but_built doc.settings.rules
@@ -30,3 +41,12 @@ pub record ElectsByOwn (doc : Doc) : Type 0 where
 -- no term waits with its first sync
 abbrev pub SettlesAtOnce : Doc → Type 0
 SettlesAtOnce doc = doc.settings.rules.first_sync_millis ≡ 0
+
+-- the writes of a pass take no time
+abbrev pub PassesTakeNoWork : Doc → Type 0
+PassesTakeNoWork doc = doc.settings.rules.ready_millis ≡ 0
+
+-- pods are due by the time of their nodes' taints, and as many go at once as are due
+pub record EvictsByOwn (doc : Doc) : Type 0 where
+  pub from : doc.settings.rules.evict_from ≡ evictions.Added
+  pub burst : doc.settings.rules.evict_burst ≡ 0

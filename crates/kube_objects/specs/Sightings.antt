@@ -6,6 +6,8 @@ use Rattle.kube_objects.specs.declared.deed.Actor.{Actor}
 use Rattle.kube_objects.specs.declared.key.Key.{Key}
 use Rattle.kube_objects.specs.declared.node.Node.{Node}
 use Rattle.kube_objects.specs.declared.node.Taint.{Taint}
+use Rattle.kube_objects.specs.declared.pod.Bears.{Bears}
+use Rattle.kube_objects.specs.declared.pod.Bears.TheVariants.{Untainted, NotAtAll, Ever, For}
 use Rattle.kube_objects.specs.declared.pod.Due.{Due}
 use Rattle.kube_objects.specs.declared.pod.Due.TheVariants.{Never, At}
 use Rattle.kube_objects.specs.declared.pod.Pod.{Pod}
@@ -21,13 +23,6 @@ use Rattle.kube_objects.specs.Tainting.{before_tick}
 use Rattle.kube_objects.specs.Tolerations.{first_tolerating, seconds_micros}
 
 -- ---- how long a pod bears its node's taints
-
--- there is nothing to bear, or not at all, or for ever, or so many microseconds
-pub data Bears : Type 0 where
-  Untainted : Bears
-  NotAtAll : Bears
-  Ever : Bears
-  For : (micros : ℕ) → Bears
 
 abbrev pub bears_for : Option ℤ → Bears
 bears_for None = Ever

@@ -51,5 +51,14 @@ pub enum Due {
     At(u128),
 }
 
+/// How long a pod bears the taints of its node: it has none to bear; or not at all; or for ever; or for so many microseconds.
+#[derive(Clone, Copy, Debug, PartialEq, Eq)]
+pub enum Bears {
+    Untainted,
+    NotAtAll,
+    Ever,
+    For(u128),
+}
+
 /// Pods with their due times.
 pub type DueList = ListOf<(Key, Due)>;

@@ -1,5 +1,5 @@
 // The settings of a document.
-use crate::Rules;
+use crate::{EvictRule, Rules};
 use kube_base::{Beat, Wall};
 
 /// How fast nodes are tainted in zones that are disrupted.
@@ -50,4 +50,12 @@ pub struct TickSettings {
     pub large_zone: u32,
     pub unhealthy_percent: u32,
     pub rate_policy: RatePolicy,
+    pub evict_from: EvictRule,
+    /// How many pods a term may evict at once. 0 is no limit.
+    pub evict_burst: u32,
+    /// How many further pods it may evict in 1,000 s.
+    pub evict_rate: u32,
+    /// How long a pass takes for each pod that it sets not ready, and for how many pods it takes no time.
+    pub ready_millis: u32,
+    pub ready_burst: u32,
 }

@@ -105,7 +105,7 @@ deletes_pod Added doc k q pod given node_given due a h made = made.kind
 deletes_pod Seen doc k q pod given node_given due a h made = made.kind
 
 pub deletes_elsewhere : (doc : Doc) (k : ℕ) (q : Identity) (t : Tick) (h : List Entry) → MadeTick doc k q t h → DeletesElsewhere t
-deletes_elsewhere doc k q (Delete pod given node_given due a) h made = pod_elsewhere pod.kind pod.space pod.name (deletes_pod doc.settings.rules.evict_from doc k q pod given node_given due a h made)
+deletes_elsewhere doc k q (Delete pod given node_given due a) h made = pod_elsewhere pod.kind pod.space pod.name (deletes_pod doc.settings.rules.evict_from doc k q pod given node_given due a h made.0)
 deletes_elsewhere doc k q Sync h made = tt
 deletes_elsewhere doc k q Pass h made = tt
 deletes_elsewhere doc k q (Mark name given node a) h made = tt

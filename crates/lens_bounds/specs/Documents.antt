@@ -1,5 +1,7 @@
 -- What a document's processes and events let messages and clocks do. Source: profile.
-use Rattle.std.specs.Prelude.{ℕ, ◌*◌, min, max, nat_lt, not, Bool, true, false, List, [], ◌∷◌, length}
+use Rattle.std.specs.Prelude.{ℕ, ◌*◌, ◌==◌, ◌&&◌, min, max, nat_lt, not, Bool, true, false, List, [], ◌∷◌, length}
+use Rattle.kube_objects.specs.declared.rules.EvictRule.{EvictRule}
+use Rattle.kube_objects.specs.declared.rules.EvictRule.TheVariants.{Added, Seen}
 use Rattle.kube_objects.specs.declared.script.Event.{Event}
 use Rattle.kube_objects.specs.declared.script.Proc.{Proc}
 use Rattle.kube_objects.specs.declared.script.What.{What}
@@ -97,11 +99,17 @@ calm_of doc = calm_with doc (reach_of doc true)
 abbrev pub with_far : ℕ → Reach → Reach
 with_far far r = record { far = max far r.far; least = r.least; greatest = r.greatest }
 
+abbrev pub is_added : EvictRule → Bool
+is_added Added = true
+is_added Seen = false
+
 -- for nodes the delays of kubelets count too
 abbrev pub outage_with : Doc → Reach → Reach → Outage
 outage_with doc own posts = record {
   calm = calm_with doc (with_far posts.far own);
   kubelets = nat_lt 0 (length doc.kubelets);
+  passes_take_no_work = doc.settings.rules.ready_millis == 0;
+  evicts_by_own = is_added doc.settings.rules.evict_from && doc.settings.rules.evict_burst == 0;
   posts_slow = beat_micros doc * posts.least;
   posts_fast = beat_micros doc * posts.greatest;
   timeout_millis = doc.settings.call_timeout_millis;

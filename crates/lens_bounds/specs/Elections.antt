@@ -1,7 +1,7 @@
 -- How long nobody leads, at least and at most, in beats: the bounds of the laws on calm spans, in their own words. Source: profile.
 use Rattle.std.specs.Int.{div_ceil}
 use Rattle.std.specs.List.{list_all}
-use Rattle.std.specs.Prelude.{ℕ, suc, ◌+◌, ◌-◌, ◌*◌, ◌/◌, ◌==◌, ◌&&◌, ◌≤◌, nat_le, nat_lt, min, max, Bool, true, false, List, [], ◌∷◌, Option, Some, None}
+use Rattle.std.specs.Prelude.{ℕ, ◌+◌, ◌-◌, ◌*◌, ◌/◌, ◌==◌, ◌&&◌, ◌≤◌, nat_le, nat_lt, min, max, Bool, true, false, List, [], ◌∷◌, Option, Some, None}
 use Rattle.kube_objects.specs.declared.rules.RespectRule.{RespectRule}
 use Rattle.kube_objects.specs.declared.rules.RespectRule.TheVariants.{Record, Own}
 use Rattle.kube_objects.specs.declared.script.Proc.{Proc}

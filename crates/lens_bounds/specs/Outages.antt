@@ -85,9 +85,13 @@ abbrev pub marked_if : Outage → Bool → Option Marked
 marked_if o true = Some (record { least = since_death o (unknown_least o); most = unknown_most o * o.calm.beat_millis })
 marked_if o false = None
 
+-- and passes take no time
+abbrev pub marks : Outage → Bool
+marks o = (o.kubelets && posts o) && o.passes_take_no_work
+
 -- from the death of a node's kubelet until the node is marked Unknown
 unfoldable pub until_unknown : Outage → Option Marked
-until_unknown o = marked_if o (o.kubelets && posts o)
+until_unknown o = marked_if o (marks o)
 
 abbrev pub tainted_after : Outage → ℕ → ℕ → Tainted
 tainted_after o least most = record {
@@ -102,11 +106,15 @@ tainted_if o false least most = None
 
 -- until it is tainted
 abbrev pub taints : Outage → Bool
-taints o = (o.kubelets && posts o) && not (o.rate == 0)
+taints o = marks o && not (o.rate == 0)
 
 unfoldable pub until_tainted : Outage → Option Tainted
 until_tainted o = tainted_if o (taints o) 0 0
 
+abbrev pub gone_if : Outage → Bool → ℕ → Option Tainted
+gone_if o true seconds = tainted_if o (taints o) (evict_least o seconds) (evict_most o seconds)
+gone_if o false seconds = None
+
 -- and until its pods are gone that tolerate the taint for so many seconds
 unfoldable pub until_gone : Outage → ℕ → Option Tainted
-until_gone o seconds = tainted_if o (taints o) (evict_least o seconds) (evict_most o seconds)
+until_gone o seconds = gone_if o o.evicts_by_own seconds

@@ -13,6 +13,10 @@ pub struct Outage {
     pub calm: Calm,
     /// Whether there is a kubelet at all.
     pub kubelets: bool,
+    /// Whether a pass takes no time for the pods of the nodes that it marks.
+    pub passes_take_no_work: bool,
+    /// Whether pods are due by the times of their nodes' taints, and go without a limit.
+    pub evicts_by_own: bool,
     /// How far the slowest clock of a kubelet goes in a beat, in units of 10^-12 s.
     pub posts_slow: u64,
     /// And the fastest.
@@ -162,6 +166,12 @@ fn posts(o: Outage) -> bool
     2 * u128::from(o.calm.far) * u128::from(o.posts_fast) <= of_millis(u64::from(o.timeout_millis))
 }
 
+fn marks(o: Outage) -> bool
+    ensures { result ≡ spec.marks o }
+{
+    o.kubelets && posts(o) && o.passes_take_no_work
+}
+
 /// So many beats in milliseconds.
 fn in_millis(o: Outage, beats: u128) -> u128
     requires outage { IsOutage o }
@@ -183,13 +193,13 @@ fn since_death(o: Outage, beats: u128) -> Since
 }
 
 /// From the death of a node's kubelet until the node is marked Unknown, at least and at most, while a leader attends to its nodes. None where
-/// the kubelets' replies come too late, or there is no kubelet. Takes no memory.
+/// the kubelets' replies come too late, there is no kubelet, or passes take time. Takes no memory.
 #[tactic(auto, unfolding(crate::specs::Outages::until_unknown))]
 pub fn until_unknown(o: Outage) -> Option<Marked>
     requires { IsOutage o }
     ensures { result ≡ spec.until_unknown o }
 {
-    if o.kubelets && posts(o) {
+    if marks(o) {
         Some(Marked {
             least: since_death(o, unknown_least(o)),
             most: in_millis(o, unknown_most(o)),
@@ -209,13 +219,18 @@ pub fn until_tainted(o: Outage) -> Option<Tainted>
     tainted_by(o, 0, 0)
 }
 
-/// Until its pods are gone that tolerate the taint for so many seconds, and no other taint of the node counts for them. Takes no memory.
+/// Until its pods are gone that tolerate the taint for so many seconds, and no other taint of the node counts for them. None also where pods are
+/// due by what a leader has seen, or go within a limit. Takes no memory.
 #[tactic(auto, unfolding(crate::specs::Outages::until_gone))]
 pub fn until_gone(o: Outage, seconds: u64) -> Option<Tainted>
     requires { IsOutage o }
     ensures { result ≡ spec.until_gone o seconds }
 {
-    tainted_by(o, evict_least(o, seconds), evict_most(o, seconds))
+    if o.evicts_by_own {
+        tainted_by(o, evict_least(o, seconds), evict_most(o, seconds))
+    } else {
+        None
+    }
 }
 
 fn tainted_by(o: Outage, least: u128, most: u128) -> Option<Tainted>
@@ -224,7 +239,7 @@ fn tainted_by(o: Outage, least: u128, most: u128) -> Option<Tainted>
     requires most { most ≤ 20000000000000000000000000000 }
     ensures { result ≡ spec.tainted_if o (spec.taints o) least most }
 {
-    if o.kubelets && posts(o) && o.rate != 0 {
+    if marks(o) && o.rate != 0 {
         Some(tainted_after(o, least, most))
     } else {
         None

@@ -1,5 +1,5 @@
 // What a document's processes and events let messages and clocks do.
-ghost use Rattle.std.specs.Prelude.{◌≡◌, ◌≤◌};
+ghost use Rattle.std.specs.Prelude.{◌≡◌, ◌≤◌, ◌==◌, ◌&&◌};
 ghost use Rattle.script_reader.specs.Documents.{doc_of};
 ghost use Rattle.script_reader.specs.Lawful.{IsLawfulDoc};
 ghost use Rattle.takeover_laws.specs.Waits as waiting;
@@ -9,7 +9,7 @@ ghost use Rattle.lens_bounds.specs.Outages.{IsOutage};
 
 use crate::calm::{Calm, Waits};
 use crate::outages::Outage;
-use kube_objects::{NumberList, Proc, What};
+use kube_objects::{EvictRule, NumberList, Proc, Rules, What};
 use script_reader::Document;
 
 /// What messages and clocks of some processes may do.
@@ -222,6 +222,13 @@ pub fn outage_of(document: &Document) -> Outage
     )
 }
 
+/// Whether pods are due by the times of their nodes' taints, and go without a limit.
+fn evicts_by_own(rules: Rules) -> bool
+    ensures { result ≡ (spec.is_added rules.evict_from && rules.evict_burst == 0) }
+{
+    matches!(rules.evict_from, EvictRule::Added) && rules.evict_burst == 0
+}
+
 fn outage_with(document: &Document, own: Reach, posts: Reach) -> Outage
     requires { document.now.settings.beat_millis ≤ 1000 }
     ensures { result ≡ spec.outage_with (doc_of document.now) own posts }
@@ -235,6 +242,8 @@ fn outage_with(document: &Document, own: Reach, posts: Reach) -> Outage
     Outage {
         calm: calm_with(document, both),
         kubelets: !document.kubelets.as_slice().is_empty(),
+        passes_take_no_work: document.settings.rules.ready_millis == 0,
+        evicts_by_own: evicts_by_own(document.settings.rules),
         posts_slow: micros * u64::from(posts.least),
         posts_fast: micros * u64::from(posts.greatest),
         timeout_millis: document.settings.call_timeout_millis,

@@ -93,6 +93,8 @@ abbrev pub outage_of : Settings → Outage
 outage_of s = record {
   calm = calm_of s;
   kubelets = true;
+  passes_take_no_work = true;
+  evicts_by_own = true;
   posts_slow = micros_of s * slow s.flags;
   posts_fast = micros_of s * fast s.flags;
   timeout_millis = timeout_of s.flags;

@@ -160,6 +160,8 @@ impl Settings {
         Outage {
             calm,
             kubelets: true,
+            passes_take_no_work: true,
+            evicts_by_own: true,
             posts_slow: calm.slow,
             posts_fast: calm.fast,
             timeout_millis: self.flags.timeout(),

@@ -72,19 +72,14 @@ const SECOND_SETTINGS: usize = 18;
 const FIRST_SETTINGS: usize = 17;
 
 /// The keys of version 4 that nothing runs yet.
-const UNBUILT: [&str; 12] = [
+const UNBUILT: [&str; 7] = [
     "probe",
     "judge",
     "firstSight",
     "queue",
     "bucket",
-    "evictFrom",
-    "evictBurst",
-    "evictRate",
     "release",
     "inRelease",
-    "readyMillis",
-    "readyBurst",
 ];
 
 const CONTROLLER: [&str; 10] = [

@@ -19,7 +19,7 @@ flat-step f see xs i d old new whole within is so_far =
     ∙ ap (λ t. old ++ t) (sym (ap (λ ys. flat_map f (map see ys)) (drop-more xs i d within) ∙ flat_map-cons f (see (get_or xs i d)) (map see (drop (i + 1) xs))))
     ∙ so_far
 
-pub kinds-told : (words : List (Bor (List ℕ))) → map (λ word. word.now) words ≡ kinds → length words ≡ 19
+pub kinds-told : (words : List (Bor (List ℕ))) → map (λ word. word.now) words ≡ kinds → length words ≡ 20
 unfolding kinds
 kinds-told words are = sym (length-map words (λ (word : Bor (List ℕ)). word.now)) ∙ ap length are
 

@@ -36,9 +36,9 @@ kind_rows ls word = if length (outcomes (Some word) ls) == 0 then [] else count_
 -- the kinds, in the order in which they are told
 unfoldable pub kinds : List (List ℕ)
 kinds =
-    codes "start" ∷ codes "crash" ∷ codes "stop" ∷ codes "end" ∷ codes "pause" ∷ codes "lead" ∷ codes "create-election" ∷ codes "update-election"
-    ∷ codes "nodelease" ∷ codes "status" ∷ codes "put" ∷ codes "remove" ∷ codes "unknown" ∷ codes "mode" ∷ codes "zone" ∷ codes "taint"
-    ∷ codes "swap" ∷ codes "untaint" ∷ codes "evict" ∷ []
+    codes "start" ∷ codes "crash" ∷ codes "stop" ∷ codes "end" ∷ codes "pause" ∷ codes "stall" ∷ codes "lead" ∷ codes "create-election"
+    ∷ codes "update-election" ∷ codes "nodelease" ∷ codes "status" ∷ codes "put" ∷ codes "remove" ∷ codes "unknown" ∷ codes "mode" ∷ codes "zone"
+    ∷ codes "taint" ∷ codes "swap" ∷ codes "untaint" ∷ codes "evict" ∷ []
 
 unfoldable pub all_rows : List (Line (List ℕ)) → List Texts
 all_rows ls = count_rows (codes "all") (outcomes None ls)

@@ -62,7 +62,7 @@ fn add_kinds<'a>(
 
 /// The kinds, in the order in which they are told.
 #[tactic(auto, unfolding(crate::specs::Totals::kinds))]
-pub(crate) fn kinds() -> [&'static [u8]; 19]
+pub(crate) fn kinds() -> [&'static [u8]; 20]
     ensures { map (λ word. word.now) result ≡ spec.kinds }
 {
     [
@@ -71,6 +71,7 @@ pub(crate) fn kinds() -> [&'static [u8]; 19]
         b"stop",
         b"end",
         b"pause",
+        b"stall",
         b"lead",
         b"create-election",
         b"update-election",

@@ -20,9 +20,11 @@ use Rattle.kube_objects.specs.declared.node.ReadyStatus.TheVariants as ready
 use Rattle.kube_objects.specs.declared.node.Taint.{Taint}
 use Rattle.kube_objects.specs.declared.node.ZoneState.{ZoneState}
 use Rattle.kube_objects.specs.declared.pod.Pod.{Pod}
+use Rattle.kube_objects.specs.declared.rules.EvictRule.{EvictRule}
+use Rattle.kube_objects.specs.declared.rules.EvictRule.TheVariants.{Added, Seen}
 use Rattle.kube_objects.specs.Answers.{as_kind, answer_update}
 use Rattle.kube_objects.specs.Clocks.{wall, whole_second}
-use Rattle.kube_objects.specs.Deletes.{delete_at_node, delete_over}
+use Rattle.kube_objects.specs.Deletes.{delete_at_node, delete_over, delete_alone_over}
 use Rattle.kube_objects.specs.Document.{Doc}
 use Rattle.kube_objects.specs.Entry.{Entry, Identity, Place, Ticks, Tick, Sync, Pass, Mark, Mode, Zone, Untaint, Swap, Head, Delete, actor_of}
 use Rattle.kube_objects.specs.Health.{is_pass_due, is_unknown, is_silent, marked, with_mark}
@@ -30,19 +32,19 @@ use Rattle.kube_objects.specs.InForce.{watches}
 use Rattle.kube_objects.specs.Modes.{is_in, and_node, nodes_among, nodes, place_of, place_cmp, places, state_in, rate_in, all_full, mode}
 use Rattle.kube_objects.specs.Newest.{when, only_if}
 use Rattle.kube_objects.specs.Own.{IsOwn}
-use Rattle.kube_objects.proofs.Own.{cleaned-own, tainted-own, evict-own, evicted-own}
-use Rattle.kube_objects.specs.Seen.{seen, pod_in, seen_node, seen_pod, is_fresh, is_synced, is_stale, node_names, is_pod, pod_keys}
+use Rattle.kube_objects.proofs.Own.{cleaned-own, tainted-own}
+use Rattle.kube_objects.specs.Seen.{seen, pod_in, seen_node, seen_pod, is_fresh, is_synced, is_stale, node_names, is_pod}
 use Rattle.kube_objects.specs.Stored.{Held, node_key, stored, next_version, node_write, try_write, tick_write}
 use Rattle.kube_objects.specs.Tainting.{Wants, Nothing, Wanted, Whatever, wants_by, wants_ready, wants, is_condition, has_condition, is_wanted, is_opposite, wanted_key, lacks, lacks_in, waits, Queued, head_of}
 use Rattle.kube_objects.specs.Tick.{add, for_each, has_settled, is_stripped, sync, mark_as, mark_seen, mark, is_same_mode, mode_as, set_mode, zone_as, zone, set_zones, marks, pass, new_taint, with_taints, untainted, and_taint, swapped, clean_as, clean_seen, clean, cleaned, tainted_with, taint_as, taint_head, taint, tainted, evict, tick, whole_pass, add_untaint, add_swap, taint_first, phases}
 use Rattle.kube_objects.specs.Tokens.{rated, is_rated, has_token}
-use Rattle.kube_objects.specs.Tries.{as_answer, tried, try_node, try_delete}
+use Rattle.kube_objects.specs.Tries.{as_answer, tried, try_node, try_delete, try_delete_alone}
 use Rattle.kube_objects.specs.Wire.{loses_requests}
 use Rattle.kube_objects.specs.Writable.{answers_write, is_condition_key}
 use Rattle.history.specs.Printed.{map_answer, tick_act}
 use Rattle.history_laws.proofs.Counting.{only_test, only_value}
 use Rattle.history_laws.proofs.Plainly.{some_is, none_is, false_is, and_both, not_true}
-use Rattle.history_laws.proofs.Ticks.{IsPodKey, IsDelete, Each, pods_only, evict_added}
+use Rattle.history_laws.proofs.Ticks.{IsPodKey, IsDelete, IsSightedDelete, IsDeleteBy, evict_step, evicted_each}
 use Rattle.manifest_json.specs.Fields.{Texts}
 use Rattle.manifest_json.specs.Readable.{IsHeld, IsFilled, IsNameNumber, IsWholeSecond, IsReadableTaint, IsReadableReady, taints_differ}
 use Rattle.naming_laws.specs.WellFormed.{IsWellFormedNode}
@@ -95,6 +97,17 @@ node_tried q name given h = tried_fit q (answer_update (next_version h) given (s
 pod_tried : (q : Identity) (pod : Key) (given : Version) (node : ℕ) (node_given : Version) (h : List Entry) → IsTried (try_delete q pod given node node_given h)
 pod_tried q pod given node node_given h =
     tried_fit q (delete_over (next_version h) given node_given (stored pod h) (stored (node_key node) h)) h (delete_tried (next_version h) given node_given (stored pod h) (stored (node_key node) h))
+
+alone_tried : (next given : Version) (a : Option Held) → IsTried (as_answer (delete_alone_over next given a))
+alone_tried next given None = refl
+alone_tried next given (Some a) = by_version (a.version.0 == given.0)
+  where
+    by_version : (b : Bool) → IsTried (as_answer (cond b (reply.Done next) (reply.Conflict a.version)))
+    by_version true = refl
+    by_version false = refl
+
+pod_tried_alone : (q : Identity) (pod : Key) (given : Version) (h : List Entry) → IsTried (try_delete_alone q pod given h)
+pod_tried_alone q pod given h = tried_fit q (delete_alone_over (next_version h) given (stored pod h)) h (alone_tried (next_version h) given (stored pod h))
 
 -- ---- wanted taints
 
@@ -278,6 +291,26 @@ module _ (names : Texts) (known : List ℕ) (fixed : HoldsFixed names) (doc : Do
       due : at ≤ last_wall
       due = omega (arith, early, leb-true at (wall doc q.process k) made.test)
 
+  sighted_fact : (pod : Key) (given node_given : Version) (at : ℕ) (a : Option Answer) (h : List Entry) → Fit h → IsSightedDelete doc k q pod given node_given at a h
+      → IsFitFact names known (actor_of q) (Ticks (Delete pod given node_given at a))
+  sighted_fact pod given node_given at a h fit made = record {
+    told = told_by (λ a. act.Evicted pod (record { 0 = at }) a) (λ a is. (record { form = and_both (is_pod pod.kind) (answers_write a) made.kind is; held = (held.0, (held.1, tt)); timely = due }, refl)) a
+        (subst IsTried (sym made.is) (pod_tried_alone q pod given h));
+    wrote = delete_wrote pod a;
+    carries = tt;
+  }
+    where
+      held : IsHeld names pod.space × IsHeld names pod.name
+      held = pod_seen pod given made.x h fit made.sees
+
+      due : at ≤ last_wall
+      due = omega (arith, early, leb-true at (wall doc q.process k) made.test)
+
+  delete_fits : (rule : EvictRule) (pod : Key) (given node_given : Version) (at : ℕ) (a : Option Answer) (h : List Entry) → Fit h → IsDeleteBy rule doc k q pod given node_given at a h
+      → IsFitFact names known (actor_of q) (Ticks (Delete pod given node_given at a))
+  delete_fits Added pod given node_given at a h fit made = delete_fact pod given node_given at a h fit made
+  delete_fits Seen pod given node_given at a h fit made = sighted_fact pod given node_given at a h fit made
+
   -- ---- zones
 
   abbrev IsHeldPlace : Place → Type 0
@@ -401,11 +434,7 @@ module _ (names : Texts) (known : List ℕ) (fixed : HoldsFixed names) (doc : Do
 
   keeps_evict : (pod : Key) (h : List Entry) → IsPodKey pod → Fit h → Fit (evict doc k q pod h)
   keeps_evict pod h kind fit =
-      subst Fit (sym (evict-own doc own k q pod h)) (evict_added doc k q (AreFit names known) pod h kind fit (λ given node_given at a made. (delete_fact pod given node_given at a h fit made, fit)))
-
-  evicts : (keys : List Key) (h : List Entry) → Each IsPodKey keys → Fit h → Fit (for_each (evict doc k q) keys h)
-  evicts [] h all fit = fit
-  evicts (pod ∷ keys) h all fit = evicts keys (evict doc k q pod h) all.1 (keeps_evict pod h all.0 fit)
+      evict_step doc k q (AreFit names known) pod h kind fit (λ given node_given at a made. (delete_fits doc.settings.rules.evict_from pod given node_given at a h fit made, fit))
 
   pub keeps_tick : (h : List Entry) → Fit h → Fit (tick doc k q h)
   keeps_tick h fit = by_test (is_synced q (sync doc k q h))
@@ -420,4 +449,4 @@ module _ (names : Texts) (known : List ℕ) (fixed : HoldsFixed names) (doc : Do
           let fit_b : Fit b = keeps_pass a (keeps_sync h fit) in
           let fit_d : Fit d = subst Fit (sym (cleaned-own doc own k q b)) (every (clean doc k q) keeps_clean (node_names b) b fit_b) in
           let fit_e : Fit e = subst Fit (sym (tainted-own doc own k q d)) (every (taint doc k q) keeps_taint (places (nodes q d)) d fit_d) in
-          subst Fit (sym (evicted-own doc own k q e)) (evicts (pod_keys e) e (pods_only e) fit_e)
+          evicted_each doc k q (AreFit names known) keeps_evict e fit_e

@@ -9,7 +9,7 @@ use Rattle.kube_objects.specs.declared.node.ReadyStatus.{ReadyStatus}
 use Rattle.kube_objects.specs.declared.object.Object.{Object}
 use Rattle.kube_objects.specs.Answers.{answer_create, answer_update, answer_post, as_kind, node_in, versioned, posted_node, posted_ready, with_ready, if_done, node_object}
 use Rattle.kube_objects.specs.Clocks.{whole_second}
-use Rattle.kube_objects.specs.Deletes.{delete_over}
+use Rattle.kube_objects.specs.Deletes.{delete_over, delete_alone_over}
 use Rattle.kube_objects.specs.Entry.{Entry}
 use Rattle.kube_objects.specs.Newest.{has}
 use Rattle.kube_objects.specs.Stored.{Held, write_of, request_write, key_of}
@@ -42,6 +42,10 @@ delete-told next given node_given held node_held (Some x) None is node_is same n
 delete-told next given node_given held node_held (Some x) (Some y) is node_is same node_same =
     ap (λ b. cond b (cond (y.version.0 == node_given.0) (reply.Done next) (reply.Conflict y.version)) (reply.Conflict x.version)) (ap (λ n. n == given.0) (ap number_of is) ∙ same)
     ∙ ap (λ b. cond b (reply.Done next) (reply.Conflict y.version)) (ap (λ n. n == node_given.0) (ap number_of node_is) ∙ node_same)
+
+pub delete-alone-told : (next given held : Version) (x : Option Held) → version_in (kept_of x) ≡ Some held → (held.0 == given.0) ≡ true → delete_alone_over next given x ≡ reply.Done next
+delete-alone-told next given held None is same = absurd (cc)
+delete-alone-told next given held (Some x) is same = ap (λ b. cond b (reply.Done next) (reply.Conflict x.version)) (ap (λ n. n == given.0) (ap number_of is) ∙ same)
 
 pub has-shown : (v : Version) (x : Option Held) → version_in (kept_of x) ≡ Some v → has x ≡ true
 has-shown v None is = absurd (cc)

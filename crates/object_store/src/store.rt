@@ -7,7 +7,7 @@ ghost use Rattle.std.specs.Map.{keys_of, lookup};
 ghost use Rattle.kube_objects.specs.Answers.{answer, written};
 ghost use Rattle.kube_objects.specs.Answers as answers;
 ghost use Rattle.kube_objects.specs.Clocks.{whole_second};
-ghost use Rattle.kube_objects.specs.Deletes.{answer_delete};
+ghost use Rattle.kube_objects.specs.Deletes.{answer_delete, answer_delete_alone};
 ghost use Rattle.kube_objects.specs.Entry.{Entry};
 ghost use Rattle.kube_objects.specs.Feeds.{is_among, shown_pair};
 ghost use Rattle.kube_objects.specs.Keys.{key_cmp, key_eq};
@@ -160,6 +160,26 @@ impl Store {
         }
         if node_held != node_version {
             return Err(StoreFault::Conflict(node_held));
+        }
+        match self.take_out(pod) {
+            Ok(version) => Ok(version),
+            Err(NoMemory) => Err(StoreFault::NoMemory),
+        }
+    }
+
+    /// Removes a pod by its own version alone. Absent exactly where it isn't stored, otherwise Conflict exactly where its version differs from
+    /// the given one.
+    pub fn delete_pod_alone(&mut self, pod: Key, given: Version) -> Result<Version, StoreFault>
+        ensures answer { (h : List Entry) → StoreStands h self.old → IsReply result (answer_delete_alone pod given h) }
+        ensures ok { (h : List Entry) (e : Entry) → StoreStands h self.old → write_of e.fact ≡ Some (pod, None)
+            → OnOk result (StoreStands (e ∷ h) self.new) }
+        ensures err { (h : List Entry) → StoreStands h self.old → OnErr result (StoreStands h self.new) }
+    {
+        let Some(held) = self.version_at(&pod) else {
+            return Err(StoreFault::Absent);
+        };
+        if held != given {
+            return Err(StoreFault::Conflict(held));
         }
         match self.take_out(pod) {
             Ok(version) => Ok(version),

@@ -85,3 +85,22 @@ fn a_node_is_put_and_posted_and_goes_after_its_pod(rt: HostRuntime) {
     assert_eq!(rt; deleted, Ok(Version(4)));
     assert_eq!(rt; store.remove(n), Ok(Some(Version(5))));
 }
+
+#[test]
+fn a_pod_goes_by_its_own_version_also_without_its_node(rt: HostRuntime) {
+    let alloc = rt.alloc();
+    let mut store = Store::new(alloc);
+    let p = key(Kind::Pod);
+    let no_pod = store.delete_pod_alone(p, Version(1));
+    assert_eq!(rt; no_pod, Err(StoreFault::Absent));
+    let pod = Pod {
+        node: 10,
+        tolerations: ListOf::new(alloc),
+    };
+    let pod_put = store.put(p, Object::Pod(pod), Wall(0));
+    assert_eq!(rt; pod_put, Ok(Version(1)));
+    let other = store.delete_pod_alone(p, Version(2));
+    assert_eq!(rt; other, Err(StoreFault::Conflict(Version(1))));
+    let deleted = store.delete_pod_alone(p, Version(1));
+    assert_eq!(rt; deleted, Ok(Version(2)));
+}

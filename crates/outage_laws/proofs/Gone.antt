@@ -76,7 +76,7 @@ pod_at doc q t seconds key h d = ap (λ o. due_of o h) d.has_pod ∙ ap (due_on 
 -- ---- gone
 
 pub pods_go : PodsGo
-pods_go doc own q t k seconds slow enough dated attended runs is le key kind d =
+pods_go doc own evicts q t k seconds slow enough dated attended runs is le key kind d =
     none_due
     (subst (IsDue (wall doc q.process k)) (sym (pod_at doc q t seconds key (after_turn doc q.process k) d))
     (among_due (wall doc q.process k) (taint_due d.pod.1.tolerations) (new_taint doc t q d.wanted) d.node.1.taints d.tainted
@@ -84,8 +84,8 @@ pods_go doc own q t k seconds slow enough dated attended runs is le key kind d =
   where
     none_due : IsDue (wall doc q.process k) (pod_due key (after_turn doc q.process k)) → ⊥
     none_due =
-        subst (λ r. IsDue (wall doc q.process k) (stored_due r doc q key (after_turn doc q.process k)) → ⊥) (ap (λ r. r.evict_from) own.rules)
-        (subst (λ n. NoneDueWithin n doc q k (after_turn doc q.process k)) (ap (λ r. r.evict_burst) own.rules)
+        subst (λ r. IsDue (wall doc q.process k) (stored_due r doc q key (after_turn doc q.process k)) → ⊥) evicts.from
+        (subst (λ n. NoneDueWithin n doc q k (after_turn doc q.process k)) evicts.burst
         (prompt doc own q k attended.0 attended.4 attended.3 attended.1 attended.2) key kind)
 
     over : whole_second (wall doc q.process t) + seconds * 1000000 ≤ wall doc q.process k
@@ -102,12 +102,12 @@ early_at doc (x ∷ h) all e before (inl is) =
 early_at doc (x ∷ h) all e before (inr at) = early_at doc h all.1 e before at
 
 pub pods_stay : PodsStay
-pods_stay doc own q t seconds end e before at after key given node_given version due_at by is d alone fast needed runs need =
+pods_stay doc evicts q t seconds end e before at after key given node_given version due_at by is d alone fast needed runs need =
     readings_last doc q.process t e.beat fast (of_seconds seconds + 1) needed runs need t e.beat (omega arith) after (omega arith) (reading_later doc q.process t e.beat seconds over)
   where
     timely : IsDue (wall doc q.process e.beat) (pod_due key before)
     timely =
-        subst (λ r. IsDue (wall doc q.process e.beat) (due_for r doc q key before)) (ap (λ r. r.evict_from) own.rules)
+        subst (λ r. IsDue (wall doc q.process e.beat) (due_for r doc q key before)) evicts.from
         (subst (λ fact. NotEarlyAt doc e.beat (actor_of q) fact before) is (subst (λ who. NotEarlyAt doc e.beat who e.fact before) by (early_at doc (history doc end) (never_early doc end) e before at)))
 
     over : whole_second (wall doc q.process t) + suc seconds * 1000000 ≤ wall doc q.process e.beat

@@ -1,4 +1,4 @@
--- Passes come a monitor period apart, under the project's own rules.
+-- Passes come a monitor period apart, under the project's own rules, where their writes take no time.
 use Rattle.std.proofs.Common.{◌≡◌, ◌⊎◌, ◌≤◌, ◌<◌, ℕ, zero, suc, ◌+◌, ◌-◌, ◌&&◌, not, nat_le, Bool, true, false, List, ◌∷◌, Option, Some, None, refl, sym, ap, ◌∙◌, subst, inl, inr, ⊎_elim, arith, if◌then◌else◌}
 use Rattle.std.specs.Prelude.{if◌then◌else◌}
 use Rattle.std.proofs.lemmas.Bool.{leb-true, le-leb, cases_lt, cases_eq}
@@ -10,7 +10,7 @@ use Rattle.kube_objects.specs.Health.{pass_says, last_pass, pass_period, is_afte
 use Rattle.kube_objects.specs.Identities.{is_by}
 use Rattle.kube_objects.specs.InForce.{watches}
 use Rattle.kube_objects.specs.Newest.{newest, when, or_else}
-use Rattle.kube_objects.specs.Own.{IsOwn}
+use Rattle.kube_objects.specs.Own.{IsOwn, PassesTakeNoWork}
 use Rattle.kube_objects.specs.Seen.{is_fresh, synced_says, is_synced}
 use Rattle.kube_objects.specs.Tick.{add, whole_pass, phases, evicted, tainted, cleaned}
 use Rattle.kube_objects.proofs.Own.{pass_period-own}
@@ -92,10 +92,10 @@ module _ (doc : Doc) (own : IsOwn doc) (q : Identity) (k : ℕ) (attended : IsAt
   on r last = next_turn doc own q (LastPass q (Some r)) (λ x h other s. foreign_pass q x h other ∙ s) k (below_processes doc q k attended) last
 
   -- it is due once the monitor period is over
-  due_is : (r : ℕ) → LastPass q (Some r) (at_turn doc q.process k) → has_pass doc q k ≡ nat_le (local doc q.process r + monitor_period doc) (local doc q.process k)
-  due_is r last =
+  due_is : PassesTakeNoWork doc → (r : ℕ) → LastPass q (Some r) (at_turn doc q.process k) → has_pass doc q k ≡ nat_le (local doc q.process r + monitor_period doc) (local doc q.process k)
+  due_is free r last =
       ap (is_after_pass doc k q (pass_period doc q (synced_at doc q k))) (at_sync r last)
-      ∙ ap (λ n. nat_le (local doc q.process r + n) (local doc q.process k)) (pass_period-own doc own q (synced_at doc q k))
+      ∙ ap (λ n. nat_le (local doc q.process r + n) (local doc q.process k)) (pass_period-own doc free q (synced_at doc q k))
 
 -- ---- the next pass
 
@@ -115,7 +115,7 @@ none_more f r k missing none j after before = by_case (cases_eq j k)
     by_case (inl same) = subst (λ j. f j ≡ false) (sym same) missing
     by_case (inr other) = none j after (omega (arith, before, other))
 
-module _ (doc : Doc) (own : IsOwn doc) (q : Identity) (a e : ℕ) (attends : Attends doc q a e) (slow far : ℕ) (runs : RunsAtLeast doc q.process a e slow) (enough_far : IsEnough slow (monitor_period doc) far) where
+module _ (doc : Doc) (own : IsOwn doc) (free : PassesTakeNoWork doc) (q : Identity) (a e : ℕ) (attends : Attends doc q a e) (slow far : ℕ) (runs : RunsAtLeast doc q.process a e slow) (enough_far : IsEnough slow (monitor_period doc) far) where
   abbrev NoneYet : ℕ → ℕ → Type 0
   NoneYet r k = (j : ℕ) → r < j → j < k → has_pass doc q j ≡ false
 
@@ -128,7 +128,7 @@ module _ (doc : Doc) (own : IsOwn doc) (q : Identity) (a e : ℕ) (attends : Att
     after = lt;
     most = le;
     pass = due;
-    over = leb-true (local doc q.process r + monitor_period doc) (local doc q.process k) (sym (due_is doc own q k here r last) ∙ due);
+    over = leb-true (local doc q.process r + monitor_period doc) (local doc q.process k) (sym (due_is doc own q k here free r last) ∙ due);
     none = none;
   }
 
@@ -145,7 +145,7 @@ module _ (doc : Doc) (own : IsOwn doc) (q : Identity) (a e : ℕ) (attends : Att
       by_pass true due = found r k here lt (omega (arith, is)) last none due
       by_pass false missing =
           let time : local doc q.process r + monitor_period doc ≤ local doc q.process k = readings_grow doc q.process a e slow (monitor_period doc) far runs enough_far r k from (omega (arith, is)) (omega (arith, is, within)) in
-          absurd (true_is (sym (le-leb (local doc q.process r + monitor_period doc) (local doc q.process k) time) ∙ sym (due_is doc own q k here r last) ∙ missing))
+          absurd (true_is (sym (le-leb (local doc q.process r + monitor_period doc) (local doc q.process k) time) ∙ sym (due_is doc own q k here free r last) ∙ missing))
   search (suc n) r k from within is lt last none = by_pass (λ next missing. search n r (suc k) from within (omega (arith, is)) (omega (arith, lt)) next missing) (has_pass doc q k) refl
     where
       here : IsAttended doc q k
@@ -163,7 +163,7 @@ module _ (doc : Doc) (own : IsOwn doc) (q : Identity) (a e : ℕ) (attends : Att
 -- ---- the pass that finds a time over
 
 pub passes_find : PassesFind
-passes_find doc own q a e attends first slow fast near far slowly fastly near_needed far_enough some time enough needed most one is need greatest within =
+passes_find doc own free q a e attends first slow fast near far slowly fastly near_needed far_enough some time enough needed most one is need greatest within =
     find (enough + far + 1) 0 a (first_look near far a) (first_most near far enough a) first (λ k after before pass. absurd (omega (arith, after, before))) (omega arith)
   where
     Result : Type 0
@@ -198,7 +198,7 @@ passes_find doc own q a e attends first slow fast near far slowly fastly near_ne
         next go missed =
             let soon : r < a + enough = not_over doc q.process a e slow time enough slowly is a r (omega arith) end missed in
             let reach : IsAtMost near far enough ((r + far) - a) = next_most near far enough a i r (r + far) look soon (omega arith) (omega arith) in
-            let p = next_pass doc own q a e attends slow far slowly far_enough r from some (omega (arith, greatest ((r + far) - a) reach, within, from)) due in
+            let p = next_pass doc own free q a e attends slow far slowly far_enough r from some (omega (arith, greatest ((r + far) - a) reach, within, from)) due in
             let stop : p.at ≤ e = omega (arith, p.most, greatest ((r + far) - a) reach, within, from) in
             go p.at
             (next_look near far a i r p.at look (readings_last doc q.process a e fast (monitor_period doc) near fastly near_needed r p.at from (omega (arith, p.after)) stop p.over) p.most)

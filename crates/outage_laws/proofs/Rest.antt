@@ -1,28 +1,24 @@
 -- What each entry of a tick but its pass keeps, under the project's own rules.
 use Rattle.std.proofs.Common.{◌≡◌, ◌&&◌, ◌||◌, not, ℕ, Bool, true, false, List, [], ◌∷◌, Option, Some, None, refl, sym, subst, if◌then◌else◌}
-use Rattle.std.specs.Prelude.{if◌then◌else◌, nat_le}
+use Rattle.std.specs.Prelude.{if◌then◌else◌}
 use Rattle.std.specs.List.{list_any}
 use Rattle.kube_base.specs.declared.numbers.Version.{Version}
 use Rattle.kube_objects.specs.declared.key.Key.{Key}
 use Rattle.kube_objects.specs.declared.node.Node.{Node}
 use Rattle.kube_objects.specs.declared.node.ZoneState.{ZoneState}
-use Rattle.kube_objects.specs.declared.pod.Due.{Due}
-use Rattle.kube_objects.specs.declared.pod.Due.TheVariants.{Never, At}
-use Rattle.kube_objects.specs.declared.pod.Pod.{Pod}
-use Rattle.kube_objects.specs.Clocks.{wall}
 use Rattle.kube_objects.specs.Document.{Doc}
-use Rattle.kube_objects.specs.Entry.{Entry, Identity, Place, Tick, Sync, Pass, Mode, Zone}
+use Rattle.kube_objects.specs.Entry.{Entry, Identity, Place, Tick, Sync, Pass, Mode, Zone, Delete}
 use Rattle.kube_objects.specs.Health.{mark_of}
 use Rattle.kube_objects.specs.InForce.{watches}
 use Rattle.kube_objects.specs.Modes.{nodes, places, state_in, rate_in, all_full, mode}
 use Rattle.kube_objects.specs.Own.{IsOwn}
-use Rattle.kube_objects.specs.Seen.{seen_node, seen_pod, is_fresh, is_stale, node_names, pod_keys}
+use Rattle.kube_objects.specs.Seen.{seen_node, is_fresh, is_stale, node_names}
 use Rattle.kube_objects.specs.Stored.{node_key}
 use Rattle.kube_objects.specs.Tainting.{Wants, Nothing, Wanted, Whatever, wants, has_condition, is_opposite, waits, Queued, head_of}
-use Rattle.kube_objects.specs.Tick.{add, for_each, has_settled, is_stripped, sync, mark_as, mark_seen, mark, is_same_mode, mode_as, set_mode, zone_as, zone, set_zones, marks, clean_as, clean_seen, clean, cleaned, taint_as, taint_head, taint, tainted, evict_due, evict_on, evict_seen, evict, evicted, add_untaint, add_swap, taint_first, add_delete}
+use Rattle.kube_objects.specs.Tick.{add, for_each, has_settled, is_stripped, sync, mark_as, mark_seen, mark, is_same_mode, mode_as, set_mode, zone_as, zone, set_zones, marks, clean_as, clean_seen, clean, cleaned, taint_as, taint_head, taint, tainted, evict, evicted, add_untaint, add_swap, taint_first}
 use Rattle.kube_objects.specs.Tokens.{rated, is_rated, has_token}
-use Rattle.kube_objects.specs.Tolerations.{due}
-use Rattle.kube_objects.proofs.Own.{cleaned-own, tainted-own, evict-own, evicted-own}
+use Rattle.kube_objects.proofs.Own.{cleaned-own, tainted-own}
+use Rattle.history_laws.proofs.Ticks.{IsPodKey, evict_step, evicted_each}
 
 abbrev pub is_pass : Tick → Bool
 is_pass Pass = true
@@ -114,25 +110,8 @@ module _ (doc : Doc) (own : IsOwn doc) (k : ℕ) (q : Identity) (P : List Entry 
       by_token false = p
       by_token true = by_head (head_of q place (node_names h) h)
 
-  keep_evict : (pod : Key) (h : List Entry) → P h → P (evict doc k q pod h)
-  keep_evict pod h p = subst P (sym (evict-own doc own k q pod h)) (by_stale (is_stale q pod h) (seen_pod q pod h))
-    where
-      by_time : (x : Version × Pod) (y : Version × Node) (at : ℕ) (b : Bool) → P (if b then add_delete k q pod x.0 x.1.node y.0 at h else h)
-      by_time x y at false = p
-      by_time x y at true = more _ refl h p
-
-      by_due : (x : Version × Pod) (y : Version × Node) (o : Due) → P (evict_due doc k q pod x.0 x.1.node y.0 o h)
-      by_due x y Never = p
-      by_due x y (At at) = by_time x y at (nat_le at (wall doc q.process k))
-
-      by_node : (x : Version × Pod) (o : Option (Version × Node)) → P (evict_on doc k q pod x o h)
-      by_node x None = p
-      by_node x (Some y) = by_due x y (due x.1 y.1)
-
-      by_stale : (b : Bool) (o : Option (Version × Pod)) → P (evict_seen doc k q pod b o h)
-      by_stale true o = p
-      by_stale false None = p
-      by_stale false (Some x) = by_node x (seen_node q x.1.node h)
+  keep_evict : (pod : Key) (h : List Entry) → IsPodKey pod → P h → P (evict doc k q pod h)
+  keep_evict pod h kind p = evict_step doc k q P pod h kind p (λ given node_given at a made. more (Delete pod given node_given at a) refl h p)
 
   -- what follows the pass
   pub keep_later : (h : List Entry) → P h → P (evicted doc k q (tainted doc k q (cleaned doc k q h)))
@@ -141,7 +120,7 @@ module _ (doc : Doc) (own : IsOwn doc) (k : ℕ) (q : Identity) (P : List Entry 
       let b = tainted doc k q a in
       let cleans : P a = subst P (sym (cleaned-own doc own k q h)) (every (clean doc k q) keep_clean (node_names h) h p) in
       let taints : P b = subst P (sym (tainted-own doc own k q a)) (every (taint doc k q) keep_taint (places (nodes q a)) a cleans) in
-      subst P (sym (evicted-own doc own k q b)) (every (evict doc k q) keep_evict (pod_keys b) b taints)
+      evicted_each doc k q P keep_evict b taints
 
   -- what follows the entry of a pass
   pub keep_passed : (h : List Entry) → P h → P (evicted doc k q (tainted doc k q (cleaned doc k q (set_zones doc k q (set_mode doc k q (marks doc k q h))))))

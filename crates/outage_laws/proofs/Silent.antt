@@ -156,8 +156,8 @@ heard_at doc own q name a e m attends s end posted (suc n) lt =
     (after doc own q (suc (a + n)) (attends (suc (a + n)) (omega arith) (omega (arith, lt, end))) name a e (omega arith) (omega (arith, lt, end)) s (posted (suc (a + n)) (omega arith) (omega (arith, lt))) (λ less. old))
 
 pub nodes_are_marked : NodesAreMarked
-nodes_are_marked doc own q name a e attends s slow fast near far slowly fastly near_needed far_enough some enough needed most is need greatest within =
-    let p = passes_find doc own q a e attends s.pass slow fast near far slowly fastly near_needed far_enough some (grace_period doc + 1) enough needed most (omega arith) is need greatest within in
+nodes_are_marked doc own free q name a e attends s slow fast near far slowly fastly near_needed far_enough some enough needed most is need greatest within =
+    let p = passes_find doc own free q a e attends s.pass slow fast near far slowly fastly near_needed far_enough some (grace_period doc + 1) enough needed most (omega arith) is need greatest within in
     (p.0, p.3, p.4, p.1.after, λ posted. at p.0 p.1.after p.2 p.1.pass p.1.over posted)
   where
     at : (m : ℕ) → a < m → m ≤ e → has_pass doc q m ≡ true → local doc q.process a + (grace_period doc + 1) ≤ local doc q.process m → StaysPosted doc q name a m → IsMarked doc q name m

@@ -11,7 +11,7 @@ use Rattle.kube_objects.specs.declared.pod.Pod.{Pod}
 use Rattle.kube_objects.specs.declared.pod.Toleration.{Toleration}
 use Rattle.kube_objects.specs.Document.{Doc, of_seconds, offset_millis}
 use Rattle.kube_objects.specs.Entry.{Entry, Identity, Ticks, Delete, actor_of}
-use Rattle.kube_objects.specs.Own.{IsOwn}
+use Rattle.kube_objects.specs.Own.{IsOwn, EvictsByOwn}
 use Rattle.kube_objects.specs.Seen.{is_pod}
 use Rattle.kube_objects.specs.Tick.{new_taint}
 use Rattle.kube_objects.specs.Tolerations.{first_tolerating, taint_due}
@@ -61,13 +61,13 @@ IsAlone doc q t wanted pod taints = (other : Taint) → IsAmong other taints →
 -- is gone
 abbrev pub PodsGo : Type 0
 PodsGo =
-    (doc : Doc) → IsOwn doc → (q : Identity) (t k seconds slow enough : ℕ) → IsDated doc q.process → IsAttended doc q k → RunsAtLeast doc q.process t k slow → IsEnough slow (of_seconds seconds) enough → t + enough ≤ k
+    (doc : Doc) → IsOwn doc → EvictsByOwn doc → (q : Identity) (t k seconds slow enough : ℕ) → IsDated doc q.process → IsAttended doc q k → RunsAtLeast doc q.process t k slow → IsEnough slow (of_seconds seconds) enough → t + enough ≤ k
     → (key : Key) → is_pod key.kind ≡ true → IsDoomed doc q t seconds key (after_turn doc q.process k) → ⊥
 
 -- and q deletes it no sooner than so many beats after the taint as are needed for one second less, and for more than that
 abbrev pub PodsStay : Type 0
 PodsStay =
-    (doc : Doc) → IsOwn doc → (q : Identity) (t seconds end : ℕ) (e : Entry) (before : List Entry) → IsTail (e ∷ before) (history doc end) → t ≤ e.beat
+    (doc : Doc) → EvictsByOwn doc → (q : Identity) (t seconds end : ℕ) (e : Entry) (before : List Entry) → IsTail (e ∷ before) (history doc end) → t ≤ e.beat
     → (key : Key) (given node_given version : Version) (due : ℕ) → e.actor ≡ actor_of q → e.fact ≡ Ticks (Delete key given node_given due (Some (answer.Done version)))
     → (doomed : IsDoomed doc q t (suc seconds) key before) → IsAlone doc q t doomed.wanted doomed.pod.1 doomed.node.1.taints
     → (fast needed : ℕ) → RunsAtMost doc q.process t e.beat fast → IsNeeded fast (of_seconds seconds + 1) needed → t + needed ≤ e.beat

@@ -87,7 +87,9 @@ module _ (doc : Doc) (near far b e : ℕ) (q : Identity) (l : LeadsUntil doc nea
       x_high = tail_trans (x ∷ S) (o.e ∷ o.low) (history doc (suc e)) (inr o.sent_low) e_high
 
       way : IsWay near far x.beat o.e.beat
-      way = request_way doc s.sound.2 near far e c.process steady (suc e) x S c w o.begun.arrives x_high role refl o.begun.actor o.begun.fact (beat_before doc e x S x_high) o.e.beat o.arrives
+      way =
+          request_way doc s.sound.2 near far e c.process steady (suc e) x S c w o.begun.arrives x_high role refl o.begun.actor o.begun.fact (beat_before doc e x S x_high) o.e.beat o.arrives
+          (λ j low high soon. l.goes j (omega (arith, high, beat_before doc e o.e o.low e_high)))
 
       step : 3 ≤ x.step
       step =

@@ -104,7 +104,7 @@ module _ (doc : Doc) (near far b e : ℕ) (q : Identity) (l : LeadsUntil doc nea
         before lt =
             omega (
               arith,
-              (request_way doc s.sound.2 near far (b - 1) m.who.process (subst (IsSteady doc near far 0 (b - 1)) (sym same) l.steady) (suc b) x T m.who m.call m.arrives at role refl actor fact (omega (arith, lt)) y arrives).most,
+              (request_way doc s.sound.2 near far (b - 1) m.who.process (subst (IsSteady doc near far 0 (b - 1)) (sym same) l.steady) (suc b) x T m.who m.call m.arrives at role refl actor fact (omega (arith, lt)) y arrives (λ j low high soon. l.goes j (omega (arith, soon, lt, room)))).most,
               lt,
             )
 

@@ -16,6 +16,7 @@ claims-hold words left safe generated timely =
       spacing = λ d replays premise. safe.spacing replays.bytes d replays.read premise;
       not_early = λ d replays. safe.not_early d;
       prompt = λ d replays. safe.prompt replays.bytes d replays.read;
+      limit = λ d replays. safe.limit d;
       timely = λ d replays. safe.timely replays.bytes d replays.read;
       safe = generated;
       timely_generated = timely;
@@ -25,6 +26,7 @@ claims-hold words left safe generated timely =
         spacing = safe.spacing shows.bytes d shows.read premise;
         not_early = safe.not_early d;
         prompt = safe.prompt shows.bytes d shows.read;
+        limit = safe.limit d;
       };
       timely_state = λ d beat shows. safe.timely shows.bytes d shows.read;
     }

@@ -2,7 +2,7 @@
 use Rattle.std.specs.Prelude.{◌≡◌, ℕ, true, List, Option, Some}
 use Rattle.kube_base.specs.declared.numbers.Beat.{Beat}
 use Rattle.kube_objects.specs.Document.{Doc}
-use Rattle.history.specs.Evictions.{NotEarly, Prompt}
+use Rattle.history.specs.Evictions.{Limit, NotEarly, Prompt}
 use Rattle.history.specs.Premise.{lease_premise}
 use Rattle.history.specs.Safe.{Holder, Exclusive}
 use Rattle.history.specs.Spacing.{Spacing}
@@ -17,21 +17,24 @@ use Rattle.replay_top.specs.State.{ReadsBack}
 use Rattle.replay_top.specs.Timely.{IsTimely}
 
 -- whoever acts is the stored holder, only one identity acts at a beat, queued taints are spaced, and pods are evicted when they are due,
--- no earlier and no later than by the first tick that reaches the store
+-- no earlier and no later than by the first tick that reaches the store and is within the limit of deletes, which each term keeps
 pub record IsSafe (doc : Doc) : Type 0 where
   pub holder : Holder doc
   pub exclusive : Exclusive doc
   pub spacing : Spacing doc
   pub not_early : NotEarly doc
   pub prompt : Prompt doc
+  pub limit : Limit doc
 
--- of every document that can be read, where its lease premise holds; the last three without it, of which the first needs no reading
+-- of every document that can be read, where its lease premise holds; the last four without it. That evictions are never early and keep the
+-- limit needs no reading
 pub record AreSafe : Type 0 where
   pub holder : WhereReadUnderPremise Holder
   pub exclusive : WhereReadUnderPremise Exclusive
   pub spacing : WhereReadUnderPremise Spacing
   pub not_early : (d : Document) → NotEarly (doc_of d)
   pub prompt : WhereRead Prompt
+  pub limit : (d : Document) → Limit (doc_of d)
   pub timely : WhereRead IsTimely
 
 -- of the history of the document that these words replay, show a state of, or generate, with these bytes in the source
@@ -44,14 +47,16 @@ pub record Claims (words : List (List ℕ)) (left : Option (List ℕ)) : Type 0 
   pub spacing : WhereReplayedUnderPremise words left Spacing
   -- always, a controller evicts a pod only when it is due on the controller's clock
   pub not_early : (d : Document) → Replays words left d → NotEarly (doc_of d)
-  -- and by its first tick that reaches the store
+  -- and by its first tick that reaches the store and is within the limit
   pub prompt : (d : Document) → Replays words left d → Prompt (doc_of d)
+  -- where deletes have a limit, each term keeps it
+  pub limit : (d : Document) → Replays words left d → Limit (doc_of d)
   -- how long nobody leads is bounded in calm spans, and always from below
   pub timely : (d : Document) → Replays words left d → IsTimely (doc_of d)
   -- of a generated document all of these always: its lease premise holds
   pub safe : WhereGenerated words IsSafe
   pub timely_generated : WhereGenerated words IsTimely
-  -- of a document whose state is shown all of these, the first five where its lease premise holds
+  -- of a document whose state is shown all of these, the first six where its lease premise holds
   pub safe_state : (d : Document) (beat : Beat) → Shows words left d beat → lease_premise (doc_of d) ≡ true → IsSafe (doc_of d)
   pub timely_state : (d : Document) (beat : Beat) → Shows words left d beat → IsTimely (doc_of d)
 

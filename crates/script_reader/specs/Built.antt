@@ -32,17 +32,12 @@ judging_built path d = do
 unfoldable pub tainting_built : List ℕ → Data → Result Data Refusal
 tainting_built path d = do
   queue ← unless_there path (codes "queue") d
-  bucket ← unless_there path (codes "bucket") d
-  evict_from ← unless_there path (codes "evictFrom") d
-  evict_burst ← unless_there path (codes "evictBurst") d
-  unless_there path (codes "evictRate") d
+  unless_there path (codes "bucket") d
 
 unfoldable pub ending_built : List ℕ → Data → Result Data Refusal
 ending_built path d = do
   release ← unless_there path (codes "release") d
-  in_release ← unless_there path (codes "inRelease") d
-  ready_millis ← unless_there path (codes "readyMillis") d
-  unless_there path (codes "readyBurst") d
+  unless_there path (codes "inRelease") d
 
 -- settings ask for no rule that isn't built
 unfoldable pub rules_built : Preset → List ℕ → Data → Result Data Refusal

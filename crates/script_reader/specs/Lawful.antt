@@ -53,7 +53,8 @@ pub record AreLawful (s : Settings) : Type 0 where
   pub secondary : s.secondary_rate ≤ s.primary_rate
   pub large_zone : s.large_zone ≤ 1000000
   pub percent : s.unhealthy_percent ≤ 100
-  -- but for those of elections, and how long a term waits with its first sync, any other rule is refused as not built
+  -- but for those of elections, how long a term waits with its first sync, those of evictions, and what a pass takes, any other rule is refused
+  -- as not built
   pub rules : s.rules ≡ own_but_built s.rules
   pub renew_within_lease : s.renew_deadline_millis < s.lease_duration_seconds * 1000
   pub retry_within_renew : 6 * s.retry_period_millis < 5 * s.renew_deadline_millis

@@ -56,10 +56,7 @@ fn tainting_built(path: &Path, value: &Value) -> Result<(), ReadFault>
     ensures { Gives (λ _. view value.now) result (spec.tainting_built path.now (view value.now)) }
 {
     unless_there(path, "queue", value)?;
-    unless_there(path, "bucket", value)?;
-    unless_there(path, "evictFrom", value)?;
-    unless_there(path, "evictBurst", value)?;
-    unless_there(path, "evictRate", value)
+    unless_there(path, "bucket", value)
 }
 
 #[tactic(auto, unfolding(crate::specs::Built::ending_built))]
@@ -67,7 +64,5 @@ fn ending_built(path: &Path, value: &Value) -> Result<(), ReadFault>
     ensures { Gives (λ _. view value.now) result (spec.ending_built path.now (view value.now)) }
 {
     unless_there(path, "release", value)?;
-    unless_there(path, "inRelease", value)?;
-    unless_there(path, "readyMillis", value)?;
-    unless_there(path, "readyBurst", value)
+    unless_there(path, "inRelease", value)
 }

@@ -31,7 +31,7 @@ use Rattle.call_laws.proofs.Placing.{from_beat, in_own_beat, forces_stand, messa
 use Rattle.takeover_laws.specs.Acting.{AreInTime}
 use Rattle.takeover_laws.specs.Calm.{Passes, IsSteady, IsQuiet, IsCalm, WritesElection}
 use Rattle.takeover_laws.proofs.Records.{wrote_key}
-use Rattle.takeover_laws.proofs.Rounds.{request_passes}
+use Rattle.takeover_laws.proofs.Rounds.{request_comes}
 use Rattle.takeover_laws.proofs.Writers.{sends_of, sending_of}
 use Rattle.calm_laws.specs.Bounds.{early_record, LastsFor}
 use Rattle.calm_laws.proofs.Changes.{Change, Unwritten, Put, Written, IsWritten, IsStored, stored_as, unchanged, put_stored, early_stored, change_of}
@@ -140,6 +140,9 @@ module _ (doc : Doc) (near far a e n : ℕ) (sound : IsSound doc) (calm : IsCalm
         passes : Passes doc near far who.process f.beat
         passes = (is_steady since).passes f.beat (omega (arith, sent, since)) (omega (arith, by, within))
 
+        x_by : x.beat ≤ n
+        x_by = ⊎_elim (λ lt. omega (arith, lt)) (λ first. omega (arith, first.0)) (entries_are_earlier doc (suc n) x (in_head x T (history doc (suc n)) at))
+
         step : 2 ≤ f.step
         step =
             let s = sending_of doc sound.2 near far a e n who w.role (is_steady since) (time who.process w.role (is_steady since)) within one w.made.s.call w.made.s.arrives f low asked_at facts.0 facts.1 (omega (arith, travels.0, sent, since)) in
@@ -148,8 +151,8 @@ module _ (doc : Doc) (near far a e n : ℕ) (sound : IsSound doc) (calm : IsCalm
 
         beat_is : x.beat ≡ f.beat + request_delay who.process (with_events doc f.beat)
         beat_is =
-            some_is x.beat (f.beat + request_delay who.process (with_events doc f.beat))
-            (sym arrives ∙ travels.1 ∙ request_passes doc sound.2 near far who.process f.beat low passes (forces_stand doc sound.2 (suc n) f low asked_at step))
+            request_comes doc sound.2 near far who.process f.beat low passes (forces_stand doc sound.2 (suc n) f low asked_at step) x.beat
+            (λ j low high. ((is_steady since).passes j (omega (arith, sent, since, low)) (omega (arith, high, x_by, within))).goes) (sym travels.1 ∙ arrives)
 
     -- what it leaves lasts for no longer than the longest lease duration
     pub leaves : (most : ℕ) → AllLastFor doc near far a e most → (p : ℕ) → lease_duration doc p ≤ most → a ≤ w.call.sent → LastsFor doc p most (object_of (stored election (x ∷ T)))

@@ -261,7 +261,9 @@ module _ (doc : Doc) (near far b e : ℕ) (q : Identity) (l : LeadsUntil doc nea
       never lt = omega (arith, lt)
 
   way : IsWay near far d f.x.beat
-  way = request_way doc s.sound.2 near far e p won.role passing won.f won.low won.call f.x.beat asked won.f_actor won.f_fact (opens_of doc s.sound.2 e p won.role unstopped won.f won.low won.call (Some f.x.beat) asked won.f_actor won.f_fact)
+  way =
+      request_way doc s.sound.2 near far e p won.role passing won.f won.low won.call f.x.beat asked won.f_actor won.f_fact (opens_of doc s.sound.2 e p won.role unstopped won.f won.low won.call (Some f.x.beat) asked won.f_actor won.f_fact)
+      (λ j low high soon. l.goes j (omega (arith, high, beat_before doc e f.x f.before (tail_trans (f.x ∷ f.before) H (history doc (suc e)) f.position H_e))))
 
   pub taken_late : (least : ℕ) → TakesAtLeast doc near far e p.process (blocked_for doc p.process q.process) least → mine.y.beat + least + 2 * near ≤ f.x.beat
   taken_late least t = omega (arith, over.late, over.upto, t.least_is (d - over.first) over.lasts, way.least)

@@ -132,7 +132,9 @@ module _ (doc : Doc) (near far b e : ℕ) (q : Identity) (l : LeadsUntil doc nea
       f_actor = w0.f_actor ∙ ap actor_of whose
 
       way : IsWay near far w0.f.beat o.e.beat
-      way = request_way doc s.sound.2 near far (b - 1) r role steady w0.f w0.low w0.call o.e.beat asked_b f_actor w0.f_fact (opens_of doc s.sound.2 (b - 1) r role unstopped w0.f w0.low w0.call (Some o.e.beat) asked_b f_actor w0.f_fact)
+      way =
+          request_way doc s.sound.2 near far (b - 1) r role steady w0.f w0.low w0.call o.e.beat asked_b f_actor w0.f_fact (opens_of doc s.sound.2 (b - 1) r role unstopped w0.f w0.low w0.call (Some o.e.beat) asked_b f_actor w0.f_fact)
+          (λ j low high soon. l.goes j (omega (arith, high, beat_before doc e o.e o.low o_e)))
 
   -- ---- the number of beats
 

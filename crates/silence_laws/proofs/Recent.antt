@@ -139,7 +139,7 @@ module _ (doc : Doc) (near far b e : ℕ) (q : Identity) (l : LeadsUntil doc nea
     opens = opens_of doc s.sound.2 (b - 1) q l.role unstopped w.f w.low w.call (Some k.z.beat) asked_a f_actor w.f_fact
 
     way : IsWay near far w.f.beat k.z.beat
-    way = request_way doc s.sound.2 near far (b - 1) q l.role l.steady w.f w.low w.call k.z.beat asked_a f_actor w.f_fact opens
+    way = request_way doc s.sound.2 near far (b - 1) q l.role l.steady w.f w.low w.call k.z.beat asked_a f_actor w.f_fact opens (λ j low high soon. l.goes j (omega (arith, high, old, k.beat, l.within)))
 
     abbrev n : ℕ
     n = k.z.beat + far
@@ -177,7 +177,7 @@ module _ (doc : Doc) (near far b e : ℕ) (q : Identity) (l : LeadsUntil doc nea
     round : IsRound doc near far q w.call (Some k.z.beat) sent.f.beat
     round =
         rounds_in doc s.sound.2 near far 0 (b - 1) q l.steady s.one (suc n) sent.f sent.before w.call (Some k.z.beat) sent.position sent.actor sent.fact (omega (arith, sent.step)) sent.from
-        (omega (arith, sent_beat, way.least, n_soon)) (λ at is most. omega (arith, some_is k.z.beat at is, n_soon))
+        (omega (arith, sent_beat, way.least, n_soon)) (λ at m least is most. omega (arith, least, some_is k.z.beat m is, n_soon))
 
     soon : round.comes ≤ n
     soon = omega (arith, round.comes_most, some_is k.z.beat round.at round.arrives_is)
@@ -253,6 +253,16 @@ module _ (doc : Doc) (near far b e : ℕ) (q : Identity) (l : LeadsUntil doc nea
         (tail_trans (o.e ∷ o.low) (history doc (suc y)) (history doc (suc (b - 1))) (tail_trans (o.e ∷ o.low) (heard ∷ told.before) (history doc (suc y)) (inr o.answered) heard_at) (later_tail doc (suc y) (suc (b - 1)) (omega (arith, y_a))))
         o.step y y_a o.comes_is)
 
+    f_e : IsTail (f.x ∷ f.before) (history doc (suc e))
+    f_e = tail_trans (f.x ∷ f.before) H (history doc (suc e)) f.position H_e
+
+    -- by then it would have renewed again
+    again_before : y + s.renews.wait + 3 * far < f.x.beat
+    again_before = omega (arith, given.most, k.beat, long_after doc near far b e q l s H H_e quiet f, taken.sent_before doc near far b e q l s H H_e quiet f, s.ways)
+
+    again_by : y + s.renews.wait + 3 * far < e
+    again_by = omega (arith, again_before, beat_before doc e f.x f.before f_e)
+
     -- another write of its own soon after isn't there
     never_again : (soon : ℕ) → soon ≤ y + s.renews.wait + 3 * far → Rewritten doc near far b e q l s y y_a hs soon → ⊥
     never_again soon few again = false_is (sym (ap has (k.alone again.z again.before again_since there)) ∙ again.writes)
@@ -260,20 +270,17 @@ module _ (doc : Doc) (near far b e : ℕ) (q : Identity) (l : LeadsUntil doc nea
         again_since : IsTail (k.z ∷ k.before) again.before
         again_since = subst (λ g. IsTail g again.before) (sym (same_answer (Done done.0) told.before (renewed.o doc near far b e q l s y y_a hs) below)) again.since
 
-        f_e : IsTail (f.x ∷ f.before) (history doc (suc e))
-        f_e = tail_trans (f.x ∷ f.before) H (history doc (suc e)) f.position H_e
-
         sooner : again.z.beat < f.x.beat
-        sooner = omega (arith, again.soon, few, given.most, k.beat, long_after doc near far b e q l s H H_e quiet f, taken.sent_before doc near far b e q l s H H_e quiet f, s.ways)
+        sooner = omega (arith, again.soon, few, again_before)
 
         there : IsTail (again.z ∷ again.before) f.before
         there = tail_trans (again.z ∷ again.before) (history doc (suc again.z.beat)) f.before again.position (history_below doc again.z.beat e f.x f.before f_e sooner (omega (arith, sooner, beat_before doc e f.x f.before f_e)))
 
     never_old : mine.y.beat + s.renews.wait + 3 * far < b → ⊥
-    never_old older = never_again (y + s.renews.wait + 3 * far) (omega arith) (renewed_by doc near far b e q l s y y_a hs (omega (arith, given.most, older, k.beat)))
+    never_old older = never_again (y + s.renews.wait + 3 * far) (omega arith) (renewed_by doc near far b e q l s y y_a hs (omega (arith, given.most, older, k.beat)) (omega (arith, again_by)))
 
     never_quick : doc.settings.fast_renew ≡ true → ⊥
-    never_quick quick = never_again (y + s.renews.wait + far) (omega arith) (renewed_at_once doc near far b e q l s y y_a hs quick (omega (arith, given.most, old, k.beat)))
+    never_quick quick = never_again (y + s.renews.wait + far) (omega arith) (renewed_at_once doc near far b e q l s y y_a hs quick (omega (arith, given.most, old, k.beat)) (omega (arith, again_by)))
 
   -- so it is recent
   pub recent : b ≤ mine.y.beat + s.renews.wait + 3 * far

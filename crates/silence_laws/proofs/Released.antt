@@ -435,7 +435,7 @@ module _ (doc : Doc) (near far b e : ℕ) (q : Identity) (l : LeadsUntil doc nea
       opens = opens_of doc s.sound.2 e r role unstopped w.f w.low w.call (Some o.e.beat) asked_e f_actor w.f_fact
 
       way : IsWay near far w.f.beat o.e.beat
-      way = request_way doc s.sound.2 near far e r role passing w.f w.low w.call o.e.beat asked_e f_actor w.f_fact opens
+      way = request_way doc s.sound.2 near far e r role passing w.f w.low w.call o.e.beat asked_e f_actor w.f_fact opens (λ j low high soon. l.goes j (omega (arith, high, beat_before doc e o.e o.low o_e)))
 
       made_answer : MadeAnswer doc o.e.beat o.e.step o.e.actor w.call w.reply w.comes w.wrote o.low
       made_answer = subst (λ d. MadeAs doc o.e.beat o.e.step o.e.actor d o.low) w.fact (are_made doc s.sound.2 (suc e) o.e o.low o_e)

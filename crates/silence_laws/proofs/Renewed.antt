@@ -214,11 +214,11 @@ module _ (doc : Doc) (near far b e : ℕ) (q : Identity) (l : LeadsUntil doc nea
 
     -- an update on its version that it sends in time comes to one
     update_comes : (m : ℕ) (x : Entry) (T : List Entry) (call : Call) (arrives : Option ℕ) (lease : Lease) → IsTail (x ∷ T) (history doc m) → x.actor ≡ actor_of q → x.fact ≡ Sends call arrives → call.request ≡ Update election own.y.version lease
-        → x.beat ≤ a → y ≤ x.beat → Rewritten (x.beat + far)
-    update_comes m x T call arrives lease stands actor fact request upto from = by_above (same_or_above (o.e ∷ o.low) answering.before low)
+        → x.beat ≤ a → y ≤ x.beat → x.beat + far ≤ e → Rewritten (x.beat + far)
+    update_comes m x T call arrives lease stands actor fact request upto from still = by_above (same_or_above (o.e ∷ o.low) answering.before low)
       where
         r : Arrives near far x.beat arrives
-        r = request_arrives doc s.sound.2 near far a q.process l.steady m x T q call arrives stands l.role refl actor fact upto
+        r = request_arrives doc s.sound.2 near far a q.process l.steady m x T q call arrives stands l.role refl actor fact upto (λ j low high. l.goes j (omega (arith, high, still)))
 
         at : ℕ
         at = r.at
@@ -292,7 +292,7 @@ module _ (doc : Doc) (near far b e : ℕ) (q : Identity) (l : LeadsUntil doc nea
       weaken n m le w = record { z = w.z; before = w.before; position = w.position; since = w.since; writes = w.writes; soon = omega (arith, le, w.soon) }
 
       -- after a Get
-      module _ (room : d.g + 2 * far ≤ a) (get : tried.call.request ≡ Get election) where
+      module _ (room : d.g + 2 * far ≤ a) (still : d.g + 3 * far ≤ e) (get : tried.call.request ≡ Get election) where
         free : IsFree q tried.x tried.before tried.call
         free = is_free doc s.sound.2 (suc d.g) q l.role tried.x tried.before tried.call tried.arrives tried.position tried.actor tried.fact tried.opens
 
@@ -351,7 +351,7 @@ module _ (doc : Doc) (near far b e : ℕ) (q : Identity) (l : LeadsUntil doc nea
         by_above (inr w) = weaken r.at (d.g + 3 * far) (omega (arith, r.most, x1_upto)) (from_above r.at r.at o1.low low_high (omega arith) w)
         by_above (inl unchanged) =
             weaken (r.at + far) (d.g + 3 * far) (omega (arith, r.most, x1_upto))
-            (update_comes (suc r.at) x2 T2 call2 (request_arrival doc q.process r.at T2) (updated q m own.lease) position2 refl refl refl (omega (arith, r.most, room_x)) (omega (arith, x1_from, after_x)))
+            (update_comes (suc r.at) x2 T2 call2 (request_arrival doc q.process r.at T2) (updated q m own.lease) position2 refl refl refl (omega (arith, r.most, room_x)) (omega (arith, x1_from, after_x)) (omega (arith, r.most, x1_upto, still)))
           where
             T2 : List Entry
             T2 = heard ∷ r.before
@@ -388,17 +388,17 @@ module _ (doc : Doc) (near far b e : ℕ) (q : Identity) (l : LeadsUntil doc nea
         after_get : Rewritten (d.g + 3 * far)
         after_get = by_above (same_or_above (o.e ∷ o.low) o1.low low1)
 
-      pub rewritten : d.g + 2 * far ≤ a → Rewritten (d.g + 3 * far)
-      rewritten room = by_request (attempt_is doc q tried.x.beat tried.before hs.version lease tried.idle.shown_is)
+      pub rewritten : d.g + 2 * far ≤ a → d.g + 3 * far ≤ e → Rewritten (d.g + 3 * far)
+      rewritten room still = by_request (attempt_is doc q tried.x.beat tried.before hs.version lease tried.idle.shown_is)
         where
           by_request : ((attempt doc q tried.x.beat tried.before).1 ≡ Get election) ⊎ ((next : Lease) × ((attempt doc q tried.x.beat tried.before).1 ≡ Update election hs.version next)) → Rewritten (d.g + 3 * far)
-          by_request (inl is) = after_get room (tried.request ∙ is)
+          by_request (inl is) = after_get room still (tried.request ∙ is)
           by_request (inr (next, is)) =
               weaken (tried.x.beat + far) (d.g + 3 * far) (omega (arith, x1_upto))
-              (update_comes (suc d.g) tried.x tried.before tried.call tried.arrives next tried.position tried.actor tried.fact (tried.request ∙ is ∙ ap (λ v. Update election v next) (sym given)) (omega (arith, x1_upto, reach)) x1_from)
+              (update_comes (suc d.g) tried.x tried.before tried.call tried.arrives next tried.position tried.actor tried.fact (tried.request ∙ is ∙ ap (λ v. Update election v next) (sym given)) (omega (arith, x1_upto, reach)) x1_from (omega (arith, x1_upto, still)))
 
       -- at once, where leaders renew without a Get and its timer has come a retry period after the success
-      module _ (quick : doc.settings.fast_renew ≡ true) (soon : d.g ≤ y + s.renews.wait) where
+      module _ (quick : doc.settings.fast_renew ≡ true) (soon : d.g ≤ y + s.renews.wait) (still : d.g + far ≤ e) where
         abbrev h : List Entry
         h = tried.before
 
@@ -472,7 +472,7 @@ module _ (doc : Doc) (near far b e : ℕ) (q : Identity) (l : LeadsUntil doc nea
             by_above (inr w) = from_above (d.g + far) d.g h h_g (omega arith) w
             by_above (inl same) =
                 weaken (x + far) (d.g + far) (omega (arith, x1_upto))
-                (update_comes (suc d.g) tried.x h tried.call tried.arrives (renewed q (moment doc q x) lease) tried.position tried.actor tried.fact (asked same) (omega (arith, x1_upto, reach)) x1_from)
+                (update_comes (suc d.g) tried.x h tried.call tried.arrives (renewed q (moment doc q x) lease) tried.position tried.actor tried.fact (asked same) (omega (arith, x1_upto, reach)) x1_from (omega (arith, x1_upto, still)))
 
     -- its timer comes a retry period after the success
     timer_due : y + s.renews.wait ≤ a → Due (y + s.renews.wait)
@@ -483,12 +483,12 @@ module _ (doc : Doc) (near far b e : ℕ) (q : Identity) (l : LeadsUntil doc nea
         by_due (inl d) = d
 
     -- where there was time to send it
-    pub renewed_by : y + s.renews.wait + 2 * far ≤ a → Rewritten (y + s.renews.wait + 3 * far)
-    renewed_by room =
+    pub renewed_by : y + s.renews.wait + 2 * far ≤ a → y + s.renews.wait + 3 * far ≤ e → Rewritten (y + s.renews.wait + 3 * far)
+    renewed_by room still =
         let d : Due (y + s.renews.wait) = timer_due (omega (arith, room)) in
-        weaken (y + s.renews.wait) d (omega (arith, d.upto, room)) (d.g + 3 * far) (y + s.renews.wait + 3 * far) (omega (arith, d.upto)) (rewritten (y + s.renews.wait) d (omega (arith, d.upto, room)) (omega (arith, d.upto, room)))
+        weaken (y + s.renews.wait) d (omega (arith, d.upto, room)) (d.g + 3 * far) (y + s.renews.wait + 3 * far) (omega (arith, d.upto)) (rewritten (y + s.renews.wait) d (omega (arith, d.upto, room)) (omega (arith, d.upto, room)) (omega (arith, d.upto, still)))
 
-    pub renewed_at_once : doc.settings.fast_renew ≡ true → y + s.renews.wait ≤ a → Rewritten (y + s.renews.wait + far)
-    renewed_at_once quick room =
+    pub renewed_at_once : doc.settings.fast_renew ≡ true → y + s.renews.wait ≤ a → y + s.renews.wait + far ≤ e → Rewritten (y + s.renews.wait + far)
+    renewed_at_once quick room still =
         let d : Due (y + s.renews.wait) = timer_due room in
-        weaken (y + s.renews.wait) d (omega (arith, d.upto, room)) (d.g + far) (y + s.renews.wait + far) (omega (arith, d.upto)) (at_once (y + s.renews.wait) d (omega (arith, d.upto, room)) quick d.upto)
+        weaken (y + s.renews.wait) d (omega (arith, d.upto, room)) (d.g + far) (y + s.renews.wait + far) (omega (arith, d.upto)) (at_once (y + s.renews.wait) d (omega (arith, d.upto, room)) quick d.upto (omega (arith, d.upto, still)))

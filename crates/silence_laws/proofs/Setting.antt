@@ -1,5 +1,5 @@
 -- Where a leader in a calm falls silent, what comes before is a calm, and it stays up to then.
-use Rattle.std.proofs.Common.{◌≡◌, ◌⊎◌, ◌<◌, ◌≤◌, ℕ, suc, ◌+◌, ◌-◌, ◌*◌, true, List, ◌∷◌, Option, Some, None, IfSome, refl, sym, ap, ◌∙◌, subst, inl, inr, ⊎_elim, arith}
+use Rattle.std.proofs.Common.{◌≡◌, ◌⊎◌, ◌<◌, ◌≤◌, ℕ, suc, ◌+◌, ◌-◌, ◌*◌, true, false, List, ◌∷◌, Option, Some, None, IfSome, refl, sym, ap, ◌∙◌, subst, inl, inr, ⊎_elim, arith}
 use Rattle.std.proofs.lemmas.Bool.{eq-eqb, cases_eq}
 use Rattle.kube_objects.specs.declared.deed.Actor.{Actor}
 use Rattle.kube_objects.specs.Document.{Doc, is_controller}
@@ -13,6 +13,8 @@ use Rattle.history_laws.specs.Tails.{In, IsTail}
 use Rattle.history_laws.proofs.Order.{entries_are_earlier}
 use Rattle.history_laws.proofs.Plainly.{some_is}
 use Rattle.history_laws.proofs.Tailed.{in_tail, later_tail}
+use Rattle.kube_objects.specs.Stalls.{is_stalled, awake}
+use Rattle.kube_objects.proofs.Stalls.{awake_now, awake_later}
 use Rattle.call_laws.specs.Answering.{with_events}
 use Rattle.call_laws.proofs.Above.{place_of}
 use Rattle.call_laws.proofs.Making.{MadeAs, MadeSend, MadeAnswer, HasStopped, are_made}
@@ -20,7 +22,7 @@ use Rattle.call_laws.proofs.Placing.{in_own_beat, forces_stand}
 use Rattle.call_laws.proofs.Starting.{actor_is}
 use Rattle.takeover_laws.specs.Acting.{AreInTime}
 use Rattle.takeover_laws.specs.Calm.{Passes, IsSteady, IsCalm, IsInTime, AllBeats}
-use Rattle.takeover_laws.proofs.Rounds.{request_passes}
+use Rattle.takeover_laws.proofs.Rounds.{request_awakes}
 use Rattle.takeover_laws.proofs.Writers.{sends_of}
 use Rattle.stay_laws.specs.Stays.{HasSuccess, Stays}
 use Rattle.stay_laws.proofs.Alone.{one_stays}
@@ -66,10 +68,13 @@ pub record Arrives (near far from : ℕ) (arrives : Option ℕ) : Type 0 where
 
 module _ (doc : Doc) (rules : IsOwn doc) (near far e p : ℕ) (steady : IsSteady doc near far 0 e p) where
   -- a controller's request isn't lost
-  pub request_arrives : (m : ℕ) (x : Entry) (T : List Entry) (who : Identity) (call : Call) (arrives : Option ℕ) → IsTail (x ∷ T) (history doc m) → is_controller doc p ≡ true → who.process ≡ p → x.actor ≡ actor_of who → x.fact ≡ Sends call arrives → x.beat ≤ e
-      → Arrives near far x.beat arrives
-  request_arrives m x T who call arrives stands role mine actor fact to = by_step made.step_is
+  request_woken : (m : ℕ) (x : Entry) (T : List Entry) (who : Identity) (call : Call) (arrives : Option ℕ) → IsTail (x ∷ T) (history doc m) → is_controller doc p ≡ true → who.process ≡ p → x.actor ≡ actor_of who → x.fact ≡ Sends call arrives → x.beat ≤ e
+      → arrives ≡ Some (awake doc (x.beat + request_delay p (with_events doc x.beat)))
+  request_woken m x T who call arrives stands role mine actor fact to = by_step made.step_is
     where
+      Woken : Type 0
+      Woken = arrives ≡ Some (awake doc (x.beat + request_delay p (with_events doc x.beat)))
+
       made : MadeSend doc x.beat x.step x.actor call arrives T
       made = subst (λ d. MadeAs doc x.beat x.step x.actor d T) fact (are_made doc rules m x T stands)
 
@@ -82,12 +87,8 @@ module _ (doc : Doc) (rules : IsOwn doc) (near far e p : ℕ) (steady : IsSteady
       passes : Passes doc near far p x.beat
       passes = steady.passes x.beat (omega arith) to
 
-      sent : 2 ≤ x.step → Arrives near far x.beat arrives
-      sent late = record {
-        at = x.beat + request_delay p (with_events doc x.beat);
-        is = made.arrives_is ∙ ap (λ p. request_arrival doc p x.beat T) process ∙ request_passes doc rules near far p x.beat T passes (forces_stand doc rules m x T stands late);
-        way = record { least = omega (arith, passes.request_least); most = omega (arith, passes.request_most) };
-      }
+      sent : 2 ≤ x.step → Woken
+      sent late = made.arrives_is ∙ ap (λ p. request_arrival doc p x.beat T) process ∙ request_awakes doc rules near far p x.beat T passes (forces_stand doc rules m x T stands late)
 
       stopped : HasStopped x.beat made.q made.kind T → ⊥
       stopped s = omega (arith, steady.stops stop there refl (ap (λ b. has (when b made.q.incarnation)) (eq-eqb made.q.process p process)))
@@ -100,16 +101,44 @@ module _ (doc : Doc) (rules : IsOwn doc) (near far e p : ℕ) (steady : IsSteady
               in_tail stop (history doc (suc x.beat)) (history doc (suc e)) (later_tail doc (suc x.beat) (suc e) (omega (arith, to)))
               (in_tail stop (x ∷ T) (history doc (suc x.beat)) (in_own_beat doc m x T stands) (inr (subst (In stop) (sym s.is) (inl refl))))
 
-      by_step : (x.step ≡ 1) ⊎ ((x.step ≡ 3) ⊎ (x.step ≡ 4)) → Arrives near far x.beat arrives
+      by_step : (x.step ≡ 1) ⊎ ((x.step ≡ 3) ⊎ (x.step ≡ 4)) → Woken
       by_step (inr (inl three)) = sent (omega (arith, three))
       by_step (inr (inr four)) = sent (omega (arith, four))
       by_step (inl one) = absurd (⊎_elim stopped (λ free. omega (arith, free.2, one)) (made.free (ap (is_controller doc) process ∙ role)))
 
   pub request_way : (m : ℕ) (x : Entry) (T : List Entry) (who : Identity) (call : Call) (arrives : Option ℕ) → IsTail (x ∷ T) (history doc m) → is_controller doc p ≡ true → who.process ≡ p → x.actor ≡ actor_of who → x.fact ≡ Sends call arrives → x.beat ≤ e
-      → (at : ℕ) → arrives ≡ Some at → IsWay near far x.beat at
-  request_way m x T who call arrives stands role mine actor fact to at is =
-      let r = request_arrives m x T who call arrives stands role mine actor fact to in
-      subst (IsWay near far x.beat) (some_is r.at at (sym r.is ∙ is)) r.way
+      → (at : ℕ) → arrives ≡ Some at → ((j : ℕ) → x.beat ≤ j → j ≤ at → j ≤ x.beat + far → is_stalled doc j ≡ false) → IsWay near far x.beat at
+  request_way m x T who call arrives stands role mine actor fact to at is goes = record {
+    least = omega (arith, woken, now, passes.request_least);
+    most = omega (arith, woken, now, passes.request_most);
+  }
+    where
+      passes : Passes doc near far p x.beat
+      passes = steady.passes x.beat (omega arith) to
+
+      there : ℕ
+      there = x.beat + request_delay p (with_events doc x.beat)
+
+      woken : at ≡ awake doc there
+      woken = some_is at (awake doc there) (sym is ∙ request_woken m x T who call arrives stands role mine actor fact to)
+
+      now : awake doc there ≡ there
+      now = awake_now doc there (goes there (omega arith) (omega (arith, woken, awake_later doc there)) (omega (arith, passes.request_most)))
+
+  -- it arrives one way later where the store goes until then
+  pub request_arrives : (m : ℕ) (x : Entry) (T : List Entry) (who : Identity) (call : Call) (arrives : Option ℕ) → IsTail (x ∷ T) (history doc m) → is_controller doc p ≡ true → who.process ≡ p → x.actor ≡ actor_of who → x.fact ≡ Sends call arrives → x.beat ≤ e
+      → ((j : ℕ) → x.beat ≤ j → j ≤ x.beat + far → is_stalled doc j ≡ false) → Arrives near far x.beat arrives
+  request_arrives m x T who call arrives stands role mine actor fact to goes = record {
+    at = there;
+    is = request_woken m x T who call arrives stands role mine actor fact to ∙ ap Some (awake_now doc there (goes there (omega arith) (omega (arith, passes.request_most))));
+    way = record { least = omega (arith, passes.request_least); most = omega (arith, passes.request_most) };
+  }
+    where
+      passes : Passes doc near far p x.beat
+      passes = steady.passes x.beat (omega arith) to
+
+      there : ℕ
+      there = x.beat + request_delay p (with_events doc x.beat)
 
 -- ---- the situation
 

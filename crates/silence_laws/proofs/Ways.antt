@@ -14,13 +14,15 @@ use Rattle.history_laws.specs.Tails.{IsTail}
 use Rattle.history_laws.proofs.Order.{entries_are_earlier}
 use Rattle.history_laws.proofs.Plainly.{some_is}
 use Rattle.history_laws.proofs.Tailed.{tail_trans}
+use Rattle.kube_objects.specs.Stalls.{is_stalled, awake}
+use Rattle.kube_objects.proofs.Stalls.{awake_now, awake_later}
 use Rattle.call_laws.specs.Answering.{with_events}
 use Rattle.call_laws.proofs.Above.{in_head}
 use Rattle.call_laws.proofs.Making.{MadeAs, MadeSend, HasStopped, IsOpen, are_made}
 use Rattle.call_laws.proofs.Placing.{forces_stand, messages_travel}
 use Rattle.call_laws.proofs.Starting.{actor_is}
 use Rattle.takeover_laws.specs.Calm.{Passes, IsSteady}
-use Rattle.takeover_laws.proofs.Rounds.{Forces, reply_passes, sent_is, request_passes}
+use Rattle.takeover_laws.proofs.Rounds.{Forces, reply_passes, sent_is, request_awakes}
 use Rattle.calm_laws.proofs.Origins.{Origin}
 use Rattle.calm_laws.proofs.Asked.{not_open}
 
@@ -69,8 +71,9 @@ pub record IsWay (near far from to : ℕ) : Type 0 where
   pub most : to ≤ from + far
 
 module _ (doc : Doc) (rules : IsOwn doc) (near far e : ℕ) (q : Identity) (role : is_controller doc q.process ≡ true) (steady : IsSteady doc near far 0 e q.process) where
-  pub request_way : (x : Entry) (T : List Entry) (call : Call) (k : ℕ) → IsTail (x ∷ T) (history doc (suc e)) → x.actor ≡ actor_of q → x.fact ≡ Sends call (Some k) → open_as call.kind call ≡ Some call → IsWay near far x.beat k
-  request_way x T call k at actor fact opens = record { least = omega (arith, same, passes.request_least); most = omega (arith, same, passes.request_most) }
+  pub request_way : (x : Entry) (T : List Entry) (call : Call) (k : ℕ) → IsTail (x ∷ T) (history doc (suc e)) → x.actor ≡ actor_of q → x.fact ≡ Sends call (Some k) → open_as call.kind call ≡ Some call
+      → ((j : ℕ) → x.beat ≤ j → j ≤ k → j ≤ x.beat + far → is_stalled doc j ≡ false) → IsWay near far x.beat k
+  request_way x T call k at actor fact opens goes = record { least = omega (arith, same, passes.request_least); most = omega (arith, same, passes.request_most) }
     where
       step : 3 ≤ x.step
       step = (sent_freely doc rules (suc e) q role x T call (Some k) at actor fact opens).step
@@ -79,10 +82,19 @@ module _ (doc : Doc) (rules : IsOwn doc) (near far e : ℕ) (q : Identity) (role
       passes = steady.passes x.beat (omega arith) (beat_before doc e x T at)
 
       same : k ≡ x.beat + request_delay q.process (with_events doc x.beat)
-      same =
-          some_is k (x.beat + request_delay q.process (with_events doc x.beat))
-          ((subst (λ o. IfSome o (λ s. (s.call.sent ≡ x.beat) × (s.arrives ≡ request_arrival doc s.who.process x.beat T))) (sent_is x q call (Some k) actor fact) (messages_travel doc rules (suc e) x T at).0).1
-          ∙ request_passes doc rules near far q.process x.beat T passes (forces_stand doc rules (suc e) x T at (omega (arith, step))))
+      same = omega (arith, woken, now)
+        where
+          there : ℕ
+          there = x.beat + request_delay q.process (with_events doc x.beat)
+
+          woken : k ≡ awake doc there
+          woken =
+              some_is k (awake doc there)
+              ((subst (λ o. IfSome o (λ s. (s.call.sent ≡ x.beat) × (s.arrives ≡ request_arrival doc s.who.process x.beat T))) (sent_is x q call (Some k) actor fact) (messages_travel doc rules (suc e) x T at).0).1
+              ∙ request_awakes doc rules near far q.process x.beat T passes (forces_stand doc rules (suc e) x T at (omega (arith, step))))
+
+          now : awake doc there ≡ there
+          now = awake_now doc there (goes there (omega arith) (omega (arith, woken, awake_later doc there)) (omega (arith, passes.request_most)))
 
   pub sent_beat : (x : Entry) (T : List Entry) (call : Call) (arrives : Option ℕ) → IsTail (x ∷ T) (history doc (suc e)) → x.actor ≡ actor_of q → x.fact ≡ Sends call arrives → call.sent ≡ x.beat
   sent_beat x T call arrives at actor fact = (subst (λ o. IfSome o (λ s. (s.call.sent ≡ x.beat) × (s.arrives ≡ request_arrival doc s.who.process x.beat T))) (sent_is x q call arrives actor fact) (messages_travel doc rules (suc e) x T at).0).0
@@ -116,6 +128,8 @@ module _ (doc : Doc) (rules : IsOwn doc) (near far e : ℕ) (q : Identity) (role
 
   pub went : (w : Call) (reply : Reply) (S : List Entry) (y : ℕ) → (o : Origin doc q w reply S y) → IsTail S (history doc (suc e)) → y ≤ e → Went o.begun.f.beat o.e.beat y
   went w reply S y o at to = record {
-    request = request_way o.begun.f o.begun.before w o.e.beat (tail_trans (o.begun.f ∷ o.begun.before) S (history doc (suc e)) o.begun.position at) o.begun.actor (o.begun.fact ∙ ap (Sends w) o.arrives) o.begun.opens;
+    request =
+        request_way o.begun.f o.begun.before w o.e.beat (tail_trans (o.begun.f ∷ o.begun.before) S (history doc (suc e)) o.begun.position at) o.begun.actor (o.begun.fact ∙ ap (Sends w) o.arrives) o.begun.opens
+        (λ j low high soon. (steady.passes j (omega arith) (omega (arith, high, beat_before doc e o.e o.low (tail_trans (o.e ∷ o.low) S (history doc (suc e)) o.answered at)))).goes);
     reply = reply_way o.e o.low (tail_trans (o.e ∷ o.low) S (history doc (suc e)) o.answered at) o.step y to o.comes_is;
   }

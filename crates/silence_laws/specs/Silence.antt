@@ -1,6 +1,6 @@
 -- A leader in a calm falls silent, or is stopped, at a beat: what is known of it, of the other controllers, and of the settings. Source: client-go,
 -- package `leaderelection`; profile.
-use Rattle.std.specs.Prelude.{◌≡◌, ◌⊎◌, ◌≤◌, ◌<◌, ℕ, suc, ◌+◌, ◌-◌, ◌*◌, true, Option, None, Some}
+use Rattle.std.specs.Prelude.{◌≡◌, ◌⊎◌, ◌≤◌, ◌<◌, ℕ, suc, ◌+◌, ◌-◌, ◌*◌, true, false, Option, None, Some}
 use Rattle.kube_base.specs.declared.numbers.Version.{Version}
 use Rattle.kube_objects.specs.declared.call.Reply.TheVariants.{Done}
 use Rattle.kube_objects.specs.declared.object.Object.{Object}
@@ -9,6 +9,7 @@ use Rattle.kube_objects.specs.Entry.{Entry, Identity, Call, Release, Starts, Sto
 use Rattle.kube_objects.specs.Identities.{of_process}
 use Rattle.kube_objects.specs.Newest.{has}
 use Rattle.kube_objects.specs.Own.{IsOwn}
+use Rattle.kube_objects.specs.Stalls.{is_stalled}
 use Rattle.history.specs.History.{history}
 use Rattle.history.specs.Premise.{lease_premise}
 use Rattle.history.specs.Safe.{Acts}
@@ -20,11 +21,12 @@ use Rattle.takeover_laws.specs.Waits.{longest_wait, blocked_for}
 use Rattle.stay_laws.specs.Stays.{RenewsInTime}
 
 -- a leader in a calm up to the beat before b: it has led for three ways or longer, and its messages pass up to then; those of each other
--- controller pass up to beat e
+-- controller pass up to beat e, and the store goes
 pub record LeadsUntil (doc : Doc) (near far b e : ℕ) (q : Identity) : Type 0 where
   pub role : is_controller doc q.process ≡ true
   pub steady : IsSteady doc near far 0 (b - 1) q.process
   pub others : (p : ℕ) → is_controller doc p ≡ true → (p ≡ q.process → ⊥) → IsSteady doc near far 0 e p
+  pub goes : (k : ℕ) → k ≤ e → is_stalled doc k ≡ false
   pub within : b ≤ e
   pub long : 3 * far ≤ b
   pub acts : Acts doc q (b - 3 * far)

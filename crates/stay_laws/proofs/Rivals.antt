@@ -10,12 +10,10 @@ use Rattle.kube_objects.specs.Document.{Doc, end_beat, is_controller, lease_seco
 use Rattle.kube_objects.specs.Elector.{succeeds}
 use Rattle.kube_objects.specs.Entry.{Entry, Identity, Answers, actor_of}
 use Rattle.kube_objects.specs.Identities.{is_same, is_by, is_other, of_process, holder_of}
-use Rattle.kube_objects.specs.Newest.{or_else, has, when}
+use Rattle.kube_objects.specs.Newest.{has, when}
 use Rattle.kube_objects.specs.Process.{is_stop, stops}
 use Rattle.kube_objects.specs.Stored.{Held, election, stored, at_key, write_of}
-use Rattle.kube_objects.specs.Wire.{Back, back_of, arrival, request_arrival, request_delay, request_delay_of, loses_requests}
-use Rattle.kube_objects.specs.Stalls.{is_stalled}
-use Rattle.kube_objects.proofs.Stalls.{arrives_now}
+use Rattle.kube_objects.specs.Wire.{Back, back_of, request_arrival, request_delay}
 use Rattle.history.specs.History.{history, whole_history}
 use Rattle.history.specs.Premise.{greatest_below}
 use Rattle.history.specs.Safe.{Acts}
@@ -23,7 +21,7 @@ use Rattle.history.specs.Sound.{IsSound}
 use Rattle.history_laws.specs.Order.{IsOrdered}
 use Rattle.history_laws.specs.Tails.{In, IsTail}
 use Rattle.history_laws.proofs.Order.{entries_are_earlier, entries_are_ordered}
-use Rattle.history_laws.proofs.Plainly.{some_is, none_is, true_is, same_is, same_self}
+use Rattle.history_laws.proofs.Plainly.{some_is, true_is, same_is, same_self}
 use Rattle.history_laws.proofs.Tailed.{tail_all, tail_trans, count_tail, later_tail, same_head, same_rest}
 use Rattle.span_laws.proofs.Spans.{goes_most}
 use Rattle.lease_laws.proofs.EachKind.{top_stays}
@@ -36,7 +34,7 @@ use Rattle.takeover_laws.specs.Acting.{AreInTime}
 use Rattle.takeover_laws.specs.Waits.{blocked_for}
 use Rattle.takeover_laws.proofs.Waits.{blocked_time}
 use Rattle.takeover_laws.specs.Calm.{Passes, IsSteady, IsQuiet, IsCalm, WritesElection}
-use Rattle.takeover_laws.proofs.Rounds.{sent_is}
+use Rattle.takeover_laws.proofs.Rounds.{request_comes, sent_is}
 use Rattle.takeover_laws.proofs.Writers.{Sending, sending_of}
 use Rattle.gap_laws.proofs.Waits.{Slow, Waited, WaitedFor, Topped, Took, Waits}
 use Rattle.gap_laws.proofs.Histories.{whole_known}
@@ -53,11 +51,6 @@ pub record Own (doc : Doc) (q : Identity) (from : ℕ) (h : List Entry) : Type 0
   pub object : y.object ≡ object.Lease lease
   pub holder : lease.holder ≡ holder_of q
   pub duration : lease.duration ≡ Some (lease_seconds doc q.process)
-
--- when a request arrives that isn't lost
-arrival_is : (lost : Bool) (k delay at : ℕ) → Some at ≡ arrival lost k delay → at ≡ k + delay
-arrival_is true k delay at is = absurd (none_is at (sym is))
-arrival_is false k delay at is = some_is at (k + delay) is
 
 -- no entry stands above one of a later beat
 not_sooner : (h : List Entry) → IsOrdered h → (x : Entry) (T : List Entry) → IsTail (x ∷ T) h → (f : Entry) → In f T → f.beat ≤ x.beat
@@ -137,7 +130,7 @@ module _ (doc : Doc) (near far a e : ℕ) (sound : IsSound doc) (calm : IsCalm d
 
     -- its request took a while
     way : w.call.sent + near ≤ x.beat
-    way = omega (arith, s.sent, arrival_is (loses_requests w.who.process s.before) s.f.beat (request_delay w.who.process s.before) x.beat (arrives ∙ arrives_now doc w.who.process s.f.beat s.before (ap (λ n. is_stalled doc (s.f.beat + n)) delay ∙ passes.goes)), delay, passes.request_least)
+    way = omega (arith, s.sent, comes, passes.request_least)
       where
         passes : Passes doc near far w.who.process s.f.beat
         passes = rival_steady.passes s.f.beat s.from (omega (arith, s.sent, earlier, x_upto))
@@ -147,8 +140,10 @@ module _ (doc : Doc) (near far a e : ℕ) (sound : IsSound doc) (calm : IsCalm d
             (subst (λ o. IfSome o (λ s2. (s2.call.sent ≡ s.f.beat) × (s2.arrives ≡ request_arrival doc s2.who.process s.f.beat s.before))) (sent_is s.f w.who w.call (Some x.beat) s.actor s.fact)
             (messages_travel doc sound.2 (suc e) s.f s.before s.position).0).1
 
-        delay : request_delay w.who.process s.before ≡ request_delay w.who.process (with_events doc s.f.beat)
-        delay = ap (or_else 1) ((forces_stand doc sound.2 (suc e) s.f s.before s.position (omega (arith, s.step))).0 (request_delay_of w.who.process))
+        comes : x.beat ≡ s.f.beat + request_delay w.who.process (with_events doc s.f.beat)
+        comes =
+            request_comes doc sound.2 near far w.who.process s.f.beat s.before passes (forces_stand doc sound.2 (suc e) s.f s.before s.position (omega (arith, s.step))) x.beat
+            (λ j low high. (rival_steady.passes j (omega (arith, s.from, low)) (omega (arith, high, x_upto))).goes) (sym arrives)
 
     module _ (rival : w.who ≡ q → ⊥) where
       -- somebody else has waited since it was shown q's record

@@ -25,7 +25,7 @@ use Rattle.call_laws.proofs.Making.{MadeAs, MadeSend, HasStopped, IsOpen, are_ma
 use Rattle.call_laws.proofs.Placing.{forces_stand, messages_travel}
 use Rattle.call_laws.proofs.Starting.{actor_is}
 use Rattle.takeover_laws.specs.Calm.{Passes, IsSteady}
-use Rattle.takeover_laws.proofs.Rounds.{Forces, sent_is, request_passes, reply_passes}
+use Rattle.takeover_laws.proofs.Rounds.{Forces, sent_is, request_comes, reply_passes}
 use Rattle.calm_laws.proofs.Origins.{Origin}
 use Rattle.stay_laws.proofs.Closing.{within_below}
 
@@ -104,11 +104,11 @@ module _ (doc : Doc) (rules : IsOwn doc) (near far a e : ℕ) (q : Identity) (ro
 
     request_way : o.begun.f.beat + request_delay q.process (with_events doc o.begun.f.beat) ≡ o.e.beat
     request_way =
-        some_is (o.begun.f.beat + request_delay q.process (with_events doc o.begun.f.beat)) o.e.beat
-        (sym (request_passes doc rules near far q.process o.begun.f.beat o.begun.before sending (forces_stand doc rules (suc y) o.begun.f o.begun.before sending_high (omega (arith, free.step))))
-        ∙ sym ((subst (λ p. IfSome p (λ s. (s.call.sent ≡ o.begun.f.beat) × (s.arrives ≡ request_arrival doc s.who.process o.begun.f.beat o.begun.before)))
+        sym (request_comes doc rules near far q.process o.begun.f.beat o.begun.before sending (forces_stand doc rules (suc y) o.begun.f o.begun.before sending_high (omega (arith, free.step))) o.e.beat
+        (λ j low high. (steady.passes j (omega (arith, from, low)) (omega (arith, high, answered_by, to))).goes)
+        (sym ((subst (λ p. IfSome p (λ s. (s.call.sent ≡ o.begun.f.beat) × (s.arrives ≡ request_arrival doc s.who.process o.begun.f.beat o.begun.before)))
         (sent_is o.begun.f q w o.begun.arrives o.begun.actor o.begun.fact) (messages_travel doc rules (suc y) o.begun.f o.begun.before sending_high).0).1)
-        ∙ o.arrives)
+        ∙ o.arrives))
 
     force : Forces doc o.e.beat o.low
     force = forces_stand doc rules (suc y) o.e o.low answer_high (omega (arith, o.step))

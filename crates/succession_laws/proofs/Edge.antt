@@ -112,7 +112,9 @@ module _ (doc : Doc) (near far b e : ℕ) (q : Identity) (l : LeadsUntil doc nea
   x_upto = ⊎_elim (λ lt. omega (arith, lt)) (λ first. omega (arith, first.0)) (entries_are_earlier doc (suc k) x (in_head x S (history doc (suc k)) x_low))
 
   way : IsWay near far x.beat k
-  way = request_way doc s.sound.2 near far e c.process (l.others c.process role other) (suc k) x S c w o.begun.arrives x_low role refl o.begun.actor o.begun.fact (omega (arith, x_upto, within)) k o.arrives
+  way =
+      request_way doc s.sound.2 near far e c.process (l.others c.process role other) (suc k) x S c w o.begun.arrives x_low role refl o.begun.actor o.begun.fact (omega (arith, x_upto, within)) k o.arrives
+      (λ j low high soon. l.goes j (omega (arith, high, within)))
 
   -- its Get was sent in its turn
   in_turn : x.step ≡ 4
@@ -201,7 +203,9 @@ module _ (doc : Doc) (near far b e : ℕ) (q : Identity) (l : LeadsUntil doc nea
     f_high = tail_trans (its.f ∷ its.low) Z (history doc (suc k)) its.asked (tail_trans Z (z ∷ Z) (history doc (suc k)) (inr (tail_all Z)) at)
 
     its_way : IsWay near far its.f.beat z.beat
-    its_way = request_way doc s.sound.2 near far (b - 1) q.process l.steady (suc k) its.f its.low its.who its.call (Some z.beat) f_high l.role its.mine its.f_actor its.f_fact (omega (arith, its.early, its.sent)) z.beat refl
+    its_way =
+        request_way doc s.sound.2 near far (b - 1) q.process l.steady (suc k) its.f its.low its.who its.call (Some z.beat) f_high l.role its.mine its.f_actor its.f_fact (omega (arith, its.early, its.sent)) z.beat refl
+        (λ j low high soon. l.goes j (omega (arith, soon, its.early, its.sent, last, within)))
 
     -- the leader's update was sent after a reply
     f_step : its.f.step ≤ 3

@@ -267,7 +267,7 @@ module _ (doc : Doc) (near far b e : ℕ) (q : Identity) (l : LeadsUntil doc nea
           f = late_write n within x T call arrives at actor fact (led_not T (tail_trans T (x ∷ T) (history doc (suc n)) (inr (tail_all T)) at)) write (omega (arith, late, K_least, some_way))
 
           r : IsRound doc near far c call arrives x.beat
-          r = rounds_in doc s.sound.2 near far 0 e c steady s.one (suc n) x T call arrives at actor fact (omega (arith, f.step)) (omega arith) (omega (arith, soon, within)) (λ k is most. omega (arith, most, soon, within))
+          r = rounds_in doc s.sound.2 near far 0 e c steady s.one (suc n) x T call arrives at actor fact (omega (arith, f.step)) (omega arith) (omega (arith, soon, within)) (λ k n least is most. omega (arith, most, soon, within))
 
           answer_entry : Entry
           answer_entry = entry r.at 2 c (Answers call (answer call.request r.before) (reply_arrival doc c.process r.at r.before) (written call.request r.before))

@@ -103,7 +103,9 @@ module _ (doc : Doc) (near far b e : ℕ) (q : Identity) (sound : IsSound doc) (
                 (subst (WritesElection b) (sym o.fact) (le, wrote))
 
         way : IsWay near far o.begun.f.beat o.e.beat
-        way = request_way doc sound.2 near far (b - 1) q.process l.steady (suc n) o.begun.f o.begun.before q w o.begun.arrives f_high l.role refl o.begun.actor o.begun.fact (omega (arith, early, sent)) o.e.beat o.arrives
+        way =
+            request_way doc sound.2 near far (b - 1) q.process l.steady (suc n) o.begun.f o.begun.before q w o.begun.arrives f_high l.role refl o.begun.actor o.begun.fact (omega (arith, early, sent)) o.e.beat o.arrives
+            (λ j low high soon. l.goes j (omega (arith, soon, early, sent, room, some_way, within)))
 
         e_upto : o.e.beat ≤ n
         e_upto = omega (arith, way.most, early, sent, room, some_way)

@@ -201,12 +201,16 @@ module _ (doc : Doc) (near far b e : ℕ) (q : Identity) (l : LeadsUntil doc nea
       sent = sent;
     }
 
+    x_upto : x.beat ≤ n
+    x_upto = ⊎_elim (λ lt. omega (arith, lt)) (λ first. omega (arith, first.0)) (entries_are_earlier doc (suc n) x (in_head x T (history doc (suc n)) at))
+
     -- it arrives within a way after beat b
     pub its_beat : x.beat < b + far
     its_beat =
         omega (
           arith,
-          (request_way doc s.sound.2 near far (b - 1) q.process l.steady (suc n) w.f w.low w.who w.call (Some x.beat) asked_high l.role mine w.f_actor w.f_fact (omega (arith, early, sent)) x.beat refl).most,
+          (request_way doc s.sound.2 near far (b - 1) q.process l.steady (suc n) w.f w.low w.who w.call (Some x.beat) asked_high l.role mine w.f_actor w.f_fact (omega (arith, early, sent)) x.beat refl
+              (λ j low high soon. l.goes j (omega (arith, high, x_upto, within)))).most,
           early,
           sent,
         )

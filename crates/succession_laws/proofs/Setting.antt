@@ -48,7 +48,8 @@ module _ (doc : Doc) (near far b e : ℕ) (q : Identity) (l : LeadsUntil doc nea
             arith,
             some_b doc near far b e q l s,
             early,
-            (request_way doc s.sound.2 near far (b - 1) m.who.process (subst (IsSteady doc near far 0 (b - 1)) (sym same) l.steady) b x T m.who m.call m.arrives at role refl actor fact early y arrives).most,
+            (request_way doc s.sound.2 near far (b - 1) m.who.process (subst (IsSteady doc near far 0 (b - 1)) (sym same) l.steady) b x T m.who m.call m.arrives at role refl actor fact early y arrives
+                (λ j low high soon. l.goes j (omega (arith, soon, early, room, some_b doc near far b e q l s)))).most,
           )
         where
           early : x.beat ≤ b - 1

@@ -128,7 +128,13 @@ module _ (doc : Doc) (near far b e : ℕ) (q : Identity) (l : LeadsUntil doc nea
         soon : is_controller doc m.who.process ≡ true → at < d + far
         soon role =
             ⊎_elim (λ same. own x place.0 place.1 m facts.0 facts.1 same role at arrives)
-            (λ other. omega (arith, some, early, (request_way doc s.sound.2 near far e m.who.process (l.others m.who.process role other) d x place.0 m.who m.call m.arrives place.1 role refl facts.0 facts.1 (omega (arith, early, within)) at arrives).most))
+            (λ other. omega (
+              arith,
+              some,
+              early,
+              (request_way doc s.sound.2 near far e m.who.process (l.others m.who.process role other) d x place.0 m.who m.call m.arrives place.1 role refl facts.0 facts.1 (omega (arith, early, within)) at arrives
+                  (λ j low high soon. l.goes j (omega (arith, soon, early, room, some)))).most,
+            ))
             (cases_eq m.who.process q.process)
 
         by_role : (t : Bool) → is_controller doc m.who.process ≡ t → at < d + far

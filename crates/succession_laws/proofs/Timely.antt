@@ -112,8 +112,13 @@ module _ (doc : Doc) (near far b e : ℕ) (q : Identity) (l : LeadsUntil doc nea
       f_upto : w.f.beat ≤ a
       f_upto = ⊎_elim (λ lt. omega (arith, lt)) (λ first. omega (arith, first.0)) (entries_are_earlier doc (suc a) w.f (in_head w.f w.low (history doc (suc a)) asked))
 
+      z_upto : z.beat ≤ a
+      z_upto = ⊎_elim (λ lt. omega (arith, lt)) (λ first. omega (arith, first.0)) (entries_are_earlier doc (suc a) z (in_head z Z (history doc (suc a)) at))
+
       way : IsWay near far w.f.beat z.beat
-      way = request_way doc s.sound.2 near far a q.process l.steady (suc a) w.f w.low q w.call (Some z.beat) asked l.role refl actor w.f_fact f_upto z.beat refl
+      way =
+          request_way doc s.sound.2 near far a q.process l.steady (suc a) w.f w.low q w.call (Some z.beat) asked l.role refl actor w.f_fact f_upto z.beat refl
+          (λ j low high soon. l.goes j (omega (arith, high, z_upto, l.within)))
 
       n : ℕ
       n = w.f.beat + 2 * far
@@ -293,7 +298,7 @@ module _ (doc : Doc) (near far b e : ℕ) (q : Identity) (l : LeadsUntil doc nea
             won = won_success k.z k.before z_high w mine (omega (arith, early))
 
             again : Rewritten doc near far b e q l s won.y won.to won.hs (won.y + s.renews.wait + 3 * far)
-            again = renewed_by doc near far b e q l s won.y won.to won.hs (omega (arith, won.soon, early))
+            again = renewed_by doc near far b e q l s won.y won.to won.hs (omega (arith, won.soon, early)) (omega (arith, won.soon, lt, beat, beat_upto x h at, within))
 
             above : IsTail (k.z ∷ k.before) again.before
             above = subst (λ g. IsTail g again.before) won.same again.since
@@ -363,7 +368,9 @@ module _ (doc : Doc) (near far b e : ℕ) (q : Identity) (l : LeadsUntil doc nea
         f_upto = beat_upto w.f w.low asked
 
         way : IsWay near far w.f.beat x.beat
-        way = request_way doc s.sound.2 near far e w.who.process (l.others w.who.process w.role other) (suc m) w.f w.low w.who w.call (Some x.beat) asked w.role refl w.f_actor w.f_fact (omega (arith, f_upto, within)) x.beat refl
+        way =
+            request_way doc s.sound.2 near far e w.who.process (l.others w.who.process w.role other) (suc m) w.f w.low w.who w.call (Some x.beat) asked w.role refl w.f_actor w.f_fact (omega (arith, f_upto, within)) x.beat refl
+            (λ j low high soon. l.goes j (omega (arith, high, beat_upto x T at, within)))
 
         sent : w.call.sent ≡ w.f.beat
         sent = (sending_of doc s.sound.2 near far 0 e m w.who w.role (l.others w.who.process w.role other) (s.calls w.who.process w.role) within s.one w.call (Some x.beat) w.f w.low asked w.f_actor w.f_fact (omega arith)).0.sent

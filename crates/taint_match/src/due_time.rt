@@ -1,13 +1,14 @@
 // When a pod is due to be evicted.
-ghost use Rattle.std.specs.Prelude.{◌≡◌, ◌+◌};
+ghost use Rattle.std.specs.Prelude.{◌≡◌, ◌+◌, ◌<◌, ◌^◌};
 ghost use Rattle.kube_objects.specs.Tolerations.{due, due_by, due_within, earlier, first_tolerating, seconds_micros, taint_due};
 
 use crate::tolerate::tolerates;
 use kube_base::Wall;
 use kube_objects::{Due, Effect, Node, Pod, Taint, Toleration, Tolerations};
 
-fn seconds_micros(seconds: i64) -> u128
-    ensures { result ≡ seconds_micros seconds }
+pub(crate) fn seconds_micros(seconds: i64) -> u128
+    ensures value { result ≡ seconds_micros seconds }
+    ensures bounded { result < 2 ^ 84 }
 {
     if seconds < 0 {
         return 0;
@@ -33,7 +34,7 @@ fn due_by(toleration: Option<Toleration>, added: Wall) -> Due
     }
 }
 
-fn first_tolerating(tolerations: &Tolerations, taint: &Taint) -> Option<Toleration>
+pub(crate) fn first_tolerating(tolerations: &Tolerations, taint: &Taint) -> Option<Toleration>
     ensures { result ≡ first_tolerating tolerations.now taint.now }
 {
     tolerations

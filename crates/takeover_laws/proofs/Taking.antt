@@ -43,7 +43,7 @@ takeovers_end_in_acting doc near far a e n sound calm time one ways end within n
     no_write doc near far a e n sound calm end within one ways time none answer_entry r.before q answer_at refl role (since, wrote) (omega (arith, r.most, late))
   where
     r : IsRound doc near far q call arrives x.beat
-    r = rounds_in doc sound.2 near far a e q steady one m x T call arrives stands actor fact step from (omega (arith, late, within)) (λ k is most. omega (arith, most, late, within))
+    r = rounds_in doc sound.2 near far a e q steady one m x T call arrives stands actor fact step from (omega (arith, late, within)) (λ k n least is most. omega (arith, most, late, within))
 
     in_time : r.at + far ≤ n
     in_time = omega (arith, r.most, late)

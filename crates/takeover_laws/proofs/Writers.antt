@@ -513,7 +513,7 @@ module _ (doc : Doc) (rules : IsOwn doc) (near far a e n : ℕ) (q : Identity) (
         r : IsRound doc near far q s.call s.arrives s_sending.f.beat
         r =
             rounds_in doc rules near far a e q steady one (suc n) s_sending.f s_sending.before s.call s.arrives s_sending.position s_sending.actor s_sending.fact (omega (arith, s_sending.step)) s_sending.from
-            upto (λ k is most. omega (arith, some_is k x.beat (sym is ∙ arrives), late, within))
+            upto (λ k n least is most. omega (arith, least, some_is n x.beat (sym is ∙ arrives), late, within))
           where
             upto : s_sending.f.beat ≤ e
             upto = ⊎_elim (λ lt. omega (arith, lt, within)) (λ first. absurd (omega (arith, first.1, s_sending.step))) (entries_are_earlier doc (suc n) s_sending.f (in_head s_sending.f s_sending.before (history doc (suc n)) s_sending.position))
@@ -587,7 +587,7 @@ replies_react doc rules near far a e n q role steady time one within x T call ar
         r : IsRound doc near far q call arrives s.0.f.beat
         r =
             rounds_in doc rules near far a e q steady one (suc n) s.0.f s.0.before call arrives s.0.position s.0.actor s.0.fact (omega (arith, s.0.step)) s.0.from (omega (arith, beat, to, within))
-            (λ k is most. omega (arith, most, beat, to, within))
+            (λ k n least is most. omega (arith, most, beat, to, within))
 
 -- ---- the law
 

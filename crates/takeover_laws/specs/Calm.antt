@@ -14,8 +14,8 @@ use Rattle.history_laws.specs.Tails.{In}
 use Rattle.span_laws.specs.Spans.{RunsAtMost}
 use Rattle.call_laws.specs.Answering.{with_events}
 
--- with what is in force after a beat's events, a process's messages aren't lost and take from near to far beats, and it isn't paused; the
--- store goes where a request arrives that it sends then
+-- with what is in force after a beat's events, a process's messages aren't lost and take from near to far beats, it isn't paused, and the store
+-- goes
 pub record Passes (doc : Doc) (near far p k : ℕ) : Type 0 where
   pub requests : loses_requests p (with_events doc k) ≡ false
   pub replies : loses_replies p (with_events doc k) ≡ false
@@ -24,7 +24,7 @@ pub record Passes (doc : Doc) (near far p k : ℕ) : Type 0 where
   pub reply_least : near ≤ reply_delay p (with_events doc k)
   pub reply_most : reply_delay p (with_events doc k) ≤ far
   pub awake : is_paused doc p k ≡ false
-  pub goes : is_stalled doc (k + request_delay p (with_events doc k)) ≡ false
+  pub goes : is_stalled doc k ≡ false
 
 -- the beats at which such an entry of a process stands up to beat e
 abbrev pub AllBeats : Doc → ℕ → ℕ → Fact → (ℕ → Type 0) → Type 0

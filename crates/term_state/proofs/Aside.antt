@@ -8,6 +8,7 @@ use Rattle.kube_objects.specs.declared.object.Object.TheVariants as object
 use Rattle.kube_objects.specs.Entry.{Entry, Identity}
 use Rattle.kube_objects.specs.Keys.{key_eq}
 use Rattle.kube_objects.specs.Newest.{has}
+use Rattle.kube_objects.specs.Answers.{node_in}
 use Rattle.kube_objects.specs.Seen.{is_pod, pod_in, seen_node, seen_pod}
 use Rattle.kube_objects.specs.Stored.{node_key}
 use Rattle.kube_objects.specs.Tainting.{before_tick, waits}
@@ -15,20 +16,20 @@ use Rattle.kube_objects.proofs.KeyOrder.{same_key}
 use Rattle.history_laws.proofs.Plainly.{false_is}
 use Rattle.tick_laws.specs.Changes.{IsChange, IsModeChange, Wrote, after_write, gone, is_that, noted}
 use Rattle.tick_laws.specs.Judged.{seen_due, shown}
-use Rattle.tick_laws.proofs.Frames.{noted_pod, pod_shown, same_node, same_pod}
+use Rattle.tick_laws.proofs.Frames.{node_shown, noted_pod, pod_shown, same_node, same_pod}
 use Rattle.tick_laws.proofs.Tried.{gone_dirty, gone_due, mode_dues, mode_unseen, no_pod_never, noted_dirty, noted_due, noted_waits, pod_refused_dirty, pod_refused_others, refused_dues, refused_others, refused_waits, same_dirties, same_dues}
 use Rattle.watch_cache.specs.declared.cache.Cache.{Cache}
 use Rattle.watch_cache.specs.Kept.{is_on, of_kind}
 use Rattle.watch_cache.specs.TaintChanges.{taints_in}
 use Rattle.watch_cache.specs.Stands.{CacheStands, kept_in, position_in, stale_in, synced_in}
 use Rattle.term_state.specs.declared.cluster.Cluster.{Cluster}
-use Rattle.term_state.specs.ClusterStands.{ClusterBut, ClusterStands, has_moved, no_node, no_pod}
+use Rattle.term_state.specs.ClusterStands.{ClusterBut, ClusterStands, HaveKinds, has_moved, no_node, no_pod}
 use Rattle.term_state.specs.MidTick.{IsMoved}
 use Rattle.term_state.proofs.SameTaints.{due_retained}
 use Rattle.term_state.proofs.Widen.{first_none, second_none}
 
 abbrev pub with_cache : Cluster → Cache → Cluster
-with_cache c cache = record { alloc = c.alloc; cache = cache; mode = c.mode; unclean = c.unclean; dues = c.dues; moved = c.moved }
+with_cache c cache = record c { cache = cache }
 
 -- how a call changed the cache
 pub record IsCacheChange (wrote : Option Wrote) (refused : Option Key) (old new : Cache) : Type 0 where
@@ -47,25 +48,38 @@ cache_changed q h g wrote refused old new d u s =
       position = u.position ∙ s.position ∙ sym d.position;
     }
 
--- what was written is no pod
-abbrev NoPod : Option Wrote → Type 0
-NoPod None = Unit {0}
-NoPod (Some wrote) = of_kind pod_in wrote.1 ≡ None
+-- what was written is a node, or nothing is left
+abbrev NodeOrNone : Option Wrote → Type 0
+NodeOrNone None = Unit {0}
+NodeOrNone (Some wrote) = (of_kind pod_in wrote.1 ≡ None) × (has (of_kind node_in wrote.1) ≡ has wrote.1)
 
-kinds_changed : (q : Identity) (h g : List Entry) (wrote : Option Wrote) (refused : Option Key) → IsChange q h g wrote refused → NoPod wrote
-    → ((key : Key) → has (seen_pod q key h) ≡ true → is_pod key.kind ≡ true) → (key : Key) → has (seen_pod q key g) ≡ true → is_pod key.kind ≡ true
-kinds_changed q h g wrote refused d no_pod kinds key there = by_write wrote no_pod (sym (ap has (sym (pod_shown q key g) ∙ ap (of_kind pod_in) (d.shown key))) ∙ there)
+pub kinds_changed : (q : Identity) (h g : List Entry) (wrote : Option Wrote) (refused : Option Key) → IsChange q h g wrote refused → NodeOrNone wrote → HaveKinds q h → HaveKinds q g
+kinds_changed q h g wrote refused d is_node kinds = record {
+  pods = λ key there. pod_by_write key wrote is_node (sym (ap has (sym (pod_shown q key g) ∙ ap (of_kind pod_in) (d.shown key))) ∙ there);
+  nodes = λ n there. ap has (sym (node_shown q n g) ∙ ap (of_kind node_in) (d.shown (node_key n))) ∙ node_by_write n wrote is_node (sym (ap has (d.shown (node_key n))) ∙ there);
+}
   where
-    before : has (of_kind pod_in (shown q key h)) ≡ true → is_pod key.kind ≡ true
-    before is = kinds key (sym (ap has (pod_shown q key h)) ∙ is)
+    pod_before : (key : Key) → has (of_kind pod_in (shown q key h)) ≡ true → is_pod key.kind ≡ true
+    pod_before key is = kinds.pods key (sym (ap has (pod_shown q key h)) ∙ is)
 
-    by_test : (x : Option (Version × Object)) (b : Bool) → of_kind pod_in x ≡ None → has (of_kind pod_in (cond b x (shown q key h))) ≡ true → is_pod key.kind ≡ true
-    by_test x true none is = absurd (false_is (sym (ap has none) ∙ is))
-    by_test x false none is = before is
+    pod_by_test : (key : Key) (x : Option (Version × Object)) (b : Bool) → of_kind pod_in x ≡ None → has (of_kind pod_in (cond b x (shown q key h))) ≡ true → is_pod key.kind ≡ true
+    pod_by_test key x true none is = absurd (false_is (sym (ap has none) ∙ is))
+    pod_by_test key x false none is = pod_before key is
 
-    by_write : (wrote : Option Wrote) → NoPod wrote → has (of_kind pod_in (after_write wrote key (shown q key h))) ≡ true → is_pod key.kind ≡ true
-    by_write None none is = before is
-    by_write (Some wrote) none is = by_test wrote.1 (key_eq wrote.0 key) none is
+    pod_by_write : (key : Key) (wrote : Option Wrote) → NodeOrNone wrote → has (of_kind pod_in (after_write wrote key (shown q key h))) ≡ true → is_pod key.kind ≡ true
+    pod_by_write key None none is = pod_before key is
+    pod_by_write key (Some wrote) none is = pod_by_test key wrote.1 (key_eq wrote.0 key) none.0 is
+
+    node_before : (n : ℕ) → has (shown q (node_key n) h) ≡ true → has (of_kind node_in (shown q (node_key n) h)) ≡ true
+    node_before n there = ap has (node_shown q n h) ∙ kinds.nodes n there
+
+    node_by_test : (n : ℕ) (x : Option (Version × Object)) (b : Bool) → has (of_kind node_in x) ≡ has x → has (cond b x (shown q (node_key n) h)) ≡ true → has (of_kind node_in (cond b x (shown q (node_key n) h))) ≡ true
+    node_by_test n x true same there = same ∙ there
+    node_by_test n x false same there = node_before n there
+
+    node_by_write : (n : ℕ) (wrote : Option Wrote) → NodeOrNone wrote → has (after_write wrote (node_key n) (shown q (node_key n) h)) ≡ true → has (of_kind node_in (after_write wrote (node_key n) (shown q (node_key n) h))) ≡ true
+    node_by_write n None none there = node_before n there
+    node_by_write n (Some wrote) none there = node_by_test n wrote.1 (key_eq wrote.0 (node_key n)) none.1 there
 
 module _ (q : Identity) (h g : List Entry) (name : ℕ) (version : Version) (node : Node) (d : IsChange q h g (noted name version node) None) where
   -- a node was written, and isn't judged yet
@@ -76,8 +90,8 @@ module _ (q : Identity) (h g : List Entry) (name : ℕ) (version : Version) (nod
         cache = cache_changed q h g (noted name version node) None c.cache cache d u s.cache;
         mode = s.mode ∙ sym d.mode;
         unclean = λ n apart. s.unclean n refl ∙ sym (noted_dirty q h g name version node d n apart);
-        dues = λ key off. s.dues key refl ∙ by_kind key (is_pod key.kind) refl off;
-        kinds = kinds_changed q h g (noted name version node) None d refl s.kinds;
+        dues = λ key off added. s.dues key refl added ∙ by_kind key (is_pod key.kind) refl off;
+        kinds = kinds_changed q h g (noted name version node) None d (refl, refl) s.kinds;
       }
     where
       by_kind : (key : Key) (b : Bool) → is_pod key.kind ≡ b → is_on name (seen_pod q key g) ≡ false → seen_due q key h ≡ seen_due q key g
@@ -92,8 +106,8 @@ module _ (q : Identity) (h g : List Entry) (name : ℕ) (version : Version) (nod
         cache = cache_changed q h g (noted name version node) None c.cache cache d u s.cache;
         mode = s.mode ∙ sym d.mode;
         unclean = λ n apart. s.unclean n refl ∙ sym (noted_dirty q h g name version node d n apart);
-        dues = λ key out. s.dues key refl ∙ by_kind key (is_pod key.kind) refl;
-        kinds = kinds_changed q h g (noted name version node) None d refl s.kinds;
+        dues = λ key out added. s.dues key refl added ∙ by_kind key (is_pod key.kind) refl;
+        kinds = kinds_changed q h g (noted name version node) None d (refl, refl) s.kinds;
       }
     where
       by_test : (n : ℕ) (b : Bool) → key_eq (node_key name) (node_key n) ≡ b → taints_in (cond b (Some (version, object.Node node)) (shown q (node_key n) h)) ≡ taints_in (shown q (node_key n) h)
@@ -125,7 +139,7 @@ same_aside q h g nodes pods c d s =
       cache = cache_changed q h g None None c.cache c.cache d (record { kept = λ key. refl; stale = λ key. refl; synced = refl; position = refl }) s.cache;
       mode = s.mode ∙ sym d.mode;
       unclean = λ n out. s.unclean n out ∙ sym (same_dirties q h g d n);
-      dues = λ key out. s.dues key out ∙ sym (same_dues q h g d key);
+      dues = λ key out added. s.dues key out added ∙ sym (same_dues q h g d key);
       kinds = kinds_changed q h g None None d tt s.kinds;
     }
 
@@ -137,7 +151,7 @@ refused_aside q h g name c cache d s u =
       cache = cache_changed q h g None (Some (node_key name)) c.cache cache d u s.cache;
       mode = s.mode ∙ sym d.mode;
       unclean = λ n apart. s.unclean n refl ∙ sym (refused_others q h g name d n apart);
-      dues = λ key out. s.dues key refl ∙ sym (refused_dues q h g name d key);
+      dues = λ key out added. s.dues key refl added ∙ sym (refused_dues q h g name d key);
       kinds = kinds_changed q h g None (Some (node_key name)) d tt s.kinds;
     }
 
@@ -149,8 +163,8 @@ gone_aside q h g pod pods c cache d kind s u =
       cache = cache_changed q h g (gone pod) None c.cache cache d u s.cache;
       mode = s.mode ∙ sym d.mode;
       unclean = λ n out. s.unclean n out ∙ sym (gone_dirty q h g pod d kind n);
-      dues = λ key out. s.dues key (first_none (pods key) (key_eq pod key) out) ∙ sym (gone_due q h g pod d kind key (second_none (pods key) (key_eq pod key) out));
-      kinds = kinds_changed q h g (gone pod) None d refl s.kinds;
+      dues = λ key out added. s.dues key (first_none (pods key) (key_eq pod key) out) added ∙ sym (gone_due q h g pod d kind key (second_none (pods key) (key_eq pod key) out));
+      kinds = kinds_changed q h g (gone pod) None d (refl, refl) s.kinds;
     }
 
 -- a pod became stale
@@ -161,7 +175,7 @@ stale_aside q h g pod pods c cache d kind s u =
       cache = cache_changed q h g None (Some pod) c.cache cache d u s.cache;
       mode = s.mode ∙ sym d.mode;
       unclean = λ n out. s.unclean n out ∙ sym (pod_refused_dirty q h g pod d kind n);
-      dues = λ key out. s.dues key (first_none (pods key) (key_eq pod key) out) ∙ sym (pod_refused_others q h g pod d key (second_none (pods key) (key_eq pod key) out));
+      dues = λ key out added. s.dues key (first_none (pods key) (key_eq pod key) out) added ∙ sym (pod_refused_others q h g pod d key (second_none (pods key) (key_eq pod key) out));
       kinds = kinds_changed q h g None (Some pod) d tt s.kinds;
     }
 
@@ -174,7 +188,7 @@ unseen_before q h g on d n out = sym (same_node q n h g (d.shown (node_key n))) 
 
 -- the mode changed, and no node is judged yet
 pub mode_aside : (q : Identity) (h g : List Entry) (on : Bool) (c : Cluster) → IsModeChange q h g on → ClusterStands q h c
-    → ClusterBut q g (λ n. has (seen_node q n g)) no_pod (record { alloc = c.alloc; cache = c.cache; mode = on; unclean = c.unclean; dues = c.dues; moved = c.moved })
+    → ClusterBut q g (λ n. has (seen_node q n g)) no_pod (record c { mode = on })
 mode_aside q h g on c d s =
     record {
       cache = record {
@@ -185,8 +199,11 @@ mode_aside q h g on c d s =
       };
       mode = sym d.mode;
       unclean = λ n out. s.unclean n refl ∙ sym (mode_unseen q h g on (record { region = 0; zone = 0 }) n d (unseen_before q h g on d n out)).0;
-      dues = λ key out. s.dues key refl ∙ sym (mode_dues q h g on d key);
-      kinds = λ key there. s.kinds key (sym (ap has (same_pod q key h g (d.shown key))) ∙ there);
+      dues = λ key out added. s.dues key refl added ∙ sym (mode_dues q h g on d key);
+      kinds = record {
+        pods = λ key there. s.kinds.pods key (sym (ap has (same_pod q key h g (d.shown key))) ∙ there);
+        nodes = λ n there. ap has (same_node q n h g (d.shown (node_key n))) ∙ s.kinds.nodes n (sym (ap has (d.shown (node_key n))) ∙ there);
+      };
     }
 
 pub mode_moved : (q : Identity) (h g : List Entry) (on : Bool) → IsModeChange q h g on → (k : ℕ) (old new : Cluster) → before_tick q k g ≡ before_tick q k h

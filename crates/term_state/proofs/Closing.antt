@@ -25,6 +25,7 @@ use Rattle.tick_laws.specs.Changes.{IsChange}
 use Rattle.tick_laws.specs.Judged.{due_as, due_on, is_by_now, is_dirty, seen_due, shown}
 use Rattle.tick_laws.proofs.Frames.{node_shown, pod_shown}
 use Rattle.tick_laws.proofs.Tried.{refused_clean, unseen_clean, unseen_never}
+use Rattle.watch_cache.specs.declared.cache.Cache.{Cache}
 use Rattle.watch_cache.specs.Kept.{of_kind}
 use Rattle.watch_cache.specs.Stands.{CacheStands, is_tick_by, kept_in, ticks}
 use Rattle.watch_cache.proofs.Frames.{upper}
@@ -39,7 +40,7 @@ pub number_eq : (a b : ℕ) → is_eq (nat_cmp a b) ≡ (a == b)
 number_eq a b = grind (arith, nat_tests)
 
 abbrev pub with_unclean : Cluster → BTreeSet ℕ → Cluster
-with_unclean c unclean = record { alloc = c.alloc; cache = c.cache; mode = c.mode; unclean = unclean; dues = c.dues; moved = c.moved }
+with_unclean c unclean = record c { unclean = unclean }
 
 -- a refused node is taken out of those to be cleaned
 pub refused_judged : (q : Identity) (h g : List Entry) (name : ℕ) (c : Cluster) (unclean : BTreeSet ℕ) → IsChange q h g None (Some (node_key name)) → ClusterBut q g (λ n. name == n) no_pod c
@@ -61,7 +62,7 @@ pub closed_pod : (q : Identity) (g : List Entry) (pod : Key) (pods : Key → Boo
     → ((key : Key) → due_in dues key ≡ cond (key_eq pod key) Never (due_in c.dues key)) → ClusterBut q g no_node (but_pod pod pods) (with_dues c dues)
 closed_pod q g pod pods c dues s never set =
     widen q g no_node no_node (but_pod pod (λ p. pods p || key_eq pod p)) (but_pod pod pods) (with_dues c dues) (λ n is. is) (λ p. by_tests (pods p) (key_eq pod p))
-    (due_set q g no_node (λ p. pods p || key_eq pod p) c dues pod Never s (sym never) set)
+    (due_set q g no_node (λ p. pods p || key_eq pod p) c dues pod Never s (λ added. sym never) set)
   where
     by_tests : (b e : Bool) → (b && not e) ≡ false → ((b || e) && not e) ≡ false
     by_tests true e is = is
@@ -73,6 +74,14 @@ closed_pod q g pod pods c dues s never set =
 pub if_some_weaker : {A : Type 0} (P Q : A → Type 0) (o : Option A) → ((x : A) → P x → Q x) → IfSome o P → IfSome o Q
 if_some_weaker P Q None f p = tt
 if_some_weaker P Q (Some x) f p = f x p
+
+pub if_some_both : {A : Type 0} (P Q : A → Type 0) (o : Option A) → IfSome o P → IfSome o Q → IfSome o (λ x. P x × Q x)
+if_some_both P Q None p q = tt
+if_some_both P Q (Some x) p q = (p, q)
+
+pub if_none_weaker : {A : Type 0} (P Q : Type 0) (o : Option A) → (P → Q) → IfNone o P → IfNone o Q
+if_none_weaker P Q None f p = f p
+if_none_weaker P Q (Some x) f p = tt
 
 pub if_none_always : {A : Type 0} (P : Type 0) (o : Option A) → P → IfNone o P
 if_none_always P None p = p
@@ -122,14 +131,17 @@ mode_none q (e ∷ h) none = by_fact e.fact (by_test (is_tick_by q e.actor e.fac
     by_fact (Ticks t) parts rest = by_tick t parts.0 (rest parts.1)
     by_fact d parts rest = rest parts.1
 
+pub new_unseen : (q : Identity) (h : List Entry) (cache : Cache) → CacheStands q h cache → ((key : Key) → kept_in cache key ≡ None) → (key : Key) → seen_pod q key h ≡ None
+new_unseen q h cache s kept key = sym (pod_shown q key h) ∙ ap (of_kind pod_in) (sym (s.objects key) ∙ kept key)
+
 pub new_stands : (q : Identity) (h : List Entry) (c : Cluster) → ticks q h ≡ 0 → CacheStands q h c.cache → ((key : Key) → kept_in c.cache key ≡ None) → c.mode ≡ false
     → ((n : ℕ) → contains nat_cmp c.unclean n ≡ false) → ((key : Key) → due_in c.dues key ≡ Never) → ClusterStands q h c
 new_stands q h c none cache kept off clean never = record {
   cache = cache;
   mode = off ∙ sym (mode_none q h none);
   unclean = λ n out. clean n ∙ sym (unseen_clean q n h (sym (node_shown q n h) ∙ ap (of_kind node_in) (nothing (node_key n))));
-  dues = λ key out. never key ∙ sym (unseen_never q key h (unseen key));
-  kinds = λ key there. absurd (false_is (sym (ap has (unseen key)) ∙ there));
+  dues = λ key out added. never key ∙ sym (unseen_never q key h (unseen key));
+  kinds = record { pods = λ key there. absurd (false_is (sym (ap has (unseen key)) ∙ there)); nodes = λ n there. absurd (false_is (sym (ap has (nothing (node_key n))) ∙ there)) };
 }
   where
     nothing : (key : Key) → shown q key h ≡ None

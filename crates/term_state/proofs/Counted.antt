@@ -3,7 +3,7 @@ use Rattle.std.proofs.Common.{◌≡◌, ◌∙◌, ℕ, ◌≤◌, ◌+◌, ◌
 use Rattle.std.specs.List.Sorted.{IsStrictlySortedBy}
 use Rattle.std.specs.List.{AllByRecursion}
 use Rattle.std.proofs.lemmas.Cmp.{tied_itself}
-use Rattle.std.proofs.lemmas.List.Sums.{sum_by-cons}
+use Rattle.std.proofs.lemmas.List.Sums.{count_by-le-length, sum_by-cons}
 use Rattle.std.specs.declared.cmp.Ordering.{Ordering}
 use Rattle.kube_base.specs.declared.numbers.Version.{Version}
 use Rattle.kube_objects.specs.declared.key.Key.{Key}
@@ -12,8 +12,8 @@ use Rattle.kube_objects.specs.Entry.{Entry, Identity}
 use Rattle.kube_objects.specs.Feeds.{is_among}
 use Rattle.kube_objects.specs.Keys.{key_cmp, key_eq}
 use Rattle.kube_objects.specs.Newest.{has}
-use Rattle.kube_objects.specs.Seen.{is_pod, pod_keys, seen_pod}
-use Rattle.kube_objects.proofs.KeyOrder.{key_itself}
+use Rattle.kube_objects.specs.Seen.{pod_keys, seen_pod}
+use Rattle.kube_objects.proofs.KeyOrder.{key_itself, same_key}
 use Rattle.history_laws.proofs.Plainly.{false_is}
 use Rattle.tick_laws.specs.Steps.{pods_on}
 use Rattle.tick_laws.specs.Walks.{Above, Among, Ascends}
@@ -22,6 +22,7 @@ use Rattle.tick_laws.proofs.Orders.{keys_strict}
 use Rattle.tick_laws.proofs.Walks.{above_less}
 use Rattle.watch_cache.specs.Kept.{is_on}
 use Rattle.watch_cache.specs.Told.{AreListed}
+use Rattle.term_state.specs.ClusterStands.{HaveKinds}
 
 pub on_ok_always : {A E : Type 0} {P : Type 0} (r : Result A E) → P → OnOk r P
 on_ok_always (Ok x) p = p
@@ -106,7 +107,7 @@ on_has name None on = on
 on_has name (Some x) on = refl
 
 -- so many pods are on the node
-pub listed_few : (q : Identity) (h : List Entry) (name : ℕ) (keys : List Key) → ((key : Key) → has (seen_pod q key h) ≡ true → is_pod key.kind ≡ true)
+pub listed_few : (q : Identity) (h : List Entry) (name : ℕ) (keys : List Key) → HaveKinds q h
     → AreListed (λ key. is_on name (seen_pod q key h)) keys → length keys ≤ pods_on q name h
 listed_few q h name keys kinds l = few (λ key. is_on name (seen_pod q key h)) (pod_keys h) keys (ascends keys l.ascend) (pod_keys_ascend h) member
   where
@@ -115,4 +116,65 @@ listed_few q h name keys kinds l = few (λ key. is_on name (seen_pod q key h)) (
         let on : is_on name (seen_pod q key h) ≡ true = sym (l.listed key) ∙ among_is key keys at in
         let there = on_has name (seen_pod q key h) on in
         let found = some_of (seen_pod q key h) there in
-        (on, pod_is_named q key h found.0 (kinds key there) found.1)
+        (on, pod_is_named q key h found.0 (kinds.pods key there) found.1)
+
+-- ---- and as many
+
+-- those of a list that pass a test
+abbrev keep : (Key → Bool) → List Key → List Key
+keep test [] = []
+keep test (k ∷ ks) = cond (test k) (k ∷ keep test ks) (keep test ks)
+
+keep_counts : (test : Key → Bool) (ks : List Key) → count_by test ks ≡ length (keep test ks)
+keep_counts test [] = refl
+keep_counts test (k ∷ ks) = sum_by-cons (λ x. cond (test x) 1 0) k ks ∙ by_test (test k) (keep_counts test ks)
+  where
+    by_test : (b : Bool) → count_by test ks ≡ length (keep test ks) → cond b 1 0 + count_by test ks ≡ length (cond b (k ∷ keep test ks) (keep test ks))
+    by_test true is = omega (arith, is)
+    by_test false is = omega (arith, is)
+
+kept_above : (test : Key → Bool) (key : Key) (ks : List Key) → Above key_cmp key ks → Above key_cmp key (keep test ks)
+kept_above test key [] above = tt
+kept_above test key (k ∷ ks) above = by_test (test k) (kept_above test key ks above.1)
+  where
+    by_test : (b : Bool) → Above key_cmp key (keep test ks) → Above key_cmp key (cond b (k ∷ keep test ks) (keep test ks))
+    by_test true rest = (above.0, rest)
+    by_test false rest = rest
+
+kept_ascend : (test : Key → Bool) (ks : List Key) → Ascends key_cmp ks → Ascends key_cmp (keep test ks)
+kept_ascend test [] a = tt
+kept_ascend test (k ∷ ks) a = by_test (test k) (kept_ascend test ks a.1)
+  where
+    by_test : (b : Bool) → Ascends key_cmp (keep test ks) → Ascends key_cmp (cond b (k ∷ keep test ks) (keep test ks))
+    by_test true rest = (kept_above test k ks a.0, rest)
+    by_test false rest = rest
+
+kept_pass : (test : Key → Bool) (key : Key) (ks : List Key) → Among key (keep test ks) → test key ≡ true
+kept_pass test key [] there = absurd there
+kept_pass test key (k ∷ ks) there = by_test (test k) refl there (kept_pass test key ks)
+  where
+    by_test : (b : Bool) → test k ≡ b → Among key (cond b (k ∷ keep test ks) (keep test ks)) → (Among key (keep test ks) → test key ≡ true) → test key ≡ true
+    by_test true is (inl same) rest = ap test same ∙ is
+    by_test true is (inr later) rest = rest later
+    by_test false is later rest = rest later
+
+among_of : (key : Key) (keys : List Key) → is_among keys key ≡ true → Among key keys
+among_of key [] is = absurd (false_is is)
+among_of key (k ∷ ks) is = by_test (key_eq k key) refl is (among_of key ks)
+  where
+    by_test : (b : Bool) → key_eq k key ≡ b → (b || is_among ks key) ≡ true → (is_among ks key ≡ true → Among key ks) → Among key (k ∷ ks)
+    by_test true same is rest = inl (sym (same_key k key same))
+    by_test false other is rest = inr (rest is)
+
+-- the pods on the node are just those that are listed
+pub listed_all : (q : Identity) (h : List Entry) (name : ℕ) (keys : List Key) → HaveKinds q h
+    → AreListed (λ key. is_on name (seen_pod q key h)) keys → length keys ≡ pods_on q name h
+listed_all q h name keys kinds l =
+    let one = listed_few q h name keys kinds l in
+    let two : length (keep test (pod_keys h)) ≤ count_by (λ key. true) keys =
+    few (λ key. true) keys (keep test (pod_keys h)) (kept_ascend test (pod_keys h) (pod_keys_ascend h)) (ascends keys l.ascend)
+    (λ key at. (refl, among_of key keys (l.listed key ∙ kept_pass test key (pod_keys h) at))) in
+    omega (arith, one, two, keep_counts test (pod_keys h), count_by-le-length (λ (key : Key). true) keys)
+  where
+    test : Key → Bool
+    test key = is_on name (seen_pod q key h)

@@ -4,6 +4,7 @@ use Rattle.kube_base.specs.declared.numbers.Version.{Version}
 use Rattle.kube_objects.specs.declared.key.Key.{Key}
 use Rattle.kube_objects.specs.declared.node.Node.{Node}
 use Rattle.kube_objects.specs.declared.pod.Due.{Due}
+use Rattle.kube_objects.specs.declared.rules.EvictRule.TheVariants.{Added, Seen}
 use Rattle.kube_objects.specs.declared.pod.Pod.{Pod}
 use Rattle.kube_objects.specs.Entry.{Entry, Identity}
 use Rattle.kube_objects.specs.Feeds.{is_among}
@@ -15,6 +16,7 @@ use Rattle.kube_objects.proofs.KeyOrder.{same_key}
 use Rattle.history_laws.proofs.Plainly.{false_is}
 use Rattle.evict_queue.specs.Queue.{due_in}
 use Rattle.evict_queue.specs.declared.queue.EvictQueue.{EvictQueue}
+use Rattle.evict_queue.specs.declared.rows.Rows.{Rows}
 use Rattle.tick_laws.specs.Judged.{dirty_as, due_as, is_dirty, seen_due}
 use Rattle.watch_cache.specs.Listed.{is_named}
 use Rattle.term_state.specs.declared.cluster.Cluster.{Cluster}
@@ -36,21 +38,35 @@ judged_due q key h o kind fresh sees =
     ∙ ap (λ o. due_as q false o h) sees
 
 abbrev pub with_dues : Cluster → EvictQueue → Cluster
-with_dues c dues = record { alloc = c.alloc; cache = c.cache; mode = c.mode; unclean = c.unclean; dues = dues; moved = c.moved }
+with_dues c dues = record c { dues = dues }
+
+-- the rows are no part of it
+abbrev pub with_rows : Cluster → Rows → Cluster
+with_rows c rows = record c { rows = rows }
+
+pub rows_aside : (q : Identity) (h : List Entry) (nodes : ℕ → Bool) (pods : Key → Bool) (c : Cluster) (rows : Rows) → ClusterBut q h nodes pods c → ClusterBut q h nodes pods (with_rows c rows)
+rows_aside q h nodes pods c rows s = record { cache = s.cache; mode = s.mode; unclean = s.unclean; dues = s.dues; kinds = s.kinds }
 
 -- a pod's due was set
-pub due_set : (q : Identity) (h : List Entry) (nodes : ℕ → Bool) (pods : Key → Bool) (c : Cluster) (dues : EvictQueue) (pod : Key) (due : Due) → ClusterBut q h nodes pods c → due ≡ seen_due q pod h
+pub due_set : (q : Identity) (h : List Entry) (nodes : ℕ → Bool) (pods : Key → Bool) (c : Cluster) (dues : EvictQueue) (pod : Key) (due : Due) → ClusterBut q h nodes pods c → (c.evict_from ≡ Added → due ≡ seen_due q pod h)
     → ((key : Key) → due_in dues key ≡ cond (key_eq pod key) due (due_in c.dues key)) → ClusterBut q h nodes (but_pod pod pods) (with_dues c dues)
 due_set q h nodes pods c dues pod due s is set =
-    record { cache = s.cache; mode = s.mode; unclean = s.unclean; dues = λ key out. set key ∙ by_test key (key_eq pod key) refl out; kinds = s.kinds }
+    record { cache = s.cache; mode = s.mode; unclean = s.unclean; dues = λ key out added. set key ∙ by_test key added (key_eq pod key) refl out; kinds = s.kinds }
   where
     open_still : (b : Bool) → (b && true) ≡ false → b ≡ false
     open_still true is = absurd (false_is (sym is))
     open_still false is = refl
 
-    by_test : (key : Key) (b : Bool) → key_eq pod key ≡ b → (pods key && not b) ≡ false → cond b due (due_in c.dues key) ≡ seen_due q key h
-    by_test key true same out = is ∙ ap (λ k. seen_due q k h) (same_key pod key same)
-    by_test key false apart out = s.dues key (open_still (pods key) out)
+    by_test : (key : Key) → c.evict_from ≡ Added → (b : Bool) → key_eq pod key ≡ b → (pods key && not b) ≡ false → cond b due (due_in c.dues key) ≡ seen_due q key h
+    by_test key added true same out = is added ∙ ap (λ k. seen_due q k h) (same_key pod key same)
+    by_test key added false apart out = s.dues key (open_still (pods key) out) added
+
+-- where dues count from what is seen, it stands but for any pods
+pub seen_but : (q : Identity) (h : List Entry) (nodes : ℕ → Bool) (pods more : Key → Bool) (c : Cluster) → c.evict_from ≡ Seen → ClusterBut q h nodes pods c → ClusterBut q h nodes more c
+seen_but q h nodes pods more c is s = record { cache = s.cache; mode = s.mode; unclean = s.unclean; dues = λ key out added. absurd (differ (sym is ∙ added)); kinds = s.kinds }
+  where
+    differ : Seen ≡ Added → ⊥
+    differ is = cc
 
 -- ---- the pods of a list, the rest of which is still to be judged
 

@@ -1,10 +1,14 @@
--- For callers: other crates cite Aside, Judging, Takes, Telling, Viewing, Widen. Nothing else is cited from outside.
+-- For callers: other crates cite Aside, Counted, Judging, Settling, Sighted, Takes, Telling, Viewing, Widen. Nothing else is cited from outside.
 pub mod Answering
 pub mod Aside
 pub mod Closing
 pub mod Counted
 pub mod Judging
+pub mod Lasting
+mod Same
 pub mod SameTaints
+pub mod Settling
+pub mod Sighted
 pub mod Takes
 pub mod TakingDue
 pub mod Telling

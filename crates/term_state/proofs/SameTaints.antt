@@ -17,7 +17,7 @@ use Rattle.tick_laws.specs.Judged.{due_as, due_on, seen_due, shown}
 use Rattle.watch_cache.specs.Kept.{is_on, kept}
 use Rattle.watch_cache.specs.TaintChanges.{taints_in}
 
-abbrev node_taints : Option (Version × Node) → List Taint
+abbrev pub node_taints : Option (Version × Node) → List Taint
 node_taints None = []
 node_taints (Some x) = x.1.taints
 
@@ -30,7 +30,7 @@ seen_taints (Some x) = by_object x.object
     by_object (object.Lease lease) = refl
     by_object (object.Pod pod) = refl
 
-node_shown : (q : Identity) (name : ℕ) (h : List Entry) → node_taints (seen_node q name h) ≡ taints_in (shown q (node_key name) h)
+pub node_shown : (q : Identity) (name : ℕ) (h : List Entry) → node_taints (seen_node q name h) ≡ taints_in (shown q (node_key name) h)
 node_shown q name h = seen_taints (seen q (node_key name) h)
 
 due_of_taints : (pod : Pod) (o : Option (Version × Node)) → due_on pod o ≡ least_due (map (taint_due pod.tolerations) (node_taints o))

@@ -11,7 +11,7 @@ pub widen : (q : Identity) (h : List Entry) (nodes some_nodes : ℕ → Bool) (p
     → ((n : ℕ) → some_nodes n ≡ false → nodes n ≡ false) → ((key : Key) → some_pods key ≡ false → pods key ≡ false)
     → ClusterBut q h nodes pods c → ClusterBut q h some_nodes some_pods c
 widen q h nodes some_nodes pods some_pods c f g s =
-    record { cache = s.cache; mode = s.mode; unclean = λ n is. s.unclean n (f n is); dues = λ key is. s.dues key (g key is); kinds = s.kinds }
+    record { cache = s.cache; mode = s.mode; unclean = λ n is. s.unclean n (f n is); dues = λ key is added. s.dues key (g key is) added; kinds = s.kinds }
 
 pub and_not : (b : Bool) → (b && not b) ≡ false
 and_not true = refl

@@ -1,7 +1,9 @@
 pub mod ClusterStands
 pub mod Evictions
+pub mod Lasts
 pub mod MidTick
 pub mod Queues
+pub mod Sights
 pub mod Taking
 pub mod Tried
 pub mod Writes

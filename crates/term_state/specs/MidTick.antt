@@ -15,6 +15,7 @@ use Rattle.term_state.specs.declared.cluster.Cluster.{Cluster}
 use Rattle.term_state.specs.declared.told.Told.{Told}
 use Rattle.term_state.specs.declared.view.View.{View}
 use Rattle.term_state.specs.ClusterStands.{ClusterStands, has_moved}
+use Rattle.term_state.specs.Sights.{SightedBy}
 
 -- each node that waits otherwise than before the tick is among the moved ones
 abbrev pub IsMoved : Identity → ℕ → List Entry → Cluster → Type 0
@@ -36,9 +37,11 @@ pub record IsTold (q : Identity) (k : ℕ) (before : List Deed) (h : List Entry)
   pub beat : t.beat.0 ≡ k
   pub told : before ++ t.deeds ≡ printed h
 
--- within a tick, after its sync
-pub record MidTick (q : Identity) (k : ℕ) (before : List Deed) (h : List Entry) (c : Cluster) (s : Store) (t : Told) : Type 0 where
+-- within a tick, after its sync and before its deletes
+pub record MidTick (doc : Doc) (q : Identity) (k : ℕ) (before : List Deed) (h : List Entry) (c : Cluster) (s : Store) (t : Told) : Type 0 where
   pub cluster : ClusterStands q h c
+  pub from : c.evict_from ≡ doc.settings.rules.evict_from
+  pub sights : SightedBy doc.settings.rules.evict_from doc k q h c
   pub moved : IsMoved q k h c
   pub store : StoreStands h s
   pub told : IsTold q k before h t

@@ -1,6 +1,7 @@
 // The cluster as a term sees it.
 ghost use Rattle.std.specs.Prelude.{◌≡◌, ◌≤◌, ◌+◌, ℕ, Bool, true, false, List, IfOk};
 ghost use Rattle.kube_objects.specs.Answers.{as_kind, lease_in};
+ghost use Rattle.kube_objects.specs.Document.{Doc};
 ghost use Rattle.kube_objects.specs.Entry.{Entry, Identity};
 ghost use Rattle.kube_objects.specs.Modes as modes;
 ghost use Rattle.kube_objects.specs.Newest.{has};
@@ -9,17 +10,18 @@ ghost use Rattle.std.specs.List.Sorted.{IsStrictlySortedBy};
 ghost use Rattle.std.specs.Ordering.{nat_cmp};
 ghost use Rattle.tick_laws.specs.Judged as judged;
 
-use evict_queue::EvictQueue;
+use evict_queue::{EvictQueue, Rows};
 use kube_base::{NoMemory, Steps, Version};
-use kube_objects::{Key, Lease, Node, NumberList, Pod};
+use kube_objects::{EvictRule, Key, Lease, Node, NumberList, Pod};
 use std::alloc::Global;
 use std::collections::BTreeSet;
 use watch_cache::{Cache, ListFault, NotSynced};
 
 /// The cluster as a term sees it, and what follows from that: the nodes to untaint or swap, and when pods are due.
 ///
-/// `moved` has the nodes that may begin or end to wait for a taint since it was emptied last. After `NoMemory` of a call
-/// that changes it, a cluster may only be dropped.
+/// `moved` has the nodes that may begin or end to wait for a taint since it was emptied last. Where dues count from what is seen, `touched`
+/// has the pods of which a tick may see otherwise how long they bear their nodes' taints, until their rows are settled. After `NoMemory` of a
+/// call that changes it, a cluster may only be dropped.
 #[derive(Drop)]
 pub struct Cluster {
     pub(crate) alloc: Global,
@@ -28,18 +30,25 @@ pub struct Cluster {
     pub(crate) unclean: BTreeSet<u32>,
     pub(crate) dues: EvictQueue,
     pub(crate) moved: BTreeSet<u32>,
+    pub(crate) evict_from: EvictRule,
+    pub(crate) rows: Rows,
+    pub(crate) touched: BTreeSet<Key>,
 }
 
 impl Cluster {
     ghost use Rattle.kube_objects.specs.declared.key.Key.{Key};
     ghost use Rattle.watch_cache.specs.Stands.{ticks};
     ghost use Rattle.watch_cache.specs.Told.{AreNamed, found_pair};
-    ghost use Rattle.term_state.specs.ClusterStands.{ClusterBut, ClusterStands, has_moved};
+    ghost use Rattle.term_state.specs.ClusterStands.{ClusterBut, ClusterStands, has_moved, no_pod};
+    ghost use Rattle.term_state.specs.Sights.{SettledBy, touched_len};
 
     /// The cluster of a term that begins. It has had no sync. Takes no memory.
-    pub fn new(alloc: Global) -> Cluster
+    pub fn new(alloc: Global, evict_from: EvictRule) -> Cluster
         ensures stands { (q : Identity) (h : List Entry) → ticks q h ≡ 0 → ClusterStands q h result }
+        ensures sights { (doc : Doc) (q : Identity) (h : List Entry) → ticks q h ≡ 0 → SettledBy evict_from doc q h no_pod result }
         ensures moved { (n : ℕ) → has_moved result n ≡ false }
+        ensures from { result.evict_from ≡ evict_from }
+        ensures none { touched_len result ≡ 0 }
     {
         Cluster {
             alloc,
@@ -48,6 +57,9 @@ impl Cluster {
             unclean: BTreeSet::new(alloc),
             dues: EvictQueue::new(alloc),
             moved: BTreeSet::new(alloc),
+            evict_from,
+            rows: Rows::new(alloc),
+            touched: BTreeSet::new(alloc),
         }
     }
 

@@ -9,6 +9,7 @@ impl Cluster {
     ghost use Rattle.kube_objects.specs.declared.key.Key.{Key};
     ghost use Rattle.term_state.specs.ClusterStands.{ClusterBut, has_moved};
     ghost use Rattle.term_state.specs.Queues.{IsNextAfter};
+    ghost use Rattle.term_state.specs.Sights.{IsRetained, has_touched, touched_len};
 
     /// The first of the nodes that may begin or end to wait that comes after this one; none is before all.
     pub fn next_moved(&self, after: Option<u32>) -> Option<u32>
@@ -29,6 +30,9 @@ impl Cluster {
         ensures stands { (q : Identity) (h : List Entry) (nodes : ℕ → Bool) (pods : Key → Bool) → ClusterBut q h nodes pods self.old
             → ClusterBut q h nodes pods self.new }
         ensures moved { (n : ℕ) → has_moved self.new n ≡ false }
+        ensures retained { IsRetained self.old self.new }
+        ensures touched { (key : Key) → has_touched self.new key ≡ has_touched self.old key }
+        ensures untouched { touched_len self.new ≡ touched_len self.old }
     {
         self.moved.clear();
     }

@@ -1,10 +1,15 @@
 // What an own try changes, and the mode.
-ghost use Rattle.std.specs.Prelude.{◌≡◌, ◌≤◌, ◌+◌, ◌*◌, ◌==◌, ◌||◌, ℕ, Bool, true, false, List, Some, None, OnOk};
+ghost use Rattle.std.specs.Prelude.{◌≡◌, ◌≤◌, ◌+◌, ◌*◌, ◌==◌, ◌||◌, ℕ, Bool, true, false, List, Some, None, OnOk, if◌then◌else◌};
+ghost use Rattle.kube_objects.specs.Document.{Doc};
 ghost use Rattle.kube_objects.specs.Entry.{Entry, Identity};
+ghost use Rattle.kube_objects.specs.Keys.{key_eq};
 ghost use Rattle.kube_objects.specs.Newest.{has};
 ghost use Rattle.kube_objects.specs.Seen.{is_pod, is_synced, seen_node, seen_pod};
 ghost use Rattle.kube_objects.specs.Stored as stored_words;
 ghost use Rattle.kube_objects.specs.Tainting.{before_tick};
+ghost use Rattle.kube_objects.specs.declared.pod.Due.TheVariants.{Never};
+ghost use Rattle.evict_queue.specs.Queue.{due_in};
+ghost use Rattle.evict_queue.specs.Rows.{row_in};
 ghost use Rattle.tick_laws.specs.Changes.{IsChange, IsModeChange, gone, noted};
 ghost use Rattle.tick_laws.specs.Steps.{pods_on};
 ghost use Rattle.tick_laws.specs.ToJudge.{seen_taints};
@@ -21,9 +26,10 @@ impl Cluster {
     ghost use Rattle.kube_objects.specs.declared.key.Key.{Key};
     ghost use Rattle.term_state.specs.ClusterStands.{ClusterBut, ClusterStands, but_pod, has_moved, no_node, no_pod};
     ghost use Rattle.term_state.specs.MidTick.{IsMoved};
+    ghost use Rattle.term_state.specs.Sights.{IsRetained, SightedBy, has_touched, spent, touched_len};
 
-    /// The node is seen as it was written. It counts at most two steps for each pod on the node, and none where its taints are
-    /// as they were.
+    /// The node is seen as it was written. It counts at most two steps for each pod on the node, with those that settling their rows counts later,
+    /// and none where its taints are as they were.
     pub fn note_node<L>(
         &mut self,
         name: u32,
@@ -35,10 +41,15 @@ impl Cluster {
             → IsChange q h g (noted name version written) None → OnOk result (ClusterStands q g self.new) }
         ensures moved { (q : Identity) (k : ℕ) (h g : List Entry) → IsMoved q k h self.old → before_tick q k g ≡ before_tick q k h
             → IsChange q h g (noted name version written) None → OnOk result (IsMoved q k g self.new) }
+        ensures sights { (doc : Doc) (q : Identity) (k : ℕ) (h g : List Entry) → ClusterStands q h self.old → is_synced q h ≡ true
+            → IsChange q h g (noted name version written) None → before_tick q k g ≡ before_tick q k h → has (seen_node q name h) ≡ true
+            → SightedBy self.old.evict_from doc k q h self.old → OnOk result (SightedBy self.old.evict_from doc k q g self.new) }
+        ensures retained { OnOk result (IsRetained self.old self.new) }
         ensures counted { (q : Identity) (h g : List Entry) → ClusterStands q h self.old → is_synced q h ≡ true
-            → IsChange q h g (noted name version written) None → OnOk result (steps.new ≤ steps.old + 2 * pods_on q name g) }
+            → IsChange q h g (noted name version written) None
+            → OnOk result (spent self.new steps.new ≤ spent self.old steps.old + 2 * pods_on q name g) }
         ensures uncounted { (q : Identity) (h : List Entry) → ClusterStands q h self.old → seen_taints q name h ≡ written.taints
-            → OnOk result (steps.new ≡ steps.old) }
+            → OnOk result (spent self.new steps.new ≡ spent self.old steps.old) }
     {
         let taints = written.taints.as_slice();
         let has_new_taints = self.cache.has_other_taints(&node_key(name), taints);
@@ -59,6 +70,9 @@ impl Cluster {
             → taints_in (kept_in self.old.cache (stored_words.node_key name)) ≡ written.taints
             → OnOk result (ClusterBut q g (λ n. name == n) no_pod self.new) }
         ensures moved { (n : ℕ) → has_moved self.new n ≡ has_moved self.old n }
+        ensures retained { IsRetained self.old self.new }
+        ensures touched { (key : Key) → has_touched self.new key ≡ has_touched self.old key }
+        ensures untouched { touched_len self.new ≡ touched_len self.old }
     {
         let object = Object::Node(written);
         self.cache.note_own(node_key(name), Some((version, object)))
@@ -70,28 +84,42 @@ impl Cluster {
             → IsChange q h g None (Some (stored_words.node_key name)) → OnOk result (ClusterStands q g self.new) }
         ensures moved { (q : Identity) (k : ℕ) (h g : List Entry) → IsMoved q k h self.old → before_tick q k g ≡ before_tick q k h
             → IsChange q h g None (Some (stored_words.node_key name)) → OnOk result (IsMoved q k g self.new) }
+        ensures retained { IsRetained self.old self.new }
+        ensures touched { (key : Key) → has_touched self.new key ≡ has_touched self.old key }
+        ensures untouched { touched_len self.new ≡ touched_len self.old }
     {
         self.cache.set_stale(node_key(name))?;
         self.unclean.remove(&name);
         Ok(())
     }
 
-    /// The pod is no longer seen, and due never.
+    /// The pod is no longer seen, and due never; its row ends.
     pub fn note_delete(&mut self, pod: Key) -> Result<(), NoMemory>
         ensures stands { (q : Identity) (h g : List Entry) (pods : Key → Bool) → ClusterBut q h no_node pods self.old
             → IsChange q h g (gone pod) None → is_pod pod.kind ≡ true → OnOk result (ClusterBut q g no_node (but_pod pod pods) self.new) }
         ensures moved { (n : ℕ) → has_moved self.new n ≡ has_moved self.old n }
+        ensures from { self.new.evict_from ≡ self.old.evict_from }
+        ensures rows { OnOk result ((p : Key) → row_in self.new.rows p ≡ (if key_eq pod p then None else row_in self.old.rows p)) }
+        ensures dues { OnOk result ((p : Key) → due_in self.new.dues p ≡ (if key_eq pod p then Never else due_in self.old.dues p)) }
+        ensures touched { (p : Key) → has_touched self.new p ≡ has_touched self.old p }
+        ensures untouched { touched_len self.new ≡ touched_len self.old }
     {
         self.cache.note_own(pod, None)?;
         self.dues.cancel(&pod);
+        self.rows.end(&pod);
         Ok(())
     }
 
-    /// The pod is stale until the next sync, and due never.
+    /// The pod is stale until the next sync, and due never until then. Its row goes on.
     pub fn refuse_pod(&mut self, pod: Key) -> Result<(), NoMemory>
         ensures stands { (q : Identity) (h g : List Entry) (pods : Key → Bool) → ClusterBut q h no_node pods self.old
             → IsChange q h g None (Some pod) → is_pod pod.kind ≡ true → OnOk result (ClusterBut q g no_node (but_pod pod pods) self.new) }
         ensures moved { (n : ℕ) → has_moved self.new n ≡ has_moved self.old n }
+        ensures from { self.new.evict_from ≡ self.old.evict_from }
+        ensures rows { (p : Key) → row_in self.new.rows p ≡ row_in self.old.rows p }
+        ensures dues { OnOk result ((p : Key) → due_in self.new.dues p ≡ (if key_eq pod p then Never else due_in self.old.dues p)) }
+        ensures touched { (p : Key) → has_touched self.new p ≡ has_touched self.old p }
+        ensures untouched { touched_len self.new ≡ touched_len self.old }
     {
         self.cache.set_stale(pod)?;
         self.dues.cancel(&pod);
@@ -105,6 +133,11 @@ impl Cluster {
         ensures moved { (q : Identity) (k : ℕ) (h g : List Entry) → ClusterStands q h self.old → is_synced q h ≡ true
             → IsMoved q k h self.old → before_tick q k g ≡ before_tick q k h → IsModeChange q h g on
             → OnOk result (IsMoved q k g self.new) }
+        ensures sights { (doc : Doc) (q : Identity) (k : ℕ) (h g : List Entry) → IsModeChange q h g on
+            → before_tick q k g ≡ before_tick q k h → SightedBy self.old.evict_from doc k q h self.old
+            → OnOk result (SightedBy self.old.evict_from doc k q g self.new) }
+        ensures retained { OnOk result (IsRetained self.old self.new) }
+        ensures untouched { OnOk result (touched_len self.new ≡ touched_len self.old) }
     {
         self.mode = on;
         self.judge_nodes()
@@ -117,6 +150,9 @@ impl Cluster {
             → OnOk result (ClusterStands q h self.new) }
         ensures moved { (q : Identity) (h : List Entry) → ClusterBut q h (λ n. has (seen_node q n h)) no_pod self.old → is_synced q h ≡ true
             → OnOk result ((n : ℕ) → has_moved self.new n ≡ (has (seen_node q n h) || has_moved self.old n)) }
+        ensures retained { OnOk result (IsRetained self.old self.new) }
+        ensures touched { OnOk result ((key : Key) → has_touched self.new key ≡ has_touched self.old key) }
+        ensures untouched { OnOk result (touched_len self.new ≡ touched_len self.old) }
     {
         let names = self.nodes()?;
         let mut rest = names.as_slice();

@@ -89,3 +89,26 @@ pub fn try_delete(
         Err(NoMemory) => Err(NoMemory),
     }
 }
+
+/// Tries to delete a pod by its version alone. None where the try is lost, which is where requests don't pass.
+pub fn try_delete_alone(
+    store: &mut Store,
+    passes: bool,
+    pod: Key,
+    given: Version,
+) -> Result<Option<Answer>, NoMemory>
+    ensures answer { (q : Identity) (h : List Entry) → StoreStands h store.old → passes ≡ not (loses_requests q.process h)
+        → IfOk result (λ answer. answer ≡ spec.try_delete_alone q pod given h) }
+    ensures stands { (q : Identity) (k : ℕ) (h : List Entry) (tick : Tick) → StoreStands h store.old
+        → passes ≡ not (loses_requests q.process h)
+        → tick_write tick ≡ try_write (pod, None) (spec.try_delete_alone q pod given h)
+        → OnOk result (StoreStands (add k q tick h) store.new) }
+{
+    if !passes {
+        return Ok(None);
+    }
+    match answer(store.delete_pod_alone(pod, given)) {
+        Ok(answer) => Ok(Some(answer)),
+        Err(NoMemory) => Err(NoMemory),
+    }
+}

@@ -3,8 +3,8 @@ ghost use Rattle.std.specs.Prelude.{◌≡◌, ◌≤◌, ◌+◌, not, ℕ, tru
 ghost use Rattle.history.specs.Printed.{map_answer, tick_act};
 ghost use Rattle.kube_objects.specs.Document.{Doc};
 ghost use Rattle.kube_objects.specs.Entry.{Entry, Identity, Tick};
-ghost use Rattle.kube_objects.specs.Newest.{only_if};
-ghost use Rattle.kube_objects.specs.Seen.{is_synced};
+ghost use Rattle.kube_objects.specs.Newest.{has, only_if};
+ghost use Rattle.kube_objects.specs.Seen.{is_synced, seen_node};
 ghost use Rattle.kube_objects.specs.Stored as stored_words;
 ghost use Rattle.kube_objects.specs.Stored.{node_write};
 ghost use Rattle.kube_objects.specs.Tainting.{before_tick};
@@ -16,6 +16,7 @@ ghost use Rattle.object_store.specs.Stands.{StoreStands};
 ghost use Rattle.tick_laws.specs.Changes.{IsChange, noted_by};
 ghost use Rattle.tick_laws.specs.Steps.{own_cost, tick_cost};
 ghost use Rattle.term_state.specs.MidTick.{IsTold, IsView, MidTick};
+ghost use Rattle.term_state.specs.Sights.{SightedBy, spent};
 ghost use Rattle.term_state.specs.Writes.{IsWrite, act_for, makes_stale, stale_by};
 
 use crate::tries::try_node;
@@ -75,6 +76,8 @@ fn tell(
 impl Cluster {
     ghost use Rattle.term_state.specs.ClusterStands.{ClusterStands};
     ghost use Rattle.term_state.specs.MidTick.{IsMoved};
+    ghost use Rattle.kube_objects.specs.declared.key.Key.{Key};
+    ghost use Rattle.term_state.specs.Sights.{IsRetained, has_touched, touched_len};
 
     // What an answer leaves: an accepted write is seen, and a lost one changes nothing.
     fn note_answer<L>(
@@ -89,9 +92,15 @@ impl Cluster {
             → is_synced q h ≡ true → before_tick q k g ≡ before_tick q k h
             → IsChange q h g (noted_by name written answer) (stale_by write name answer)
             → OnOk result (ClusterStands q g self.new × IsMoved q k g self.new) }
+        ensures sights { (doc : Doc) (q : Identity) (k : ℕ) (h g : List Entry) → ClusterStands q h self.old → is_synced q h ≡ true
+            → before_tick q k g ≡ before_tick q k h → IsChange q h g (noted_by name written answer) (stale_by write name answer)
+            → has (seen_node q name h) ≡ true → SightedBy self.old.evict_from doc k q h self.old
+            → OnOk result (SightedBy self.old.evict_from doc k q g self.new) }
+        ensures retained { OnOk result (IsRetained self.old self.new) }
         ensures counted { (q : Identity) (h g : List Entry) → ClusterStands q h self.old → is_synced q h ≡ true
             → IsChange q h g (noted_by name written answer) (stale_by write name answer)
-            → OnOk result (steps.new ≤ steps.old + own_cost q h g (stored_words.try_write (node_write name written) answer)) }
+            → OnOk result (spent self.new steps.new
+            ≤ spent self.old steps.old + own_cost q h g (stored_words.try_write (node_write name written) answer)) }
     {
         let Some(answer) = answer else {
             return Ok(());
@@ -104,9 +113,12 @@ impl Cluster {
 
     // What a refusal leaves.
     fn note_refusal(&mut self, name: u32, stale: bool) -> Result<(), NoMemory>
-        ensures { (q : Identity) (k : ℕ) (h g : List Entry) → ClusterStands q h self.old → IsMoved q k h self.old
+        ensures stands { (q : Identity) (k : ℕ) (h g : List Entry) → ClusterStands q h self.old → IsMoved q k h self.old
             → before_tick q k g ≡ before_tick q k h → IsChange q h g None (only_if stale (Some (stored_words.node_key name)))
             → OnOk result (ClusterStands q g self.new × IsMoved q k g self.new) }
+        ensures retained { IsRetained self.old self.new }
+        ensures touched { (key : Key) → has_touched self.new key ≡ has_touched self.old key }
+        ensures untouched { touched_len self.new ≡ touched_len self.old }
     {
         if stale {
             return self.refuse_node(name);
@@ -119,7 +131,8 @@ impl Cluster {
 /// which is where requests don't pass.
 ///
 /// What is answered is told, and an accepted write is seen. A refused untaint or swap makes the node stale until the next
-/// sync. It counts at most two steps for each pod on the node, and none where its taints are as they were seen.
+/// sync. It counts at most two steps for each pod on the node, with those that settling its row counts later, and none where its taints are as
+/// they were seen.
 pub fn try_write<L>(
     cluster: &mut Cluster,
     store: &mut Store,
@@ -134,13 +147,13 @@ pub fn try_write<L>(
     ensures answer { (q : Identity) (h : List Entry) → StoreStands h store.old → view.entry.now.passes ≡ not (loses_requests q.process h)
         → IfOk result (λ answer. answer ≡ tries.try_node q name given h) }
     ensures stands { (doc : Doc) (k : ℕ) (q : Identity) (before : List Deed) (h : List Entry) (tick : Tick)
-        → MidTick q k before h cluster.old store.old told.old → IsView doc k q h view.entry.now
-        → IsWrite write name written (tries.try_node q name given h) tick
-        → OnOk result (MidTick q k before (add k q tick h) cluster.new store.new told.new) }
+        → MidTick doc q k before h cluster.old store.old told.old → IsView doc k q h view.entry.now
+        → IsWrite write name written (tries.try_node q name given h) tick → has (seen_node q name h) ≡ true
+        → OnOk result (MidTick doc q k before (add k q tick h) cluster.new store.new told.new) }
     ensures counted { (doc : Doc) (k : ℕ) (q : Identity) (before : List Deed) (h : List Entry) (tick : Tick)
-        → MidTick q k before h cluster.old store.old told.old → IsView doc k q h view.entry.now
+        → MidTick doc q k before h cluster.old store.old told.old → IsView doc k q h view.entry.now
         → IsWrite write name written (tries.try_node q name given h) tick
-        → OnOk result (steps.new + tick_cost q k h ≤ steps.old + tick_cost q k (add k q tick h)) }
+        → OnOk result (spent cluster.new steps.new + tick_cost q k h ≤ spent cluster.old steps.old + tick_cost q k (add k q tick h)) }
 {
     let answer = try_node(store, view.passes, name, given, &written)?;
     tell(told, name, write, answer)?;

@@ -1,4 +1,4 @@
--- For callers: other crates cite Cleaning, Evicting, Foreign, Frames, Heads, Marking, Named, Orders, Phases, Quiet, Steps, Syncing, Tainting, Ticked,
+-- For callers: other crates cite Cleaning, Evicting, Foreign, Frames, Heads, Marking, Named, Orders, Phases, Quiet, Sights, Steps, Syncing, Tainting, Ticked,
 --   ToJudge, Tried, Waiting, Walks, Zoning. Nothing else is cited from outside.
 -- The lemmas in layers: a file stands on those of the layers above its own in this list, and on those before it in its layer.
 -- ---- layer 1: orders, walks, and what an entry changes
@@ -20,10 +20,12 @@ pub mod Reached
 pub mod Zoning
 pub mod Ticked
 pub mod Steps
+pub mod Room
 pub mod Waiting
 -- ---- layer 5: entries that are no tick's, and the phase of queued taints
 pub mod Foreign
 pub mod Tainting
 -- ---- layer 6: the whole tick
 pub mod Phases
+pub mod Sights
 pub mod Quiet

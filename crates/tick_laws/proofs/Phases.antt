@@ -1,5 +1,5 @@
 -- Which entries each phase of a tick adds, and what a phase leaves as it was.
-use Rattle.std.proofs.Common.{◌≡◌, ◌∙◌, ℕ, ◌&&◌, not, Bool, true, false, List, [], ◌∷◌, Option, Some, None, refl, sym, ap, subst, ◌||◌}
+use Rattle.std.proofs.Common.{◌≡◌, ◌∙◌, ℕ, ◌+◌, ◌==◌, ◌&&◌, not, Bool, true, false, List, [], ◌∷◌, Option, Some, None, refl, sym, ap, subst, ◌||◌}
 use Rattle.std.specs.Prelude.{if◌then◌else◌}
 use Rattle.std.specs.List.{list_any}
 use Rattle.kube_base.specs.declared.numbers.Version.{Version}
@@ -8,30 +8,32 @@ use Rattle.kube_objects.specs.declared.deed.Actor.{Actor}
 use Rattle.kube_objects.specs.declared.key.Key.{Key}
 use Rattle.kube_objects.specs.declared.node.Node.{Node}
 use Rattle.kube_objects.specs.declared.node.ZoneState.{ZoneState}
-use Rattle.kube_objects.specs.Document.{Doc}
+use Rattle.kube_objects.specs.declared.rules.EvictRule.{EvictRule}
+use Rattle.kube_objects.specs.declared.rules.EvictRule.TheVariants.{Added, Seen}
+use Rattle.kube_objects.specs.Document.{Doc, of_millis}
 use Rattle.kube_objects.specs.Entry.{Entry, Identity, Place, Fact, Ticks, Tick, Sync, Pass, Mark, Mode, Zone, Untaint, Swap, Head, Delete, Skip}
-use Rattle.kube_objects.specs.Health.{is_pass_due, mark_of, last_pass, pass_says}
+use Rattle.kube_objects.specs.Health.{and_name, at_pass, is_pass, is_pass_due, mark_of, last_pass, marked_name, marked_since, pass_period, pass_says, pods_to_write, work_of}
 use Rattle.kube_objects.specs.InForce.{watches}
 use Rattle.kube_objects.specs.Modes.{nodes, places, place_eq, state_in, rate_in, all_full, mode}
-use Rattle.kube_objects.specs.Newest.{newest, when, only_if, join, or_zero}
+use Rattle.kube_objects.specs.Newest.{newest, when, only_if, join, or_else, or_zero}
 use Rattle.kube_objects.specs.Identities.{is_by}
-use Rattle.kube_objects.specs.Seen.{seen_node, is_fresh, is_stale, is_refused, node_names, pod_keys}
+use Rattle.kube_objects.specs.Seen.{is_accepted, seen_node, is_fresh, is_stale, is_refused, is_pod, node_names}
 use Rattle.kube_objects.specs.Stored.{node_key}
 use Rattle.kube_objects.specs.Tainting.{Wants, Nothing, Wanted, Whatever, wants, has_condition, is_opposite}
 use Rattle.kube_objects.specs.Tick.{add, for_each, has_settled, is_stripped, sync, mark_as, mark_seen, mark, is_same_mode, mode_as, set_mode, zone_as, zone, set_zones, marks, pass, clean_as, clean_seen, clean, cleaned, taint, tainted, evict, evicted, tick, whole_pass, add_untaint, add_swap}
 use Rattle.kube_objects.specs.Tokens.{is_zone, rated_says, rated, is_rated, has_rate, is_base, base}
 use Rattle.kube_objects.specs.Tries.{try_node}
 use Rattle.kube_objects.specs.Own.{IsOwn}
-use Rattle.kube_objects.proofs.Own.{cleaned-own, tainted-own, evicted-own}
+use Rattle.kube_objects.proofs.Own.{cleaned-own, tainted-own}
 use Rattle.history_laws.proofs.Plainly.{false_is, true_is, none_is, some_is}
-use Rattle.history_laws.proofs.Ticks.{IsDelete, IsDeleteBy, MadeTick, Each, IsPodKey, pods_only, evict_step, walk_sync, walk_pass, walk_cleaned, walk_tainted, walk_evicted, walk_tick}
+use Rattle.history_laws.proofs.Ticks.{IsDeleteBy, MadeTick, IsPodKey, evict_step, evicted_each, walk_sync, walk_pass, walk_cleaned, walk_tainted, walk_evicted, walk_tick}
 use Rattle.tick_laws.specs.Judged.{waits_since}
 use Rattle.tick_laws.specs.Rows.{no_heads, IsFresh}
 use Rattle.tick_laws.specs.Since.{IsReached, AreReached}
 use Rattle.watch_cache.proofs.Frames.{upper}
 use Rattle.watch_cache.specs.Stands.{is_tick_by}
 use Rattle.tick_laws.proofs.Foreign.{foreign_change}
-use Rattle.tick_laws.proofs.Reached.{own_reached, sync_reached, refused_node_reached, refused_pod_reached}
+use Rattle.tick_laws.proofs.Reached.{own_reached, sync_reached, refused_node_reached, refused_pod_reached, refused_alone_reached}
 use Rattle.tick_laws.proofs.Tainting.{heading, taint_either}
 use Rattle.tick_laws.proofs.Waiting.{no_heads_more, delete_key, fresh_same}
 
@@ -151,24 +153,23 @@ module _ (doc : Doc) (k : ℕ) (q : Identity) (P : List Entry → Type 0) where
     pub tainted_keeps : IsOwn doc → (h : List Entry) → P h → P (tainted doc k q h)
     tainted_keeps own h p = subst P (sym (tainted-own doc own k q h)) (every (taint doc k q) P taint_step (places (nodes q h)) h p)
 
-  module _ (more : (pod : Key) (given node_given : Version) (at : ℕ) (a : Option Answer) (h : List Entry) → IsDelete doc k q pod given node_given at a h → P h → P (add k q (Delete pod given node_given at a) h)) where
-    pub evict_keeps : IsOwn doc → (pod : Key) (h : List Entry) → IsPodKey pod → P h → P (evict doc k q pod h)
-    evict_keeps own pod h kind p =
-        evict_step doc k q P pod h kind p
-        (λ given node_given at a made. more pod given node_given at a h (subst (λ r. IsDeleteBy r doc k q pod given node_given at a h) (ap (λ r. r.evict_from) own.rules) made) p)
+  module _ (more : (pod : Key) (given node_given : Version) (at : ℕ) (a : Option Answer) (h : List Entry) → is_pod pod.kind ≡ true → P h → P (add k q (Delete pod given node_given at a) h)) where
+    pub evict_keeps : (pod : Key) (h : List Entry) → IsPodKey pod → P h → P (evict doc k q pod h)
+    evict_keeps pod h kind p = evict_step doc k q P pod h kind p (λ given node_given at a made. more pod given node_given at a h kind p)
 
-    pub evicted_keeps : IsOwn doc → (h : List Entry) → P h → P (evicted doc k q h)
-    evicted_keeps own h p = subst P (sym (evicted-own doc own k q h)) (each (pod_keys h) h (pods_only h) p)
-      where
-        each : (keys : List Key) (h : List Entry) → Each IsPodKey keys → P h → P (for_each (evict doc k q) keys h)
-        each [] h all p = p
-        each (key ∷ keys) h all p = each keys (evict doc k q key h) all.1 (evict_keeps own key h all.0 p)
+    pub evicted_keeps : (h : List Entry) → P h → P (evicted doc k q h)
+    evicted_keeps h p = evicted_each doc k q P evict_keeps h p
 
 -- ---- what an entry leaves that is of another kind
 
 pub pass_kept : (q : Identity) (k : ℕ) (h : List Entry) (t : Tick) → is_passing t ≡ false → last_pass q (add k q t h) ≡ last_pass q h
 pass_kept q k h Pass is = absurd (true_is is)
 pass_kept q k h t is = refl
+
+pub period_kept : (doc : Doc) (q : Identity) (k : ℕ) (h : List Entry) (t : Tick) → is_passing t ≡ false → pass_period doc q (add k q t h) ≡ pass_period doc q h
+period_kept doc q k h Pass is = absurd (true_is is)
+period_kept doc q k h (Mark name given written a) is = absurd (true_is is)
+period_kept doc q k h t is = refl
 
 pub rated_kept : (q : Identity) (k : ℕ) (h : List Entry) (t : Tick) → is_passing t ≡ false → (place : Place) → rated q place (add k q t h) ≡ rated q place h
 rated_kept q k h Pass is place = absurd (true_is is)
@@ -193,17 +194,19 @@ heads_kept q k h t is none = no_heads_more q k h t refl none
 
 pub record KeepsLimits (q : Identity) (h g : List Entry) : Type 0 where
   pub passed : last_pass q g ≡ last_pass q h
+  pub period : (doc : Doc) → pass_period doc q g ≡ pass_period doc q h
   pub rated : (place : Place) → rated q place g ≡ rated q place h
   pub base : (place : Place) → base q place g ≡ base q place h
   pub mode : mode q g ≡ mode q h
 
 limits_same : (q : Identity) (h : List Entry) → KeepsLimits q h h
-limits_same q h = record { passed = refl; rated = λ place. refl; base = λ place. refl; mode = refl }
+limits_same q h = record { passed = refl; period = λ doc. refl; rated = λ place. refl; base = λ place. refl; mode = refl }
 
 limits_more : (q : Identity) (k : ℕ) (h g : List Entry) (t : Tick) → is_passing t ≡ false → is_heading t ≡ false → KeepsLimits q h g → KeepsLimits q h (add k q t g)
 limits_more q k h g t unpassing unheading s =
     record {
       passed = pass_kept q k g t unpassing ∙ s.passed;
+      period = λ doc. period_kept doc q k g t unpassing ∙ s.period doc;
       rated = λ place. rated_kept q k g t unpassing place ∙ s.rated place;
       base = λ place. base_kept q k g t unpassing unheading place ∙ s.base place;
       mode = mode_kept q k g t unpassing ∙ s.mode;
@@ -233,11 +236,14 @@ module _ (doc : Doc) (own : IsOwn doc) (k : ℕ) (q : Identity) (h : List Entry)
       cleaned_keeps doc k q (KeepsLimits q h) (λ t g is made s. limits_more q k h g t (cleaning_alone t is).0 (cleaning_alone t is).1 s) own h (limits_same q h)
 
   pub evicted_limits : KeepsLimits q h (evicted doc k q h)
-  evicted_limits = evicted_keeps doc k q (KeepsLimits q h) (λ pod given node_given at a g made s. limits_more q k h g (Delete pod given node_given at a) refl refl s) own h (limits_same q h)
+  evicted_limits = evicted_keeps doc k q (KeepsLimits q h) (λ pod given node_given at a g made s. limits_more q k h g (Delete pod given node_given at a) refl refl s) h (limits_same q h)
 
   -- queued taints take tokens, and leave the rest of this
   pub tainted_passed : last_pass q (tainted doc k q h) ≡ last_pass q h
   tainted_passed = tainted_keeps doc k q (λ g. last_pass q g ≡ last_pass q h) (λ t g is made s. pass_kept q k g t (heading_alone t is) ∙ s) own h refl
+
+  pub tainted_period : pass_period doc q (tainted doc k q h) ≡ pass_period doc q h
+  tainted_period = tainted_keeps doc k q (λ g. pass_period doc q g ≡ pass_period doc q h) (λ t g is made s. period_kept doc q k g t (heading_alone t is) ∙ s) own h refl
 
   pub tainted_rated : (place : Place) → rated q place (tainted doc k q h) ≡ rated q place h
   tainted_rated place = tainted_keeps doc k q (λ g. rated q place g ≡ rated q place h) (λ t g is made s. rated_kept q k g t (heading_alone t is) place ∙ s) own h refl
@@ -262,53 +268,56 @@ module _ (doc : Doc) (own : IsOwn doc) (k : ℕ) (q : Identity) (h : List Entry)
       → (place : Place) (name : ℕ) → (waits_since q place name (evicted doc k q h) ≡ waits_since q place name h) × IsFresh q k place name (evicted doc k q h)
   evicted_since fresh place name =
       evicted_keeps doc k q (λ g. (waits_since q place name g ≡ waits_since q place name h) × IsFresh q k place name g)
-      (λ pod given node_given at a g made s. (
-        delete_key q k place name pod given node_given at a g made.kind s.1 ∙ s.0,
-        fresh_same q k place name (Delete pod given node_given at a) g (delete_key q k place name pod given node_given at a g made.kind s.1) s.1,
+      (λ pod given node_given at a g kind s. (
+        delete_key q k place name pod given node_given at a g kind s.1 ∙ s.0,
+        fresh_same q k place name (Delete pod given node_given at a) g (delete_key q k place name pod given node_given at a g kind s.1) s.1,
       ))
-      own h (refl, fresh place name)
+      h (refl, fresh place name)
 
 -- ---- stale keys are reached, through each phase
 
-made_reached : (doc : Doc) → IsOwn doc → (k : ℕ) (q : Identity) (t : Tick) (h : List Entry) → MadeTick doc k q t h → AreReached q h → AreReached q (add k q t h)
-made_reached doc own k q Sync h made old = sync_reached q k h
-made_reached doc own k q (Untaint name given written a) h made old = own_reached q k h (Untaint name given written a) refl old (λ key is. by_test key (is_refused a) refl is)
+refused_reached : (rule : EvictRule) (doc : Doc) (k : ℕ) (q : Identity) (pod : Key) (given node_given : Version) (at : ℕ) (a : Option Answer) (h : List Entry) → IsDeleteBy rule doc k q pod given node_given at a h → is_refused a ≡ true
+    → IsReached q h pod
+refused_reached Added doc k q pod given node_given at a h d refused = refused_pod_reached q pod h (given, d.x) (node_given, d.y) d.sees d.sees_node (ap is_refused (sym d.is) ∙ refused)
+refused_reached Seen doc k q pod given node_given at a h d refused = refused_alone_reached q pod h (given, d.x) d.sees (ap is_refused (sym d.is) ∙ refused)
+
+made_reached : (doc : Doc) (k : ℕ) (q : Identity) (t : Tick) (h : List Entry) → MadeTick doc k q t h → AreReached q h → AreReached q (add k q t h)
+made_reached doc k q Sync h made old = sync_reached q k h
+made_reached doc k q (Untaint name given written a) h made old = own_reached q k h (Untaint name given written a) refl old (λ key is. by_test key (is_refused a) refl is)
   where
     by_test : (key : Key) (b : Bool) → is_refused a ≡ b → when b (node_key name) ≡ Some key → IsReached q h key
     by_test key false refused is = absurd (none_is key is)
     by_test key true refused is = subst (IsReached q h) (some_is (node_key name) key is) (refused_node_reached q name h (given, made.0) made.1 (ap is_refused (sym made.2) ∙ refused))
-made_reached doc own k q (Swap name wanted given written a) h made old = own_reached q k h (Swap name wanted given written a) refl old (λ key is. by_test key (is_refused a) refl is)
+made_reached doc k q (Swap name wanted given written a) h made old = own_reached q k h (Swap name wanted given written a) refl old (λ key is. by_test key (is_refused a) refl is)
   where
     by_test : (key : Key) (b : Bool) → is_refused a ≡ b → when b (node_key name) ≡ Some key → IsReached q h key
     by_test key false refused is = absurd (none_is key is)
     by_test key true refused is = subst (IsReached q h) (some_is (node_key name) key is) (refused_node_reached q name h (given, made.0) made.1 (ap is_refused (sym made.2) ∙ refused))
-made_reached doc own k q (Delete pod given node_given at a) h made old = own_reached q k h (Delete pod given node_given at a) refl old (λ key is. by_test key (is_refused a) refl is)
+made_reached doc k q (Delete pod given node_given at a) h made old = own_reached q k h (Delete pod given node_given at a) refl old (λ key is. by_test key (is_refused a) refl is)
   where
     by_test : (key : Key) (b : Bool) → is_refused a ≡ b → when b pod ≡ Some key → IsReached q h key
     by_test key false refused is = absurd (none_is key is)
-    by_test key true refused is =
-        let d : IsDelete doc k q pod given node_given at a h = subst (λ r. IsDeleteBy r doc k q pod given node_given at a h) (ap (λ r. r.evict_from) own.rules) made in
-        subst (IsReached q h) (some_is pod key is) (refused_pod_reached q pod h (given, d.x) (node_given, d.y) d.sees d.sees_node (ap is_refused (sym d.is) ∙ refused))
-made_reached doc own k q t h made old = own_reached q k h t refl old (λ key is. absurd (none_is key is))
+    by_test key true refused is = subst (IsReached q h) (some_is pod key is) (refused_reached doc.settings.rules.evict_from doc k q pod given node_given at a h made.0 refused)
+made_reached doc k q t h made old = own_reached q k h t refl old (λ key is. absurd (none_is key is))
 
-module _ (doc : Doc) (own : IsOwn doc) (k : ℕ) (q : Identity) (h : List Entry) (old : AreReached q h) where
+module _ (doc : Doc) (k : ℕ) (q : Identity) (h : List Entry) (old : AreReached q h) where
   pub reached_after_sync : AreReached q (sync doc k q h)
-  reached_after_sync = walk_sync doc k q (AreReached q) (made_reached doc own k q) h old
+  reached_after_sync = walk_sync doc k q (AreReached q) (made_reached doc k q) h old
 
   pub reached_after_pass : AreReached q (pass doc k q h)
-  reached_after_pass = walk_pass doc k q (AreReached q) (made_reached doc own k q) h old
+  reached_after_pass = walk_pass doc k q (AreReached q) (made_reached doc k q) h old
 
   pub reached_after_cleaned : AreReached q (cleaned doc k q h)
-  reached_after_cleaned = walk_cleaned doc k q (AreReached q) (made_reached doc own k q) h old
+  reached_after_cleaned = walk_cleaned doc k q (AreReached q) (made_reached doc k q) h old
 
   pub reached_after_tainted : AreReached q (tainted doc k q h)
-  reached_after_tainted = walk_tainted doc k q (AreReached q) (made_reached doc own k q) h old
+  reached_after_tainted = walk_tainted doc k q (AreReached q) (made_reached doc k q) h old
 
   pub reached_after_evicted : AreReached q (evicted doc k q h)
-  reached_after_evicted = walk_evicted doc k q (AreReached q) (made_reached doc own k q) h old
+  reached_after_evicted = walk_evicted doc k q (AreReached q) (made_reached doc k q) h old
 
   pub reached_after_tick : AreReached q (tick doc k q h)
-  reached_after_tick = walk_tick doc k q (AreReached q) (made_reached doc own k q) h old
+  reached_after_tick = walk_tick doc k q (AreReached q) (made_reached doc k q) h old
 
 -- ---- an entry that is no own entry of a tick
 
@@ -316,6 +325,12 @@ pub foreign_limits : (q : Identity) (h : List Entry) (e : Entry) → is_tick_by 
 foreign_limits q h e other =
     record {
       passed = ap (λ o. upper o (last_pass q h)) (by_pass e.actor e.fact other);
+      period = λ doc. ap (λ x.
+          elim (doc.settings.rules.ready_millis == 0) [
+            | true ↦ of_millis doc.settings.monitor_period_millis
+            | false ↦ of_millis doc.settings.monitor_period_millis
+                + work_of doc.settings.rules.ready_millis doc.settings.rules.ready_burst (pods_to_write q x.0 x.1)
+          ]) (pair_is (by_marked e.actor e.fact other) (ap (λ o. or_else [] (upper o (newest (λ e T. at_pass q (λ T. Some T) e.actor e.fact T) h))) (by_before e.actor e.fact other)));
       rated = λ place. ap (λ o. join (upper o (newest (λ e T. rated_says q place e.actor e.fact T) h))) (by_rated place e.actor e.fact other);
       base = λ place. ap (λ b. or_zero (upper (when b e.beat) (newest (λ e T. when (is_base q place e.actor e.fact T) e.beat) h))) (by_base place e.actor e.fact other);
       mode = (foreign_change q h e other).mode;
@@ -332,6 +347,26 @@ foreign_limits q h e other =
     by_pass : (who : Actor) (d : Fact) → is_tick_by q who d ≡ false → pass_says q e.beat who d ≡ None
     by_pass who (Ticks t) is = pass_tick who t is
     by_pass who d is = refl
+
+    pair_is : {a b : List ℕ} {f g : List Entry} → a ≡ b → f ≡ g → ◌≡◌ {A = List ℕ × List Entry} (a, f) (b, g)
+    pair_is one two = cc
+
+    marked_tick : (who : Actor) (t : Tick) → is_by q who ≡ false → (elim (is_pass q who (Ticks t)) [ true ↦ [] | false ↦ and_name (marked_name q who (Ticks t)) (marked_since q h) ]) ≡ marked_since q h
+    marked_tick who Pass is = ap (λ b. elim b [ true ↦ [] | false ↦ marked_since q h ]) is
+    marked_tick who (Mark node given written tried) is = ap (λ b. and_name (when (b && is_accepted tried) node) (marked_since q h)) is
+    marked_tick who t is = refl
+
+    by_marked : (who : Actor) (d : Fact) → is_tick_by q who d ≡ false → (elim (is_pass q who d) [ true ↦ [] | false ↦ and_name (marked_name q who d) (marked_since q h) ]) ≡ marked_since q h
+    by_marked who (Ticks t) is = marked_tick who t is
+    by_marked who d is = refl
+
+    before_tick_of : (who : Actor) (t : Tick) → is_by q who ≡ false → at_pass q (λ T. Some T) who (Ticks t) h ≡ None
+    before_tick_of who Pass is = ap (λ b. only_if b (Some h)) is
+    before_tick_of who t is = refl
+
+    by_before : (who : Actor) (d : Fact) → is_tick_by q who d ≡ false → at_pass q (λ T. Some T) who d h ≡ None
+    by_before who (Ticks t) is = before_tick_of who t is
+    by_before who d is = refl
 
     rated_tick : (place : Place) (who : Actor) (t : Tick) → is_by q who ≡ false → rated_says q place who (Ticks t) h ≡ None
     rated_tick place who Pass is = ap (λ b. only_if b (when (not (is_zone q place h)) None)) is

@@ -1,5 +1,5 @@
 -- A tick adds nothing exactly where it is quiet.
-use Rattle.std.proofs.Common.{◌≡◌, ◌∙◌, ◌⊎◌, inl, inr, ℕ, ◌<◌, ◌≤◌, ◌&&◌, not, Bool, true, false, List, [], ◌∷◌, length, Option, Some, None, refl, sym, ap, subst, arith}
+use Rattle.std.proofs.Common.{◌≡◌, ◌∙◌, ◌⊎◌, inl, inr, ℕ, ◌<◌, ◌≤◌, ◌==◌, ◌&&◌, not, Bool, true, false, List, [], ◌∷◌, length, Option, Some, None, refl, sym, ap, subst, arith}
 use Rattle.std.specs.Prelude.{if◌then◌else◌}
 use Rattle.std.specs.Ordering.{nat_cmp}
 use Rattle.kube_objects.specs.declared.key.Key.{Key}
@@ -12,17 +12,19 @@ use Rattle.kube_objects.specs.Keys.{key_cmp}
 use Rattle.kube_objects.specs.Modes.{place_cmp, nodes, places}
 use Rattle.kube_objects.specs.Seen.{is_fresh, is_synced, node_names, pod_keys}
 use Rattle.kube_objects.specs.Tainting.{waits, queued, queued_as, first, Queued, head_of}
-use Rattle.kube_objects.specs.Tick.{add, for_each, has_settled, sync, pass, clean, cleaned, taint, tainted, evict, evicted, tick_after, tick, whole_pass, phases}
+use Rattle.kube_objects.specs.Tick.{add, for_each, has_settled, sync, pass, clean, cleaned, taint, tainted, evict, evict_within, evicted, dues, has_room, tick_after, tick, whole_pass, phases}
 use Rattle.kube_objects.specs.Tokens.{has_token}
 use Rattle.kube_objects.specs.Own.{IsOwn}
-use Rattle.kube_objects.proofs.Own.{cleaned-own, tainted-own, evicted-own}
-use Rattle.tick_laws.specs.Judged.{key_if, is_dirty, seen_due, is_by_now}
-use Rattle.tick_laws.specs.Quiet.{IsQuietTerm, IsQuietTick}
+use Rattle.kube_objects.proofs.Own.{cleaned-own, tainted-own}
+use Rattle.history_laws.proofs.Plainly.{true_is}
+use Rattle.history_laws.proofs.Ticks.{Each, HasRoom, IsPodKey, dues_only, pods_only}
+use Rattle.tick_laws.specs.Judged.{key_if, is_dirty, term_due, is_by_now}
+use Rattle.tick_laws.specs.Quiet.{IsOutOfRoom, IsQuietTerm, IsQuietTick}
 use Rattle.tick_laws.specs.Ticked.{IsTicked}
 use Rattle.tick_laws.specs.Walks.{Among}
 use Rattle.tick_laws.proofs.Cleaning.{dirty_seen, clean_idle, clean_adds, clean_end}
-use Rattle.tick_laws.proofs.Evicting.{by_now_seen, due_seen, evict_adds, evict_either, evict_end}
-use Rattle.tick_laws.proofs.Named.{node_is_named, pod_is_named}
+use Rattle.tick_laws.proofs.Evicting.{due_among, evict_adds, evict_either, evict_end, evict_idle}
+use Rattle.tick_laws.proofs.Named.{node_is_named}
 use Rattle.tick_laws.proofs.Orders.{names_strict, keys_strict, places_strict}
 use Rattle.tick_laws.proofs.Phases.{pass_rest}
 use Rattle.tick_laws.proofs.Tainting.{taint_no_token, taint_nobody, taint_adds, taint_either, taint_end, since_waits, waiting, waiting_place}
@@ -128,20 +130,63 @@ module _ (doc : Doc) (own : IsOwn doc) (k : ℕ) (q : Identity) (h : List Entry)
       either : (place : Place) → (taint doc k q place h ≡ h) ⊎ (length h < length (taint doc k q place h))
       either place = taint_either doc k q place h (λ g. (g ≡ h) ⊎ (length h < length g)) (inl refl) (λ at n wanted w token head. inr (omega arith))
 
-  pub evicted_none : ((key : Key) → is_by_now (wall doc q.process k) (seen_due q key h) ≡ false) → evicted doc k q h ≡ h
-  evicted_none none = evicted-own doc own k q h ∙ ap (λ keys. for_each (evict doc k q) keys h) (sym (after_none key_cmp keys_strict (pod_keys h))) ∙ evict_end doc own k q None h h (λ key later. none key)
+  abbrev Evicted : Bool → List Entry
+  Evicted b = elim b [ true ↦ for_each (evict doc k q) (pod_keys h) h | false ↦ for_each (evict_within doc k q) (dues doc q (pod_keys h) h) h ]
 
-  pub evicted_grows : (key : Key) → is_by_now (wall doc q.process k) (seen_due q key h) ≡ true → length h < length (evicted doc k q h)
-  evicted_grows key now =
-      let found = by_now_seen (wall doc q.process k) q key h now in
-      let s = due_seen q key h found.0 found.1 in
-      subst (λ g. length h < length g) (sym (evicted-own doc own k q h))
-      (some_grows (evict doc k q) (λ key g. ticked_longer q k g (evict doc k q key g) (evict_ticked doc k q own key g)) h either key
-      (subst (λ g. length h < length g) (sym (evict_adds doc own k q key h found.0 s found.2)) (omega arith))
-      (pod_keys h) (pod_is_named q key h s.x s.kind s.sees))
+  abbrev NoneByNow : Type 0
+  NoneByNow = (key : Key) → is_by_now (wall doc q.process k) (term_due doc q key h) ≡ false
+
+  within_none : ((x : ℕ × Key) → IsPodKey x.1 → evict_within doc k q x h ≡ h) → (xs : List (ℕ × Key)) → Each (λ x. IsPodKey x.1) xs → for_each (evict_within doc k q) xs h ≡ h
+  within_none idle [] pods = refl
+  within_none idle (x ∷ xs) pods = ap (for_each (evict_within doc k q) xs) (idle x pods.0) ∙ within_none idle xs pods.1
+
+  pub evicted_none : NoneByNow ⊎ IsOutOfRoom doc k q h → evicted doc k q h ≡ h
+  evicted_none none = by_limit (doc.settings.rules.evict_burst == 0) refl none
     where
+      by_test : (b : Bool) (x : ℕ × Key) → evict doc k q x.1 h ≡ h → (if b then evict doc k q x.1 h else h) ≡ h
+      by_test true x is = is
+      by_test false x is = refl
+
+      pods : Each (λ x. IsPodKey x.1) (dues doc q (pod_keys h) h)
+      pods = dues_only doc q h (pod_keys h) (pods_only h)
+
+      by_limit : (b : Bool) → (doc.settings.rules.evict_burst == 0) ≡ b → NoneByNow ⊎ IsOutOfRoom doc k q h → Evicted b ≡ h
+      by_limit true free (inl none) = ap (λ keys. for_each (evict doc k q) keys h) (sym (after_none key_cmp keys_strict (pod_keys h))) ∙ evict_end doc k q None h h (λ key later. none key)
+      by_limit true free (inr out) = absurd (true_is (sym free ∙ out.limited))
+      by_limit false limited (inl none) = within_none (λ x kind. by_test (has_room doc q k 0 h) x (evict_idle doc k q x.1 h kind (none x.1))) (dues doc q (pod_keys h) h) pods
+      by_limit false limited (inr out) = within_none (λ x kind. ap (λ b. (if b then evict doc k q x.1 h else h)) out.none) (dues doc q (pod_keys h) h) pods
+
+  pub evicted_grows : (key : Key) → is_by_now (wall doc q.process k) (term_due doc q key h) ≡ true → HasRoom doc k q h → length h < length (evicted doc k q h)
+  evicted_grows key now room = by_limit (doc.settings.rules.evict_burst == 0) refl
+    where
+      found : (at : ℕ) × Among key (pod_keys h) × Among (at, key) (dues doc q (pod_keys h) h)
+      found = due_among doc q h key (wall doc q.process k) now
+
       either : (key : Key) → (evict doc k q key h ≡ h) ⊎ (length h < length (evict doc k q key h))
-      either key = evict_either doc own k q key h (λ g. (g ≡ h) ⊎ (length h < length g)) (inl refl) (λ given node_given at a. inr (omega arith))
+      either key = evict_either doc k q key h (λ g. (g ≡ h) ⊎ (length h < length g)) (inl refl) (λ given node_given at a. inr (omega arith))
+
+      busy : length h < length (evict doc k q key h)
+      busy = subst (λ g. length h < length g) (sym (evict_adds doc k q key h now).is) (omega arith)
+
+      within : (x : ℕ × Key) → (evict_within doc k q x h ≡ h) ⊎ (length h < length (evict_within doc k q x h))
+      within x = by_room (has_room doc q k 0 h)
+        where
+          by_room : (b : Bool) → ((if b then evict doc k q x.1 h else h) ≡ h) ⊎ (length h < length (if b then evict doc k q x.1 h else h))
+          by_room true = either x.1
+          by_room false = inl refl
+
+      longer : (x : ℕ × Key) (g : List Entry) → length g ≤ length (evict_within doc k q x g)
+      longer x g = by_room (has_room doc q k 0 g)
+        where
+          by_room : (b : Bool) → length g ≤ length (if b then evict doc k q x.1 g else g)
+          by_room true = ticked_longer q k g (evict doc k q x.1 g) (evict_ticked doc k q x.1 g)
+          by_room false = omega arith
+
+      by_limit : (b : Bool) → (doc.settings.rules.evict_burst == 0) ≡ b → length h < length (Evicted b)
+      by_limit true free = some_grows (evict doc k q) (λ key g. ticked_longer q k g (evict doc k q key g) (evict_ticked doc k q key g)) h either key busy (pod_keys h) found.1
+      by_limit false limited =
+          some_grows (evict_within doc k q) longer h within (found.0, key)
+          (subst (λ b. length h < length (if b then evict doc k q key h else h)) (sym (room limited)) busy) (dues doc q (pod_keys h) h) found.2
 
 -- a pass adds its own entry at least
 pub pass_grows : (doc : Doc) (k : ℕ) (q : Identity) (h : List Entry) → is_pass_due doc k q h ≡ true → length h < length (pass doc k q h)
@@ -228,11 +273,20 @@ module _ (doc : Doc) (own : IsOwn doc) (k : ℕ) (q : Identity) where
     without_tainted : length (evicted doc k q h) ≡ length h
     without_tainted = ap (λ g. length (evicted doc k q g)) (sym (tainted_none doc own k q h still_heads)) ∙ without_cleaned
 
-    still_pods : (key : Key) → is_by_now (wall doc q.process k) (seen_due q key h) ≡ false
-    still_pods key = is_no (is_by_now (wall doc q.process k) (seen_due q key h)) busy
+    none_by_now : HasRoom doc k q h → (key : Key) → is_by_now (wall doc q.process k) (term_due doc q key h) ≡ false
+    none_by_now room key = is_no (is_by_now (wall doc q.process k) (term_due doc q key h)) busy
       where
-        busy : is_by_now (wall doc q.process k) (seen_due q key h) ≡ true → ⊥
-        busy now = omega (arith, without_tainted, evicted_grows doc own k q h key now)
+        busy : is_by_now (wall doc q.process k) (term_due doc q key h) ≡ true → ⊥
+        busy now = omega (arith, without_tainted, evicted_grows doc own k q h key now room)
+
+    still_pods : ((key : Key) → is_by_now (wall doc q.process k) (term_due doc q key h) ≡ false) ⊎ IsOutOfRoom doc k q h
+    still_pods = by_limit (doc.settings.rules.evict_burst == 0) refl (has_room doc q k 0 h) refl
+      where
+        by_limit : (b : Bool) → (doc.settings.rules.evict_burst == 0) ≡ b → (room : Bool) → has_room doc q k 0 h ≡ room
+            → ((key : Key) → is_by_now (wall doc q.process k) (term_due doc q key h) ≡ false) ⊎ IsOutOfRoom doc k q h
+        by_limit true free room is = inl (none_by_now (λ limited. absurd (true_is (sym free ∙ limited))))
+        by_limit false limited true is = inl (none_by_now (λ limited. is))
+        by_limit false limited false is = inr (record { limited = limited; none = is })
 
     pub still_term : IsQuietTerm doc k q h
     still_term = record { pass = still_pass; nodes = still_nodes; heads = still_heads; pods = still_pods }

@@ -10,7 +10,7 @@ use Rattle.kube_objects.specs.declared.node.Node.{Node}
 use Rattle.kube_objects.specs.declared.object.Object.{Object}
 use Rattle.kube_objects.specs.declared.pod.Pod.{Pod}
 use Rattle.kube_objects.specs.Answers.{versioned, as_kind, node_in, answer_update}
-use Rattle.kube_objects.specs.Deletes.{answer_delete, delete_over, delete_at_node}
+use Rattle.kube_objects.specs.Deletes.{answer_delete, delete_over, delete_at_node, answer_delete_alone, delete_alone_over}
 use Rattle.kube_objects.specs.Entry.{Entry, Identity, Ticks, Tick, Sync, actor_of, entry}
 use Rattle.kube_objects.specs.Feeds.{is_among}
 use Rattle.kube_objects.specs.Keys.{key_eq}
@@ -18,7 +18,7 @@ use Rattle.kube_objects.specs.Newest.{only_if}
 use Rattle.kube_objects.specs.Seen.{pod_in, seen, seen_node, seen_pod, is_stale, is_refused}
 use Rattle.kube_objects.specs.Stored.{Held, Write, write_of, tick_write, next_version, stored, node_key}
 use Rattle.kube_objects.specs.Tick.{add}
-use Rattle.kube_objects.specs.Tries.{as_answer, tried, try_node, try_delete}
+use Rattle.kube_objects.specs.Tries.{as_answer, tried, try_node, try_delete, try_delete_alone}
 use Rattle.kube_objects.specs.Wire.{loses_requests}
 use Rattle.kube_objects.proofs.KeyOrder.{same_key}
 use Rattle.history_laws.proofs.Plainly.{none_is, some_is, false_is, true_is}
@@ -167,5 +167,18 @@ refused_pod_reached q pod h x y sees sees_node refused =
         ∙ ap (λ o. delete_over (next_version h) x.0 y.0 (Some held.0) o) node.1
         ∙ ap (λ b. cond b (delete_at_node (next_version h) y.0 (Some node.0)) (reply.Conflict held.0.version)) (same_version held.0.version x.0 held.2)
         ∙ ap (λ b. cond b (reply.Done (next_version h)) (reply.Conflict node.0.version)) (same_version node.0.version y.0 node.2)
+        in
+        absurd (true_is (sym refused ∙ refused_reply q h (next_version h) _ done))
+
+-- a pod's, by its own version alone
+pub refused_alone_reached : (q : Identity) (pod : Key) (h : List Entry) (x : Version × Pod) → seen_pod q pod h ≡ Some x → is_refused (try_delete_alone q pod x.0 h) ≡ true → IsReached q h pod
+refused_alone_reached q pod h x sees refused = by_test (is_among (keys_since q h) pod) refl
+  where
+    by_test : (b : Bool) → is_among (keys_since q h) pod ≡ b → (b || is_node_among (keys_since q h) (seen_pod q pod h)) ≡ true
+    by_test true out = refl
+    by_test false out =
+        let held = seen_stored q pod h pod_in x sees out in
+        let done : answer_delete_alone pod x.0 h ≡ reply.Done (next_version h) =
+        ap (delete_alone_over (next_version h) x.0) held.1 ∙ ap (λ b. cond b (reply.Done (next_version h)) (reply.Conflict held.0.version)) (same_version held.0.version x.0 held.2)
         in
         absurd (true_is (sym refused ∙ refused_reply q h (next_version h) _ done))

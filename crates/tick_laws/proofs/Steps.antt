@@ -1,11 +1,13 @@
 -- What each entry of a tick adds to the pods that the tick may look at.
-use Rattle.std.proofs.Common.{◌≡◌, ℕ, ◌+◌, ◌*◌, ◌≤◌, Bool, true, false, cond, List, [], ◌∷◌, length, Option, Some, refl, ap, arith}
+use Rattle.std.proofs.Common.{◌≡◌, ◌⊎◌, inl, inr, ℕ, ◌+◌, ◌*◌, ◌≤◌, Bool, true, false, cond, List, [], ◌∷◌, length, Option, Some, refl, ap, arith}
 use Rattle.kube_base.specs.declared.numbers.Version.{Version}
 use Rattle.kube_objects.specs.declared.call.Answer.{Answer}
 use Rattle.kube_objects.specs.declared.call.Answer.TheVariants as answer
 use Rattle.kube_objects.specs.declared.key.Key.{Key}
 use Rattle.kube_objects.specs.declared.key.Kind.{Kind}
 use Rattle.kube_objects.specs.declared.key.Kind.TheVariants as kind
+use Rattle.kube_objects.specs.declared.rules.EvictRule.{EvictRule}
+use Rattle.kube_objects.specs.declared.rules.EvictRule.TheVariants as evictions
 use Rattle.kube_objects.specs.Entry.{Entry, Identity, Tick, Sync, Delete}
 use Rattle.kube_objects.specs.Seen.{is_pod}
 use Rattle.kube_objects.specs.Stored.{tick_write}
@@ -13,9 +15,9 @@ use Rattle.kube_objects.specs.Tainting.{is_tick_of, before_tick}
 use Rattle.kube_objects.specs.Tick.{add}
 use Rattle.history_laws.proofs.Plainly.{false_is}
 use Rattle.tick_laws.specs.Since.{keys_since}
-use Rattle.tick_laws.specs.Steps.{pods_on, kind_cost, write_costs, own_cost, entry_cost, fact_cost, tick_cost}
+use Rattle.tick_laws.specs.Steps.{pods_on, kind_cost, write_costs, back_kind, back_costs, back_by, own_cost, entry_cost, fact_cost, tick_cost}
 use Rattle.tick_laws.specs.Ticked.{IsTicked}
-use Rattle.tick_laws.specs.ToJudge.{has_new_taints, is_to_judge}
+use Rattle.tick_laws.specs.ToJudge.{has_new_taints, is_back, is_to_judge}
 use Rattle.tick_laws.proofs.Ticked.{is_own_tick, before_short, ticked_keeps}
 use Rattle.watch_cache.proofs.Ticks.{is_sync}
 
@@ -71,6 +73,40 @@ costs_grow q h test more all (key ∷ keys) = omega (arith, by_kind key.kind, co
     by_kind kind.Node = by_test (test key.name) (more key.name) (pods_on q key.name h) (all key.name)
     by_kind kind.Lease = omega arith
     by_kind kind.Pod = omega arith
+
+-- one that passes for either reason counts for one of them
+pub costs_part : (q : Identity) (h : List Entry) (test one other : ℕ → Bool) → ((n : ℕ) → test n ≡ true → (one n ≡ true) ⊎ (other n ≡ true)) → (keys : List Key)
+    → write_costs q test h keys ≤ write_costs q one h keys + back_costs q other h keys
+costs_part q h test one other all [] = omega arith
+costs_part q h test one other all (key ∷ keys) = omega (arith, by_kind key.kind, costs_part q h test one other all keys)
+  where
+    by_test : (a b c : Bool) (n : ℕ) → (a ≡ true → (b ≡ true) ⊎ (c ≡ true)) → cond a n 0 ≤ cond b n 0 + cond c n 0
+    by_test false b c n passes = omega arith
+    by_test true true c n passes = omega arith
+    by_test true false true n passes = omega arith
+    by_test true false false n passes = none (passes refl)
+      where
+        none : (false ≡ true) ⊎ (false ≡ true) → n ≤ 0
+        none (inl is) = absurd (false_is is)
+        none (inr is) = absurd (false_is is)
+
+    by_kind : (x : Kind) → kind_cost q test h key.name x ≤ kind_cost q one h key.name x + back_kind q other h key.name x
+    by_kind kind.Node = by_test (test key.name) (one key.name) (other key.name) (pods_on q key.name h) (all key.name)
+    by_kind kind.Lease = omega arith
+    by_kind kind.Pod = omega arith
+
+-- what a sync may judge, by either rule
+pub sync_costs : (rule : EvictRule) (q : Identity) (h g : List Entry) (test : ℕ → Bool) → ((n : ℕ) → test n ≡ true → (is_to_judge q h g n ≡ true) ⊎ (is_back rule q h g n ≡ true))
+    → 2 * write_costs q test g (keys_since q h) ≤ 2 * write_costs q (is_to_judge q h g) g (keys_since q h) + back_by rule q h g
+sync_costs evictions.Added q h g test all = let grows = costs_grow q g test (is_to_judge q h g) alone (keys_since q h) in omega (arith, grows)
+  where
+    by_either : (n : ℕ) → (is_to_judge q h g n ≡ true) ⊎ (false ≡ true) → is_to_judge q h g n ≡ true
+    by_either n (inl is) = is
+    by_either n (inr is) = absurd (false_is is)
+
+    alone : (n : ℕ) → test n ≡ true → is_to_judge q h g n ≡ true
+    alone n passes = by_either n (all n passes)
+sync_costs evictions.Seen q h g test all = let part = costs_part q g test (is_to_judge q h g) (is_back evictions.Seen q h g) all (keys_since q h) in omega (arith, part)
 
 -- a phase adds to it, and takes nothing away
 pub cost_ticked : (q : Identity) (k : ℕ) (h g : List Entry) → IsTicked q k h g → tick_cost q k h ≤ tick_cost q k g

@@ -111,8 +111,8 @@ module _ (doc : Doc) (k : ℕ) (q : Identity) where
   pub clean_ticked : IsOwn doc → (name : ℕ) (h : List Entry) → IsTicked q k h (clean doc k q name h)
   clean_ticked own name h = clean_either doc own k q name h (IsTicked q k h) (ticked_same q k h) (λ t written a is given. ticked_more q k h h t (ticked_same q k h))
 
-  pub evict_ticked : IsOwn doc → (pod : Key) (h : List Entry) → IsTicked q k h (evict doc k q pod h)
-  evict_ticked own pod h = evict_either doc own k q pod h (IsTicked q k h) (ticked_same q k h) (λ given node_given at a. ticked_more q k h h (Delete pod given node_given at a) (ticked_same q k h))
+  pub evict_ticked : (pod : Key) (h : List Entry) → IsTicked q k h (evict doc k q pod h)
+  evict_ticked pod h = evict_either doc k q pod h (IsTicked q k h) (ticked_same q k h) (λ given node_given at a. ticked_more q k h h (Delete pod given node_given at a) (ticked_same q k h))
 
   pub taint_ticked : (place : Place) (h : List Entry) → IsTicked q k h (taint doc k q place h)
   taint_ticked place h = by_token (has_token doc q k place h)

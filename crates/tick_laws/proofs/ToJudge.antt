@@ -1,5 +1,5 @@
 -- Which nodes a sync's cache finds to judge, read from the history.
-use Rattle.std.proofs.Common.{◌≡◌, ◌∙◌, ℕ, ◌||◌, not, Bool, true, false, List, [], ◌∷◌, Option, Some, None, refl, sym, ap}
+use Rattle.std.proofs.Common.{◌≡◌, ◌∙◌, ℕ, ◌||◌, ◌&&◌, not, Bool, true, false, List, [], ◌∷◌, Option, Some, None, refl, sym, ap}
 use Rattle.kube_base.specs.declared.numbers.Version.{Version}
 use Rattle.kube_objects.specs.declared.deed.Actor.{Actor}
 use Rattle.kube_objects.specs.declared.key.Key.{Key}
@@ -11,10 +11,11 @@ use Rattle.kube_objects.specs.Seen.{is_stale, stale_says, stale_tick}
 use Rattle.kube_objects.specs.Stored.{node_key}
 use Rattle.history_laws.proofs.Plainly.{false_is}
 use Rattle.tick_laws.specs.Judged.{shown}
-use Rattle.tick_laws.specs.ToJudge.{has_stale, is_to_judge, refusal_says, refuses}
+use Rattle.tick_laws.specs.ToJudge.{has_appeared, has_stale, is_to_judge, refusal_says, refuses}
 use Rattle.watch_cache.specs.declared.cache.Cache.{Cache}
+use Rattle.watch_cache.specs.Kept.{is_node_in}
 use Rattle.watch_cache.specs.Stands.{CacheStands, refused_key}
-use Rattle.watch_cache.specs.TaintChanges.{IsSettled, taints_eq, taints_in}
+use Rattle.watch_cache.specs.TaintChanges.{IsSettled, appears, taints_eq, taints_in}
 use Rattle.watch_cache.proofs.Frames.{upper, last_stale}
 use Rattle.watch_cache.proofs.Same.{same_taints}
 use Rattle.watch_cache.proofs.Ticks.{marks, stales_refused}
@@ -63,3 +64,8 @@ unsettled q name h g cache now s is left = by_tests (has_stale q h) (taints_eq (
           fresh = λ key. s.stale key ∙ fresh none key (is_stale q key h) refl;
           taints = ap taints_in (s.objects (node_key name)) ∙ same_taints (taints_in (shown q (node_key name) h)) (taints_in (shown q (node_key name) g)) same ∙ ap taints_in (sym is);
         }))
+
+-- one that the cache finds to appear has appeared
+pub appears_anew : (q : Identity) (name : ℕ) (h g : List Entry) (cache : Cache) (now : Option (Version × Object)) → CacheStands q h cache → now ≡ shown q (node_key name) g
+    → appears cache name now ≡ has_appeared q h g name
+appears_anew q name h g cache now s is = ap (λ o. not (has o) && is_node_in now) (s.objects (node_key name)) ∙ ap (λ o. not (has (shown q (node_key name) h)) && is_node_in o) is

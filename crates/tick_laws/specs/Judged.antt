@@ -9,9 +9,13 @@ use Rattle.kube_objects.specs.declared.object.Object.{Object}
 use Rattle.kube_objects.specs.declared.pod.Due.{Due}
 use Rattle.kube_objects.specs.declared.pod.Due.TheVariants.{Never, At}
 use Rattle.kube_objects.specs.declared.pod.Pod.{Pod}
+use Rattle.kube_objects.specs.declared.rules.EvictRule.{EvictRule}
+use Rattle.kube_objects.specs.declared.rules.EvictRule.TheVariants as evictions
+use Rattle.kube_objects.specs.Document.{Doc}
 use Rattle.kube_objects.specs.Entry.{Entry, Identity, Place}
 use Rattle.kube_objects.specs.Modes.{mode}
 use Rattle.kube_objects.specs.Seen.{seen, seen_node, seen_pod, is_stale, is_pod}
+use Rattle.kube_objects.specs.Sightings.{sighted_due}
 use Rattle.kube_objects.specs.Stored.{node_key}
 use Rattle.kube_objects.specs.Tainting.{Wants, Nothing, Wanted, Whatever, wants, has_condition, is_opposite, waits, queued}
 use Rattle.kube_objects.specs.Tolerations.{due}
@@ -51,6 +55,20 @@ due_as q false (Some x) h = due_on x.1 (seen_node q x.1.node h)
 -- only a pod's key is ever due, and never a stale one
 abbrev pub seen_due : Identity → Key → List Entry → Due
 seen_due q key h = due_as q (not (is_pod key.kind) || is_stale q key h) (seen_pod q key h) h
+
+-- the same of a pod that is due by what the term has seen of it
+abbrev pub sighted_as : Bool → Option (Version × Pod) → Due → Due
+sighted_as true x due = Never
+sighted_as false None due = Never
+sighted_as false (Some x) due = due
+
+abbrev pub due_by : EvictRule → Doc → Identity → Key → List Entry → Due
+due_by evictions.Added doc q key h = seen_due q key h
+due_by evictions.Seen doc q key h = sighted_as (not (is_pod key.kind) || is_stale q key h) (seen_pod q key h) (sighted_due doc q key h)
+
+-- by the document's rule
+abbrev pub term_due : Doc → Identity → Key → List Entry → Due
+term_due doc q key h = due_by doc.settings.rules.evict_from doc q key h
 
 abbrev pub is_by_now : ℕ → Due → Bool
 is_by_now now Never = false

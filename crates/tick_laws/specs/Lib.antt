@@ -1,7 +1,9 @@
 pub mod Changes
 pub mod Judged
 pub mod Quiet
+pub mod Room
 pub mod Rows
+pub mod Sights
 pub mod Since
 pub mod Steps
 pub mod Ticked

@@ -3,12 +3,15 @@ use Rattle.std.specs.Prelude.{ℕ, ◌+◌, ◌*◌, Bool, true, false, cond, Li
 use Rattle.kube_objects.specs.declared.key.Key.{Key}
 use Rattle.kube_objects.specs.declared.key.Kind.{Kind}
 use Rattle.kube_objects.specs.declared.key.Kind.TheVariants as kind
+use Rattle.kube_objects.specs.declared.rules.EvictRule.{EvictRule}
+use Rattle.kube_objects.specs.declared.rules.EvictRule.TheVariants as evictions
+use Rattle.kube_objects.specs.Document.{Doc}
 use Rattle.kube_objects.specs.Entry.{Entry, Identity, Fact, Ticks, Tick, Sync, Delete}
 use Rattle.kube_objects.specs.Seen.{seen_pod, pod_keys}
 use Rattle.kube_objects.specs.Stored.{Write, tick_write}
 use Rattle.kube_objects.specs.Tainting.{is_tick_of}
 use Rattle.tick_laws.specs.Since.{keys_since}
-use Rattle.tick_laws.specs.ToJudge.{has_new_taints, is_to_judge}
+use Rattle.tick_laws.specs.ToJudge.{has_new_taints, is_back, is_to_judge}
 use Rattle.watch_cache.specs.Kept.{is_on}
 
 -- how many pods are seen on the node of that name
@@ -50,3 +53,24 @@ abbrev pub tick_cost : Identity → ℕ → List Entry → ℕ
 tick_cost q k [] = 0
 tick_cost q k (e ∷ h) =
     elim (is_tick_of q k e.beat e.actor e.fact) [ true ↦ fact_cost q h (e ∷ h) e.fact + tick_cost q k h | false ↦ 0 ]
+
+-- ---- pods on nodes that a sync sees anew
+
+-- of the nodes among these keys that pass a test, the pods that are seen on them
+abbrev pub back_kind : Identity → (ℕ → Bool) → List Entry → ℕ → Kind → ℕ
+back_kind q test h name kind.Node = cond (test name) (pods_on q name h) 0
+back_kind q test h name kind.Lease = 0
+back_kind q test h name kind.Pod = 0
+
+abbrev pub back_costs : Identity → (ℕ → Bool) → List Entry → List Key → ℕ
+back_costs q test h [] = 0
+back_costs q test h (key ∷ keys) = back_kind q test h key.name key.kind + back_costs q test h keys
+
+-- h is the history before the sync, and g the one with it
+abbrev pub back_by : EvictRule → Identity → List Entry → List Entry → ℕ
+back_by evictions.Added q h g = 0
+back_by evictions.Seen q h g = 2 * back_costs q (is_back evictions.Seen q h g) g (keys_since q h)
+
+-- two for each of them, where pods are due by what is seen
+abbrev pub pods_back : Doc → Identity → List Entry → List Entry → ℕ
+pods_back doc q h g = back_by doc.settings.rules.evict_from q h g

@@ -1,12 +1,15 @@
 -- On which changed nodes a sync judges the pods again.
-use Rattle.std.specs.Prelude.{ℕ, ◌||◌, not, Bool, true, false, List, Option, Some, None}
+use Rattle.std.specs.Prelude.{ℕ, ◌||◌, ◌&&◌, not, Bool, true, false, List, Option, Some, None}
 use Rattle.kube_objects.specs.declared.deed.Actor.{Actor}
 use Rattle.kube_objects.specs.declared.node.Taint.{Taint}
+use Rattle.kube_objects.specs.declared.rules.EvictRule.{EvictRule}
+use Rattle.kube_objects.specs.declared.rules.EvictRule.TheVariants as evictions
 use Rattle.kube_objects.specs.Entry.{Entry, Identity, Fact, Ticks, Tick, Sync}
 use Rattle.kube_objects.specs.Identities.{is_by}
 use Rattle.kube_objects.specs.Newest.{newest, has, when, only_if, or_else}
 use Rattle.kube_objects.specs.Stored.{node_key}
 use Rattle.tick_laws.specs.Judged.{shown}
+use Rattle.watch_cache.specs.Kept.{is_node_in}
 use Rattle.watch_cache.specs.Stands.{refused_key}
 use Rattle.watch_cache.specs.TaintChanges.{taints_eq, taints_in}
 
@@ -34,3 +37,12 @@ has_new_taints q h g name = not (taints_eq (seen_taints q name h) (seen_taints q
 -- whether a sync judges the pods on a changed node: where it is seen with other taints after it, or any key was stale before it
 abbrev pub is_to_judge : Identity → List Entry → List Entry → ℕ → Bool
 is_to_judge q h g name = has_stale q h || has_new_taints q h g name
+
+-- whether a node is seen after an entry that wasn't before it
+abbrev pub has_appeared : Identity → List Entry → List Entry → ℕ → Bool
+has_appeared q h g name = not (has (shown q (node_key name) h)) && is_node_in (shown q (node_key name) g)
+
+-- whether a sync judges the pods on a node for that alone: where they are due by what is seen
+abbrev pub is_back : EvictRule → Identity → List Entry → List Entry → ℕ → Bool
+is_back evictions.Added q h g name = false
+is_back evictions.Seen q h g name = has_appeared q h g name

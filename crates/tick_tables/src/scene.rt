@@ -6,7 +6,7 @@ use crate::change::{Change, EPOCH, write};
 use crate::rows::{Pace, Renewals, Row, Span};
 use controller_core::Term;
 use kube_base::{Beat, Local, NoMemory, ProcId, Steps, Version, Wall};
-use kube_objects::{Reply, RespectRule, RetryRule, TickSettings};
+use kube_objects::{EvictRule, Reply, RespectRule, RetryRule, TickSettings};
 use leader_elector::{Candidate, CandidateNext, Leading, Timing};
 use object_store::Store;
 use std::alloc::Global;
@@ -59,6 +59,11 @@ fn settings(row: &Row) -> TickSettings
         large_zone: 50,
         unhealthy_percent: 55,
         rate_policy: row.policy,
+        evict_from: EvictRule::Added,
+        evict_burst: 0,
+        evict_rate: 20_000,
+        ready_millis: 0,
+        ready_burst: 0,
     }
 }
 

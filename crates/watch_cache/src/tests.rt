@@ -79,7 +79,7 @@ fn answers_nothing_before_its_first_sync(rt: HostRuntime) -> Result<(), Fail> {
     assert!(rt; pods(&cache, 10, &mut steps).is_none());
     cache.set_stale(lease)?;
     assert!(rt; cache.is_stale(&lease));
-    assert!(rt; cache.nodes_to_judge(rt.alloc(), &Empty)?.is_empty());
+    assert!(rt; cache.nodes_to_judge(rt.alloc(), true, &Empty)?.is_empty());
     cache.sync_since(&Empty, &mut steps)?;
     assert!(rt; matches!(cache.node(10), Ok(None)));
     assert!(rt; matches!(cache.lease(&lease), Ok(None)));

@@ -7,7 +7,6 @@ use Rattle.kube_objects.specs.declared.call.Answer.{Answer}
 use Rattle.kube_objects.specs.declared.call.Answer.TheVariants as answer
 use Rattle.kube_objects.specs.declared.key.Key.{Key}
 use Rattle.kube_objects.specs.declared.node.Node.{Node}
-use Rattle.kube_objects.specs.declared.rules.EvictRule.TheVariants.{Added}
 use Rattle.kube_objects.specs.Document.{Doc}
 use Rattle.kube_objects.specs.Entry.{Entry, Identity, Ticks, Tick, Sync, Untaint, Swap, Delete, entry}
 use Rattle.kube_objects.specs.InForce.{watches}
@@ -47,13 +46,10 @@ use Rattle.wave_laws.proofs.Heads.{accepted}
 -- ---- before its untaints and swaps an attended tick has no stale key
 
 module _ (doc : Doc) (own : IsOwn doc) (q : Identity) (k : ℕ) (here : IsAttended doc q k) (key : Key) where
-  added : doc.settings.rules.evict_from ≡ Added
-  added = ap (λ r. r.evict_from) own.rules
-
   begun_unstale : Unstale q (begun doc q k)
   begun_unstale =
-      walk_to_tick doc (Ticking doc) (λ k. Unstale q) (unstale_keeps doc added q).turns (unstale_release doc added q).turns k q.process here.0.0 (ready doc own q k here).awake (at_turn doc q.process k)
-      (walk_at_turn doc (λ k step. Unstale q) (unstale_keeps doc added q) (unstale_release doc added q) (put_unstale doc added q doc.objects [] (λ is key. absurd (false_is is))) q.process k)
+      walk_to_tick doc (Ticking doc) (λ k. Unstale q) (unstale_keeps doc q).turns (unstale_release doc q).turns k q.process here.0.0 (ready doc own q k here).awake (at_turn doc q.process k)
+      (walk_at_turn doc (λ k step. Unstale q) (unstale_keeps doc q) (unstale_release doc q) (put_unstale doc q doc.objects [] (λ is key. absurd (false_is is))) q.process k)
 
   synced_unstale : is_stale q key (synced_at doc q k) ≡ false
   synced_unstale =

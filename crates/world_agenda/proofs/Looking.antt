@@ -18,8 +18,8 @@ use Rattle.agenda_laws.specs.Times.{is_early, sooner}
 use Rattle.agenda_laws.specs.Waking.{AreAsleep, IsAsleep, NextBeatsWake, acts_as, turn_wakes, wakes_of, wakes_while}
 use Rattle.world_process.specs.Beats.{own_reading_as}
 use Rattle.world_core.specs.declared.wakes.Wakes.{Wakes}
-use Rattle.world_core.specs.Waits.{TurnWakesStand, WakesStand, beat_of, reading_of, starts_now}
-use Rattle.world_agenda.specs.Woken.{IsDue, IsGoing, IsLooked, IsNextDue, IsStalledFrom, IsWithTurn, IsWoken, OnlyTurns, goes_now, is_going, not_before, resumed}
+use Rattle.world_core.specs.Waits.{TurnWakesStand, WakesStand, beat_of, reading_of, room_of, starts_now}
+use Rattle.world_agenda.specs.Woken.{IsDue, IsGoing, IsLooked, IsNextDue, IsStalledFrom, IsWithTurn, IsWoken, OnlyTurns, goes_now, is_barred, is_going, not_before, resumed}
 use Rattle.world_agenda.proofs.Acting.{acting_wakes, nobody_acts_first}
 use Rattle.world_agenda.proofs.Resuming.{one-of, turns_go, turns_resume}
 
@@ -59,7 +59,7 @@ due-now doc k p w at start now is =
     record {
       reached = λ j from within.
           let late : nat_lt j at.0 ≡ false = grind (arith, nat_tests) in
-          late ∙ sym (ap (λ b. not b && (is_early (local doc p j) (reading_of w) && is_early (wall doc p j) w.wall)) now);
+          late ∙ sym (ap (λ b. not b && (is_early (local doc p j) (reading_of w) && is_barred doc j p w)) now);
       ahead = λ n some.
           let same = some_is at.0 n some in
           let least : k ≤ n = omega (arith, is, same) in
@@ -73,7 +73,7 @@ due-later doc k p w b due start calm woken is =
     record {
       reached = λ j from within.
           ap (is_early j) is ∙ since-early k j (beat_of b) from ∙ woken.reached j within
-          ∙ sym (ap (λ c. not c && (is_early (local doc p j) (reading_of w) && is_early (wall doc p j) w.wall)) calm);
+          ∙ sym (ap (λ c. not c && (is_early (local doc p j) (reading_of w) && is_barred doc j p w)) calm);
       ahead = λ n some. since-ahead doc k (beat_of b) start woken.within n (sym is ∙ some);
     }
 
@@ -91,19 +91,19 @@ next-due doc k p h w due idle s d =
     record {
       quiet = λ j from within early.
           let all = sym (d.reached j from within) ∙ early in
-          let both = and_right (not w.at_once) (is_early (local doc p j) (reading_of w) && is_early (wall doc p j) w.wall) all in
+          let both = and_right (not w.at_once) (is_early (local doc p j) (reading_of w) && is_barred doc j p w) all in
           (s.asleep idle j from within).0
           (record {
-            at_once = not_true w.at_once (and_left (not w.at_once) (is_early (local doc p j) (reading_of w) && is_early (wall doc p j) w.wall) all);
-            local = and_left (is_early (local doc p j) (reading_of w)) (is_early (wall doc p j) w.wall) both;
-            wall = and_right (is_early (local doc p j) (reading_of w)) (is_early (wall doc p j) w.wall) both;
+            at_once = not_true w.at_once (and_left (not w.at_once) (is_early (local doc p j) (reading_of w) && is_barred doc j p w) all);
+            local = and_left (is_early (local doc p j) (reading_of w)) (is_barred doc j p w) both;
+            wall = and_right (is_early (local doc p j) (reading_of w)) (is_barred doc j p w) both;
           });
       there = λ j from within late asleep.
           let by = (s.asleep idle j from within).1 asleep in
           let calm : not w.at_once ≡ true = ap not by.at_once in
-          let both = and_both (is_early (local doc p j) (reading_of w)) (is_early (wall doc p j) w.wall) by.local by.wall in
+          let both = and_both (is_early (local doc p j) (reading_of w)) (is_barred doc j p w) by.local by.wall in
           true_is
-          (sym (and_both (not w.at_once) (is_early (local doc p j) (reading_of w) && is_early (wall doc p j) w.wall) calm both)
+          (sym (and_both (not w.at_once) (is_early (local doc p j) (reading_of w) && is_barred doc j p w) calm both)
           ∙ (sym (d.reached j from within) ∙ late));
       ahead = d.ahead;
     }
@@ -152,14 +152,14 @@ turn-due doc k p h w due t d =
     record {
       quiet = λ j from within early.
           let all = sym (d.reached j from within) ∙ early in
-          let both = and_right (not w.at_once) (is_early (local doc p j) (reading_of w) && is_early (wall doc p j) w.wall) all in
-          let own = and_left (is_early (local doc p j) (reading_of w)) (is_early (wall doc p j) w.wall) both in
+          let both = and_right (not w.at_once) (is_early (local doc p j) (reading_of w) && is_barred doc j p w) all in
+          let own = and_left (is_early (local doc p j) (reading_of w)) (is_barred doc j p w) both in
           turn-asleep doc j p (is_controller doc p) h (ap (is_early (local doc p j)) (sym t.reading) ∙ own);
       there = λ j from within late asleep.
           let own : is_early (local doc p j) (reading_of w) ≡ true = ap (is_early (local doc p j)) t.reading ∙ asleep-turn doc j p (is_controller doc p) h asleep in
-          let both = and_both (is_early (local doc p j) (reading_of w)) (is_early (wall doc p j) w.wall) own (ap (is_early (wall doc p j)) t.time) in
+          let both = and_both (is_early (local doc p j) (reading_of w)) (is_barred doc j p w) own (ap (λ o. is_early (wall doc p j) o || is_early (local doc p j) (room_of w)) t.time) in
           true_is
-          (sym (and_both (not w.at_once) (is_early (local doc p j) (reading_of w) && is_early (wall doc p j) w.wall) (ap not t.at_once) both)
+          (sym (and_both (not w.at_once) (is_early (local doc p j) (reading_of w) && is_barred doc j p w) (ap not t.at_once) both)
           ∙ (sym (d.reached j from within) ∙ late));
       ahead = d.ahead;
     }

@@ -11,9 +11,9 @@ use Rattle.agenda_laws.specs.Ahead.{IsAhead, IsNextBelow, IsNextTurn}
 use Rattle.agenda_laws.specs.Times.{is_early, sooner as soonest}
 use Rattle.agenda_laws.specs.Waking as waking
 use Rattle.agenda_laws.specs.Waking.{IsAsleep}
-use Rattle.skew_clock.specs.Clocking.{Clocking, wall_of}
+use Rattle.skew_clock.specs.Clocking.{Clocking, reading, wall_of}
 use Rattle.world_core.specs.declared.wakes.Wakes.{Wakes}
-use Rattle.world_core.specs.Waits.{beat_of, reading_of, starts_now}
+use Rattle.world_core.specs.Waits.{beat_of, reading_of, room_of, starts_now}
 
 -- a beat before the next one is the next one
 abbrev pub not_before : ℕ → Option ℕ → Option ℕ
@@ -25,10 +25,19 @@ pub record IsTimeBeat (clock : Clocking) (at : Option ℕ) (b : Option Beat) : T
   pub reached : (j : ℕ) → j ≤ clock.end → is_early j (beat_of b) ≡ is_early (wall_of clock j) at
   pub within : (n : ℕ) → beat_of b ≡ Some n → n ≤ clock.end
 
+-- the same of a time of day that counts from a reading on
+pub record IsDeleteBeat (clock : Clocking) (w : Wakes) (b : Option Beat) : Type 0 where
+  pub reached : (j : ℕ) → j ≤ clock.end → is_early j (beat_of b) ≡ (is_early (wall_of clock j) w.wall || is_early (reading clock j) (room_of w))
+  pub within : (n : ℕ) → beat_of b ≡ Some n → n ≤ clock.end
+
+-- the time of day that a process waits for isn't there, or the reading from which on it counts
+abbrev pub is_barred : Doc → ℕ → ℕ → Wakes → Bool
+is_barred doc j p w = is_early (wall doc p j) w.wall || is_early (local doc p j) (room_of w)
+
 -- the beat is the first up to the end at which the reading or the time of day is there that the process waits for
 pub record IsWoken (doc : Doc) (p : ℕ) (w : Wakes) (b : Option Beat) : Type 0 where
   pub reached : (j : ℕ) → j ≤ end_beat doc
-      → is_early j (beat_of b) ≡ (is_early (local doc p j) (reading_of w) && is_early (wall doc p j) w.wall)
+      → is_early j (beat_of b) ≡ (is_early (local doc p j) (reading_of w) && is_barred doc j p w)
   pub within : (n : ℕ) → beat_of b ≡ Some n → n ≤ end_beat doc
 
 -- the first beat from beat k to the end at which something is there of what the process waits for, paused or not
@@ -63,7 +72,7 @@ goes_now doc k p w = w.at_once && ((k == 0) || is_going doc k p)
 -- the beat is the first from beat k to the end at which something is there that the process waits for
 pub record IsDue (doc : Doc) (k p : ℕ) (w : Wakes) (b : Option Beat) : Type 0 where
   pub reached : (j : ℕ) → k ≤ j → j ≤ end_beat doc
-      → is_early j (beat_of b) ≡ (not w.at_once && (is_early (local doc p j) (reading_of w) && is_early (wall doc p j) w.wall))
+      → is_early j (beat_of b) ≡ (not w.at_once && (is_early (local doc p j) (reading_of w) && is_barred doc j p w))
   pub ahead : (n : ℕ) → beat_of b ≡ Some n → IsAhead doc k n
 
 -- none of the processes below p starts now; where none at all does, this is the next beat but for the turns from p on

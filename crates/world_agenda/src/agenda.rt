@@ -11,7 +11,7 @@ ghost use Rattle.agenda_laws.specs.Waking.{wakes_of};
 ghost use Rattle.script_reader.specs.Lawful.{AreLawfulFrom};
 ghost use Rattle.world_core.specs.Waits.{WakesStand, beat_of, starts_now};
 ghost use Rattle.world_core.specs.Worlds.{IsReady, WorldStands, at_of, count_of, end_of};
-ghost use Rattle.world_agenda.specs.Woken.{IsDue, IsGoing, IsNextDue, IsStalledFrom, IsTimeBeat, IsWithTurn, IsWoken, OnlyTurns, goes_now, not_before as since, resumed};
+ghost use Rattle.world_agenda.specs.Woken.{IsDeleteBeat, IsDue, IsGoing, IsNextDue, IsStalledFrom, IsTimeBeat, IsWithTurn, IsWoken, OnlyTurns, goes_now, not_before as since, resumed};
 
 use agenda_laws::{beats_wake_by_causes, next_beats_are_soonest};
 use kube_base::{Beat, ProcId, Wall};
@@ -260,8 +260,26 @@ fn beat_of_waking(world: &World, who: ProcId, wakes: &Wakes) -> Option<Beat>
 {
     sooner_beat(
         world.turn_beat(who, wakes),
-        at_time(world.clock(who), wakes.wall),
+        delete_beat(world.clock(who), wakes),
     )
+}
+
+// The first beat at which a clock has the time of day that a process waits for, and the reading from which on it counts. Each clock begins
+// with reading 0.
+fn delete_beat(clock: &Clock, wakes: &Wakes) -> Option<Beat>
+    ensures { IsDeleteBeat clock.now wakes.now result }
+{
+    let time = at_time(clock, wakes.wall)?;
+    let room = wakes.room?;
+    if room.0 == 0 {
+        return Some(time);
+    }
+    let there = clock.first_beat(room)?;
+    if time.0 < there.0 {
+        Some(there)
+    } else {
+        Some(time)
+    }
 }
 
 // The first beat at which a clock's time of day is this, in microseconds since 1970.

@@ -1,5 +1,5 @@
 -- Layer 4, the steps of a beat: what a process waits for, by what is kept of it and of its term.
-use Rattle.std.proofs.Common.{◌≡◌, ◌↔◌, ℕ, ◌≤◌, ◌==◌, ◌&&◌, ◌||◌, nat_lt, min, Bool, true, false, List, Option, Some, None, IfSome, refl, sym, ap, ◌∙◌, subst, arith}
+use Rattle.std.proofs.Common.{◌≡◌, ◌↔◌, ℕ, ◌≤◌, ◌<◌, ◌==◌, ◌&&◌, ◌||◌, nat_lt, min, Bool, true, false, List, Option, Some, None, IfSome, option_map, refl, sym, ap, ◌∙◌, subst, arith}
 use Rattle.std.specs.Prelude.{is_some}
 use Rattle.std.specs.Option.{option_eq}
 use Rattle.std.proofs.lemmas.Bool.Decides.{nat_tests}
@@ -12,12 +12,13 @@ use Rattle.kube_objects.specs.Entry.{Entry, Identity}
 use Rattle.kube_objects.specs.Identities.{identity}
 use Rattle.kube_objects.specs.Newest.{has, only_if}
 use Rattle.kube_objects.specs.Process.{alive, is_present}
-use Rattle.agenda_laws.specs.Ticking.{is_due_at_once, sync_at, synced_reading, term_reading, term_time}
+use Rattle.agenda_laws.specs.Ticking.{is_due_at_once, room_at, sync_at, synced_reading, term_reading, term_time}
 use Rattle.agenda_laws.specs.Times.{is_early, sooner, if_up, elector_reading, kubelet_reading}
 use Rattle.agenda_laws.specs.Waking as waking
 use Rattle.agenda_laws.specs.Waking.{IsAsleep, acts_at_once, leads_at_once, wakes_as, wakes_of}
 use Rattle.agenda_laws.proofs.Between.{early_same, sooner_both}
 use Rattle.agenda_laws.proofs.Times.{before_deadline}
+use Rattle.controller_core.specs.Working.{kept}
 use Rattle.skew_clock.specs.Clocking.{Clocking, reading}
 use Rattle.skew_clock.proofs.Readings.{reading-monotone}
 use Rattle.world_process.specs.Beats as beats
@@ -30,8 +31,9 @@ use Rattle.world_process.specs.Processes as processes
 use Rattle.world_process.proofs.Names.{eq-self, eq-isnt, le-from}
 use Rattle.world_process.proofs.Processes.{process-up_first}
 use Rattle.world_process.proofs.Readings.{reading-local}
+use Rattle.world_process.proofs.Times.{kept-same}
 use Rattle.world_core.specs.declared.wakes.Wakes.{Wakes}
-use Rattle.world_core.specs.Waits.{IsTurnBeat, WakesStand, acting_reading, acting_time, beat_of, local_of, reading_at, reading_of, starts_now, time_at}
+use Rattle.world_core.specs.Waits.{IsTurnBeat, WakesStand, acting_reading, acting_room, acting_time, allowed_at, beat_of, kept_reading, local_of, reading_at, reading_of, room_of, starts_now, time_at}
 use Rattle.world_core.proofs.Ticking.{InTermAs}
 
 -- ---- beats and readings as numbers
@@ -83,6 +85,13 @@ local-later doc p k j c s from =
     let later = reading-monotone c k j from in
     omega (arith, later, reading-local doc p k c s, reading-local doc p j c s)
 
+-- and comes to no reading that can't be kept
+local-fits : (doc : Doc) (p j : ℕ) (c : Clocking) → ClockStands doc p c → j ≤ end_beat doc → local doc p j < 18446744073709551615
+local-fits doc p j c s within =
+    let most : j ≤ c.end = omega (arith, within, s.end) in
+    let later = reading-monotone c j c.end most in
+    omega (arith, later, s.fits, reading-local doc p j c s)
+
 -- ---- what is known of a process
 
 pub its-clock : (doc : Doc) (p : ℕ) (h : List Entry) (x : Process) → ProcessStands doc p h x → ClockStands doc p (clock_of x)
@@ -115,7 +124,8 @@ module _ (doc : Doc) (k j p : ℕ) (h : List Entry) (later : local doc p k ≤ l
       record {
         at_once = led && is_due_at_once doc (identity p i) h;
         local = sooner (elector_reading doc p h) (only_if led (term_reading doc (identity p i) h));
-        wall = only_if led (term_time (identity p i) h);
+        wall = only_if led (term_time doc (identity p i) h);
+        room = room_at doc (identity p i) h;
       }
 
   -- it acts exactly where it leads, or its deadline is reached at beat j
@@ -162,7 +172,8 @@ module _ (doc : Doc) (k j p : ℕ) (h : List Entry) (later : local doc p k ≤ l
       record {
         at_once = acts_at_once doc k p o h;
         local = sooner (elector_reading doc p h) (if_up p (λ q. only_if (in_term doc q k h) (term_reading doc q h)) o);
-        wall = if_up p (λ q. only_if (in_term doc q k h) (term_time q h)) o;
+        wall = if_up p (λ q. only_if (in_term doc q k h) (term_time doc q h)) o;
+        room = if_up p (λ q. room_at doc q h) o;
       }
 
   abbrev leading_up : Option ℕ → waking.Wakes
@@ -170,15 +181,25 @@ module _ (doc : Doc) (k j p : ℕ) (h : List Entry) (later : local doc p k ≤ l
       record {
         at_once = leads_at_once doc p o h;
         local = sooner (elector_reading doc p h) (if_up p (λ q. only_if (has (deadline doc q h)) (term_reading doc q h)) o);
-        wall = if_up p (λ q. only_if (has (deadline doc q h)) (term_time q h)) o;
+        wall = if_up p (λ q. only_if (has (deadline doc q h)) (term_time doc q h)) o;
+        room = if_up p (λ q. room_at doc q h) o;
       }
 
   life-same : (o : Option ℕ) → alive p h ≡ o → IsAsleep doc j p (acting_up o) ↔ IsAsleep doc j p (leading_up o)
   life-same None up = (λ s. record { at_once = refl; local = s.local; wall = refl }, λ s. record { at_once = refl; local = s.local; wall = refl })
   life-same (Some i) up = up-same i up
 
+  -- the readings of its term as the history has them
+  abbrev term_as : Bool → Option ℕ
+  term_as true = if_up p (λ q. only_if (in_term doc q k h) (term_reading doc q h)) (alive p h)
+  term_as false = None
+
+  abbrev room_as : Bool → Option ℕ
+  room_as true = if_up p (λ q. room_at doc q h) (alive p h)
+  room_as false = None
+
   abbrev waits_as : Bool → waking.Wakes
-  waits_as b = record { at_once = waking.acts_as doc k p b h; local = sooner (own_reading_as doc p b h) (acting_reading doc k p b h); wall = acting_time doc k p b h }
+  waits_as b = record { at_once = waking.acts_as doc k p b h; local = sooner (own_reading_as doc p b h) (term_as b); wall = acting_time doc k p b h; room = room_as b }
 
   sort-same : (b : Bool) → IsAsleep doc j p (waits_as b) ↔ IsAsleep doc j p (wakes_as doc p b h)
   sort-same true = life-same (alive p h) refl
@@ -189,6 +210,53 @@ module _ (doc : Doc) (k j p : ℕ) (h : List Entry) (later : local doc p k ≤ l
 
   pub waits-same : IsAsleep doc j p (waits_as (is_controller doc p)) ↔ IsAsleep doc j p (wakes_of doc p h)
   waits-same = sort-same (is_controller doc p)
+
+  -- a term of which no time of day is waited for waits for no room either
+  pub room-same : (is_early (wall doc p j) (time_at doc k p h) || is_early (local doc p j) (allowed_at doc k p h))
+      ≡ (is_early (wall doc p j) (time_at doc k p h) || is_early (local doc p j) (room_as (is_controller doc p)))
+  room-same = by_sort (is_controller doc p)
+    where
+      by_led : (i : ℕ) (led : Bool) → (is_early (wall doc p j) (only_if led (term_time doc (identity p i) h)) || is_early (local doc p j) (only_if led (room_at doc (identity p i) h)))
+          ≡ (is_early (wall doc p j) (only_if led (term_time doc (identity p i) h)) || is_early (local doc p j) (room_at doc (identity p i) h))
+      by_led i true = refl
+      by_led i false = refl
+
+      by_life : (o : Option ℕ)
+          → (is_early (wall doc p j) (if_up p (λ q. only_if (in_term doc q k h) (term_time doc q h)) o) || is_early (local doc p j) (if_up p (λ q. only_if (in_term doc q k h) (room_at doc q h)) o))
+          ≡ (is_early (wall doc p j) (if_up p (λ q. only_if (in_term doc q k h) (term_time doc q h)) o) || is_early (local doc p j) (if_up p (λ q. room_at doc q h) o))
+      by_life None = refl
+      by_life (Some i) = by_led i (in_term doc (identity p i) k h)
+
+      by_sort : (b : Bool) → (is_early (wall doc p j) (acting_time doc k p b h) || is_early (local doc p j) (acting_room doc k p b h)) ≡ (is_early (wall doc p j) (acting_time doc k p b h) || is_early (local doc p j) (room_as b))
+      by_sort true = by_life (alive p h)
+      by_sort false = refl
+
+  -- what a clock reads tells as much of a reading that is kept
+  module _ (fits : local doc p j < 18446744073709551615) where
+    term-same : (q : Identity) → is_early (local doc p j) (kept_reading doc q h) ≡ is_early (local doc p j) (term_reading doc q h)
+    term-same q =
+        early-sooner (local doc p j) (sync_at doc q h) (option_map kept (synced_reading doc q h))
+        ∙ ap (λ b. is_early (local doc p j) (sync_at doc q h) && b) (kept-same (local doc p j) (synced_reading doc q h) fits)
+        ∙ sym (early-sooner (local doc p j) (sync_at doc q h) (synced_reading doc q h))
+
+    acting-same : (b : Bool) → is_early (local doc p j) (acting_reading doc k p b h) ≡ is_early (local doc p j) (term_as b)
+    acting-same false = refl
+    acting-same true = by_life (alive p h)
+      where
+        by_led : (i : ℕ) (led : Bool) → is_early (local doc p j) (only_if led (kept_reading doc (identity p i) h)) ≡ is_early (local doc p j) (only_if led (term_reading doc (identity p i) h))
+        by_led i true = term-same (identity p i)
+        by_led i false = refl
+
+        by_life : (o : Option ℕ)
+            → is_early (local doc p j) (if_up p (λ q. only_if (in_term doc q k h) (kept_reading doc q h)) o) ≡ is_early (local doc p j) (if_up p (λ q. only_if (in_term doc q k h) (term_reading doc q h)) o)
+        by_life None = refl
+        by_life (Some i) = by_led i (in_term doc (identity p i) k h)
+
+    pub reading-same : is_early (local doc p j) (reading_at doc k p h) ≡ is_early (local doc p j) (sooner (own_reading doc p h) (term_as (is_controller doc p)))
+    reading-same =
+        early-sooner (local doc p j) (own_reading doc p h) (acting_reading doc k p (is_controller doc p) h)
+        ∙ ap (λ b. is_early (local doc p j) (own_reading doc p h) && b) (acting-same (is_controller doc p))
+        ∙ sym (early-sooner (local doc p j) (own_reading doc p h) (term_as (is_controller doc p)))
 
 -- ---- what the world answers
 
@@ -202,20 +270,29 @@ starting-stands doc k p h w starts at_once =
       at_once = at_once ∙ sym (ap (λ b. b || waking.acts_as doc k p (is_controller doc p) h) starts);
       reading = λ none. true-false (sym starts ∙ none);
       time = λ none. true-false (sym starts ∙ none);
+      room = λ none. true-false (sym starts ∙ none);
       asleep = λ none. true-false (sym starts ∙ none);
     }
 
 pub waiting-stands : (doc : Doc) (k p : ℕ) (h : List Entry) (w : Wakes) (c : Clocking) → ClockStands doc p c → starts_now doc k p ≡ false → w.at_once ≡ waking.acts_as doc k p (is_controller doc p) h
-    → reading_of w ≡ reading_at doc k p h → w.wall ≡ time_at doc k p h → WakesStand doc k p h w
-waiting-stands doc k p h w c clock starts at_once reading time =
+    → reading_of w ≡ reading_at doc k p h → w.wall ≡ time_at doc k p h → ((j : ℕ) → k ≤ j → is_early (local doc p j) (room_of w) ≡ is_early (local doc p j) (allowed_at doc k p h)) → WakesStand doc k p h w
+waiting-stands doc k p h w c clock starts at_once reading time room =
     record {
       at_once = at_once ∙ sym (ap (λ b. b || waking.acts_as doc k p (is_controller doc p) h) starts);
       reading = λ none. reading;
       time = λ none. time;
-      asleep = λ none j from within. (let same = waits-same doc k j p h (local-later doc p k j c clock from) in (
-        λ s. same.0 (record { at_once = sym at_once ∙ s.at_once; local = ap (is_early (local doc p j)) (sym reading) ∙ s.local; wall = ap (is_early (wall doc p j)) (sym time) ∙ s.wall }),
-        λ s. (let t = same.1 s in record { at_once = at_once ∙ t.at_once; local = ap (is_early (local doc p j)) reading ∙ t.local; wall = ap (is_early (wall doc p j)) time ∙ t.wall }),
-      ));
+      room = λ none. room;
+      asleep = λ none j from within.
+          let later = local-later doc p k j c clock from in
+          let same = waits-same doc k j p h later in
+          let read = ap (is_early (local doc p j)) reading ∙ reading-same doc k j p h later (local-fits doc p j c clock within) in
+          let shown =
+          ap (λ o. is_early (wall doc p j) o || is_early (local doc p j) (room_of w)) time
+          ∙ ap (λ b. is_early (wall doc p j) (time_at doc k p h) || b) (room j from)
+          ∙ room-same doc k j p h later in (
+            λ s. same.0 (record { at_once = sym at_once ∙ s.at_once; wall = sym shown ∙ s.wall; local = sym read ∙ s.local }),
+            λ s. let t = same.1 s in record { at_once = at_once ∙ t.at_once; wall = shown ∙ t.wall; local = read ∙ t.local },
+          );
     }
 
 -- ---- who doesn't act waits for nothing of a term
@@ -224,9 +301,16 @@ pub record NoTerm (doc : Doc) (k p : ℕ) (h : List Entry) : Type 0 where
   pub at_once : waking.acts_as doc k p (is_controller doc p) h ≡ false
   pub reading : acting_reading doc k p (is_controller doc p) h ≡ None
   pub time : time_at doc k p h ≡ None
+  pub room : allowed_at doc k p h ≡ None
 
 pub no-term : (doc : Doc) (k p : ℕ) (h : List Entry) → in_term_now doc k p h ≡ false → NoTerm doc k p h
-no-term doc k p h none = record { at_once = at-once (is_controller doc p) none; reading = no-reading (is_controller doc p) none; time = no-time (is_controller doc p) none }
+no-term doc k p h none =
+    record {
+      at_once = at-once (is_controller doc p) none;
+      reading = no-reading (is_controller doc p) none;
+      time = no-time (is_controller doc p) none;
+      room = no-room (is_controller doc p) none;
+    }
   where
     at-once : (b : Bool) → processes.in_term_as doc k p b h ≡ false → waking.acts_as doc k p b h ≡ false
     at-once false is = refl
@@ -240,47 +324,58 @@ no-term doc k p h none = record { at_once = at-once (is_controller doc p) none; 
     no-reading false is = refl
     no-reading true is = by_life (alive p h) is
       where
-        by_life : (o : Option ℕ) → in_term_if_up doc k p o h ≡ false → if_up p (λ q. only_if (in_term doc q k h) (term_reading doc q h)) o ≡ None
+        by_life : (o : Option ℕ) → in_term_if_up doc k p o h ≡ false → if_up p (λ q. only_if (in_term doc q k h) (kept_reading doc q h)) o ≡ None
         by_life None is = refl
-        by_life (Some i) is = ap (λ b. only_if b (term_reading doc (identity p i) h)) is
+        by_life (Some i) is = ap (λ b. only_if b (kept_reading doc (identity p i) h)) is
 
     no-time : (b : Bool) → processes.in_term_as doc k p b h ≡ false → acting_time doc k p b h ≡ None
     no-time false is = refl
     no-time true is = by_life (alive p h) is
       where
-        by_life : (o : Option ℕ) → in_term_if_up doc k p o h ≡ false → if_up p (λ q. only_if (in_term doc q k h) (term_time q h)) o ≡ None
+        by_life : (o : Option ℕ) → in_term_if_up doc k p o h ≡ false → if_up p (λ q. only_if (in_term doc q k h) (term_time doc q h)) o ≡ None
         by_life None is = refl
-        by_life (Some i) is = ap (λ b. only_if b (term_time (identity p i) h)) is
+        by_life (Some i) is = ap (λ b. only_if b (term_time doc (identity p i) h)) is
+
+    no-room : (b : Bool) → processes.in_term_as doc k p b h ≡ false → acting_room doc k p b h ≡ None
+    no-room false is = refl
+    no-room true is = by_life (alive p h) is
+      where
+        by_life : (o : Option ℕ) → in_term_if_up doc k p o h ≡ false → if_up p (λ q. only_if (in_term doc q k h) (room_at doc q h)) o ≡ None
+        by_life None is = refl
+        by_life (Some i) is = ap (λ b. only_if b (room_at doc (identity p i) h)) is
 
 own-alone : (doc : Doc) (k p : ℕ) (h : List Entry) → NoTerm doc k p h → reading_at doc k p h ≡ own_reading doc p h
 own-alone doc k p h none = ap (sooner (own_reading doc p h)) none.reading ∙ sooner-alone (own_reading doc p h)
 
 pub idle-stands : (doc : Doc) (k p : ℕ) (h : List Entry) (c : Clocking) (wake : Option Local) → ClockStands doc p c → starts_now doc k p ≡ false → in_term_now doc k p h ≡ false → beats.reading_of wake ≡ own_reading doc p h
-    → WakesStand doc k p h (record { at_once = false; local = wake; wall = None })
+    → WakesStand doc k p h (record { at_once = false; local = wake; wall = None; room = None })
 idle-stands doc k p h c wake clock starts none own =
     let nothing = no-term doc k p h none in
-    waiting-stands doc k p h (record { at_once = false; local = wake; wall = None }) c clock starts (sym nothing.at_once)
+    waiting-stands doc k p h (record { at_once = false; local = wake; wall = None; room = None }) c clock starts (sym nothing.at_once)
     (readings-alike wake ∙ own ∙ sym (own-alone doc k p h nothing))
     (sym nothing.time)
+    (λ j from. ap (is_early (local doc p j)) (sym nothing.room))
 
 -- ---- who acts waits for its term too
 
 pub record ItsTerm (doc : Doc) (k p i : ℕ) (h : List Entry) : Type 0 where
   pub at_once : waking.acts_as doc k p (is_controller doc p) h ≡ is_due_at_once doc (identity p i) h
-  pub reading : acting_reading doc k p (is_controller doc p) h ≡ term_reading doc (identity p i) h
-  pub time : time_at doc k p h ≡ term_time (identity p i) h
+  pub reading : acting_reading doc k p (is_controller doc p) h ≡ kept_reading doc (identity p i) h
+  pub time : time_at doc k p h ≡ term_time doc (identity p i) h
+  pub room : allowed_at doc k p h ≡ room_at doc (identity p i) h
 
 pub its-term : (doc : Doc) (k p i : ℕ) (h : List Entry) → alive p h ≡ Some i → InTermAs doc k p i h → ItsTerm doc k p i h
 its-term doc k p i h up s =
     record {
       at_once = ap (λ b. waking.acts_as doc k p b h) s.sort ∙ ap (λ o. acts_at_once doc k p o h) up ∙ ap (λ b. b && is_due_at_once doc (identity p i) h) s.term;
-      reading = ap (λ b. acting_reading doc k p b h) s.sort ∙ ap (if_up p (λ q. only_if (in_term doc q k h) (term_reading doc q h))) up ∙ ap (λ b. only_if b (term_reading doc (identity p i) h)) s.term;
-      time = ap (λ b. acting_time doc k p b h) s.sort ∙ ap (if_up p (λ q. only_if (in_term doc q k h) (term_time q h))) up ∙ ap (λ b. only_if b (term_time (identity p i) h)) s.term;
+      reading = ap (λ b. acting_reading doc k p b h) s.sort ∙ ap (if_up p (λ q. only_if (in_term doc q k h) (kept_reading doc q h))) up ∙ ap (λ b. only_if b (kept_reading doc (identity p i) h)) s.term;
+      time = ap (λ b. acting_time doc k p b h) s.sort ∙ ap (if_up p (λ q. only_if (in_term doc q k h) (term_time doc q h))) up ∙ ap (λ b. only_if b (term_time doc (identity p i) h)) s.term;
+      room = ap (λ b. acting_room doc k p b h) s.sort ∙ ap (if_up p (λ q. only_if (in_term doc q k h) (room_at doc q h))) up ∙ ap (λ b. only_if b (room_at doc (identity p i) h)) s.term;
     }
 
 -- what a term waits for is its sync and all else
-pub term-reading : (doc : Doc) (q : Identity) (h : List Entry) (sync synced both : Option Local) → local_of both ≡ sooner (local_of sync) (local_of synced) → beats.reading_of sync ≡ sync_at doc q h → beats.reading_of synced ≡ synced_reading doc q h
-    → beats.reading_of both ≡ term_reading doc q h
+pub term-reading : (doc : Doc) (q : Identity) (h : List Entry) (sync synced both : Option Local) → local_of both ≡ sooner (local_of sync) (local_of synced) → beats.reading_of sync ≡ sync_at doc q h → beats.reading_of synced ≡ option_map kept (synced_reading doc q h)
+    → beats.reading_of both ≡ kept_reading doc q h
 term-reading doc q h sync synced both is first rest =
     sym (readings-alike both) ∙ is
     ∙ ap (λ o. sooner o (local_of synced)) (readings-alike sync ∙ first)
@@ -288,11 +383,13 @@ term-reading doc q h sync synced both is first rest =
 
 pub acting-stands : (doc : Doc) (k p i : ℕ) (h : List Entry) (c : Clocking) (wake term : Option Local) (w : Wakes) → ClockStands doc p c → starts_now doc k p ≡ false → ItsTerm doc k p i h → beats.reading_of wake ≡ own_reading doc p h
     → w.at_once ≡ is_due_at_once doc (identity p i) h → reading_of w ≡ sooner (local_of wake) (local_of term)
-    → beats.reading_of term ≡ term_reading doc (identity p i) h → ((now : ℕ) → is_early now w.wall ≡ is_early now (term_time (identity p i) h)) → WakesStand doc k p h w
-acting-stands doc k p i h c wake term w clock starts t own at_once local_is term_is time =
+    → beats.reading_of term ≡ kept_reading doc (identity p i) h → ((now : ℕ) → is_early now w.wall ≡ is_early now (term_time doc (identity p i) h))
+    → ((j : ℕ) → k ≤ j → is_early (local doc p j) (room_of w) ≡ is_early (local doc p j) (room_at doc (identity p i) h)) → WakesStand doc k p h w
+acting-stands doc k p i h c wake term w clock starts t own at_once local_is term_is time room =
     waiting-stands doc k p h w c clock starts (at_once ∙ sym t.at_once)
     (local_is ∙ ap (λ o. sooner o (local_of term)) (readings-alike wake ∙ own) ∙ ap (sooner (own_reading doc p h)) (readings-alike term ∙ term_is ∙ sym t.reading))
-    (early_same w.wall (term_time (identity p i) h) time ∙ sym t.time)
+    (early_same w.wall (term_time doc (identity p i) h) time ∙ sym t.time)
+    (λ j from. room j from ∙ ap (is_early (local doc p j)) (sym t.room))
 
 -- ---- the beat of a turn
 

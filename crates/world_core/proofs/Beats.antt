@@ -11,14 +11,15 @@ use Rattle.kube_objects.proofs.Pauses.{resume_later}
 use Rattle.kube_objects.proofs.Stalls.{awake_later}
 use Rattle.kube_objects.specs.Wire.{Sent, reply_delay, loses_replies, arrival, reply_arrival}
 use Rattle.history.specs.History.{beat, three_steps}
-use Rattle.history.specs.Steps.{start_first, starts_below, first_starts, step_one, answered, step_three, turns, answer_all, deliver_all}
+use Rattle.history.specs.Steps.{start_first, starts_below, first_starts, step_one, answered, turns, answer_all, deliver_all}
 use Rattle.beat_laws.specs.Unticked.{IsUnticked}
 use Rattle.beat_laws.proofs.Unticked.{beat_unticked, steps_unticked}
 use Rattle.wire_calls.proofs.Frames.{wire-next-beat}
 use Rattle.world_core.specs.declared.world.World.{World}
 use Rattle.world_process.specs.Plain.{IsFew}
-use Rattle.world_core.specs.Worlds.{WorldWithin, IsPlaced, WorldStands}
+use Rattle.world_core.specs.Worlds.{AreInTime, IsPlaced, WorldStands, WorldWithin}
 use Rattle.world_process.proofs.Grows.{Grows, grows-on, grows-same, grows-entry, grows-happen_all, grows-turns, few-before}
+use Rattle.world_core.proofs.InTime.{in-time-later, steps-in-time, turns-in-time}
 use Rattle.world_core.proofs.Loops.{grows-deliver_all}
 
 -- ---- starts send nothing
@@ -112,9 +113,18 @@ unticked-three doc k h s = subst (IsUnticked k) (three-is doc k h) (steps_untick
 pub unticked-next : (doc : Doc) (k : ℕ) (h : List Entry) → IsUnticked k h → IsUnticked (k + 1) (turns doc k (processes doc) (three doc k h))
 unticked-next doc k h s = subst (λ n. IsUnticked n (turns doc k (processes doc) (three doc k h))) (sym (add-one k)) (subst (IsUnticked (suc k)) (beat-is doc k h) (beat_unticked doc k h s))
 
+-- ---- entries stand in the order of their beats
+
+pub in-time-three : (doc : Doc) (k : ℕ) (h : List Entry) → AreInTime k h → AreInTime k (three doc k h)
+in-time-three doc k h s = subst (AreInTime k) (three-is doc k h) (steps-in-time doc k h s)
+
+pub in-time-next : (doc : Doc) (k : ℕ) (h : List Entry) → AreInTime k h → AreInTime (k + 1) (turns doc k (processes doc) (three doc k h))
+in-time-next doc k h s =
+    in-time-later k (k + 1) (turns doc k (processes doc) (three doc k h)) (omega arith) (turns-in-time doc k (processes doc) (three doc k h) (in-time-three doc k h s))
+
 -- the next beat begins
-pub world-next : (doc : Doc) (k : ℕ) (h : List Entry) (w : World) → WorldWithin doc k [] [] h w → IsPlaced doc (k + 1) w.place → IsUnticked (k + 1) h → WorldStands doc (k + 1) h (record w { beat = record { 0 = w.beat.0 + 1 } })
-world-next doc k h w s placed unticked =
+pub world-next : (doc : Doc) (k : ℕ) (h : List Entry) (w : World) → WorldWithin doc k [] [] h w → IsPlaced doc (k + 1) w.place → IsUnticked (k + 1) h → AreInTime (k + 1) h → WorldStands doc (k + 1) h (record w { beat = record { 0 = w.beat.0 + 1 } })
+world-next doc k h w s placed unticked timely =
     let d = s.rest.document in
     record {
       within = record {
@@ -129,4 +139,5 @@ world-next doc k h w s placed unticked =
       };
       placed = placed;
       unticked = unticked;
+      in_time = timely;
     }

@@ -8,7 +8,7 @@ use Rattle.kube_objects.specs.declared.script.What.{What}
 use Rattle.kube_objects.specs.declared.script.What.TheVariants as what
 use Rattle.kube_objects.specs.Document.{Doc}
 use Rattle.kube_objects.specs.Elector.{release}
-use Rattle.kube_objects.specs.Entry.{Entry, Identity, Release, Sends, Stops, Event as Happened, entry, script_entry}
+use Rattle.kube_objects.specs.Entry.{Entry, Identity, Release, Stops, Event as Happened, entry, script_entry}
 use Rattle.kube_objects.specs.Identities.{identity}
 use Rattle.kube_objects.specs.InFlight.{requests_due, replies_due}
 use Rattle.kube_objects.specs.Newest.{only_if}

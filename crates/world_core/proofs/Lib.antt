@@ -14,9 +14,10 @@ pub mod MidBeat
 pub mod Scripts
 -- ---- layer 4: the steps of a beat, and beats that are passed over
 pub mod Loops
+pub mod Ticking
+pub mod InTime
 pub mod Beats
 pub mod Happening
-pub mod Ticking
 pub mod Turns
 pub mod Noting
 pub mod Passing

@@ -20,6 +20,7 @@ use Rattle.wire_calls.specs.WireStands.{InOrder, IsQuiet, NextIs, WireStands, as
 use Rattle.world_process.proofs.Names.{eq-is, eq-self, le-from, lt-from}
 use Rattle.world_core.specs.declared.world.World.{World}
 use Rattle.world_core.specs.Worlds.{AreQuiet, IsPlaced, WorldStands}
+use Rattle.world_core.proofs.InTime.{in-time-later}
 
 -- ---- the wire
 
@@ -135,6 +136,7 @@ world-skips doc k at h w most quiet s =
       };
       placed = placed-skips doc k at.0 w.place h most quiet s.placed;
       unticked = unticked_later k at.0 h s.unticked most;
+      in_time = in-time-later k at.0 h most s.in_time;
     }
 
 -- ---- the next event

@@ -33,7 +33,7 @@ use Rattle.world_process.proofs.Plainly.{known-later, plain-entry}
 use Rattle.world_process.proofs.Acting.{ticks-none, ticks-paused, ticks-stalled}
 use Rattle.world_process.proofs.Processes.{process-others}
 use Rattle.world_core.specs.declared.world.World.{World}
-use Rattle.world_core.specs.Worlds.{IsReady, Keeps, MidBeat, OthersStand, WorldWithin}
+use Rattle.world_core.specs.Worlds.{AreInTime, IsReady, Keeps, MidBeat, OthersStand, WorldWithin}
 use Rattle.world_core.specs.Waits.{awake_turn, turn_if}
 use Rattle.world_core.proofs.Around.{Around, alive-known}
 use Rattle.world_core.proofs.MidBeat.{Moved, within-moved}
@@ -68,8 +68,9 @@ few-ticks doc k p q h few =
     let least = nodes_are_named doc k q h in
     omega (arith, most, least)
 
-pub can-tick : (doc : Doc) (k p : ℕ) (h : List Entry) → is_stalled doc k ≡ false → IsUntickedFrom k p h → IsFew (own_ticks doc k p h) → CanTick doc k p h
-can-tick doc k p h goes unticked few = record { fresh = λ q own. unticked q (omega (arith, own)); few = λ q. few-ticks doc k p q h few; goes = goes }
+pub can-tick : (doc : Doc) (k p : ℕ) (h : List Entry) → is_stalled doc k ≡ false → IsUntickedFrom k p h → AreInTime k h → IsFew (own_ticks doc k p h) → CanTick doc k p h
+can-tick doc k p h goes unticked timely few =
+    record { fresh = λ q own. unticked q (omega (arith, own)); few = λ q. few-ticks doc k p q h few; goes = goes; in_beats = timely.in_beats; upto = timely.upto }
 
 -- ---- the world around a process that ticks
 

@@ -30,6 +30,7 @@ use Rattle.object_store.specs.Stands.{StoreStands}
 use Rattle.pause_times.specs.declared.stalls.Stalls.{Stalls}
 use Rattle.pause_times.specs.Owned.{StallsStand}
 use Rattle.script_reader.specs.Lawful.{IsLawfulDoc, IsLawfulWhat, IsWellNamed, AreLawfulFrom}
+use Rattle.tick_laws.specs.Room.{AreInBeats, AreUpTo}
 use Rattle.wire_calls.specs.declared.wire.Wire.{Wire}
 use Rattle.wire_calls.specs.WireStands.{WireStands}
 use Rattle.world_process.specs.declared.process.Process.{Process}
@@ -157,11 +158,17 @@ pub record WorldWithin (doc : Doc) (k : ℕ) (arriving : List Sent) (coming : Li
   pub rest : RestStands doc k arriving coming h w
   pub processes : EachStands doc h w.processes.items
 
+-- entries stand in the order of their beats, none of a later one than this
+pub record AreInTime (k : ℕ) (h : List Entry) : Type 0 where
+  pub in_beats : AreInBeats h
+  pub upto : AreUpTo k h
+
 -- the world before beat k, whose history is h
 pub record WorldStands (doc : Doc) (k : ℕ) (h : List Entry) (w : World) : Type 0 where
   pub within : WorldWithin doc k (requests_due k h) (replies_due k h) h w
   pub placed : IsPlaced doc k w.place
   pub unticked : IsUnticked k h
+  pub in_time : AreInTime k h
 
 -- within a beat, with what was printed before the beat and in it
 pub record MidBeat (doc : Doc) (k : ℕ) (before : List Deed) (arriving : List Sent) (coming : List Back) (h : List Entry) (w : World)

@@ -5,30 +5,38 @@ ghost use Rattle.world_core.specs.Waits.{beat_of};
 
 use kube_base::{Beat, Local};
 
-/// What a process waits for: something that is there already, a reading of its clock, or a time of day in microseconds since 1970.
+/// What a process waits for: something that is there already, a reading of its clock, or a time of day in microseconds since 1970 that
+/// counts from another reading on, which is none where it never does.
 #[derive(Clone, Copy, Debug, PartialEq, Eq)]
 pub struct Wakes {
     pub at_once: bool,
     pub local: Option<Local>,
     pub wall: Option<u128>,
+    pub room: Option<Local>,
 }
 
 impl Wakes {
     /// Something is there already.
     pub(crate) fn at_once() -> Wakes
-        ensures { result ≡ record { at_once = true; local = None; wall = None } }
+        ensures { result ≡ record { at_once = true; local = None; wall = None; room = None } }
     {
-        Wakes::with(true, None, None)
+        Wakes::with(true, None, None, None)
     }
 
     /// This is waited for.
-    pub(crate) fn with(at_once: bool, local: Option<Local>, wall: Option<u128>) -> Wakes
-        ensures { result ≡ record { at_once = at_once; local = local; wall = wall } }
+    pub(crate) fn with(
+        at_once: bool,
+        local: Option<Local>,
+        wall: Option<u128>,
+        room: Option<Local>,
+    ) -> Wakes
+        ensures { result ≡ record { at_once = at_once; local = local; wall = wall; room = room } }
     {
         Wakes {
             at_once,
             local,
             wall,
+            room,
         }
     }
 }

@@ -8,12 +8,13 @@ use Rattle.kube_objects.specs.Entry.{Entry, Identity, Tick, Ticks, Pass, actor_o
 use Rattle.kube_objects.specs.Health.{is_after_pass, is_pass_due, last_pass, pass_period, pass_says}
 use Rattle.kube_objects.specs.Identities.{is_by}
 use Rattle.kube_objects.specs.Newest.{added, has, when}
-use Rattle.kube_objects.specs.Seen.{is_pod, is_synced}
+use Rattle.kube_objects.specs.Seen.{is_pod, is_synced, seen_pod}
 use Rattle.kube_objects.specs.Tick.{add, cleaned, evicted, pass, sync, tainted, tick, whole_pass, phases}
 use Rattle.history_laws.proofs.Plainly.{false_is, true_is, upper}
 use Rattle.controller_core.proofs.Between.{unsynced_none}
 use Rattle.tick_laws.specs.Judged.{due_as, is_dirty, seen_due}
 use Rattle.tick_laws.proofs.Foreign.{foreign_change}
+use Rattle.tick_laws.proofs.Frames.{same_pod}
 use Rattle.tick_laws.proofs.Phases.{foreign_limits, pass_rest}
 use Rattle.tick_laws.proofs.Ticked.{cleaned_ticked, evicted_ticked, pass_ticked, tainted_ticked, ticked_keeps, ticked_synced, ticked_then}
 use Rattle.tick_laws.proofs.Tried.{same_dirties, same_dues}
@@ -42,6 +43,10 @@ unticked_never q key [] none = by_kind (is_pod key.kind)
     by_kind true = refl
     by_kind false = refl
 unticked_never q key (e ∷ h) none = let p = both q h (is_tick_by q e.actor e.fact) none in same_dues q h (e ∷ h) (foreign_change q h e p.0) key ∙ unticked_never q key h p.1
+
+pub unticked_unseen : (q : Identity) (key : Key) (h : List Entry) → ticks q h ≡ 0 → seen_pod q key h ≡ None
+unticked_unseen q key [] none = refl
+unticked_unseen q key (e ∷ h) none = let p = both q h (is_tick_by q e.actor e.fact) none in same_pod q key h (e ∷ h) ((foreign_change q h e p.0).shown key) ∙ unticked_unseen q key h p.1
 
 pub begun_new : (q : Identity) (h : List Entry) → ticks q h ≡ 0 → HasBegun q h
 begun_new q h none = record { unsynced = λ is. none; passed = λ is. absurd (false_is (sym (unsynced q h none) ∙ is)) }

@@ -4,13 +4,14 @@ use Rattle.std.proofs.Math.Dec.{leb-zero}
 use Rattle.std.proofs.Math.Nat.{le-mul_of_pos_right}
 use Rattle.std.proofs.Math.IntN.{neg_ℤ, pos-*ℤ-pos, negsuc-*ℤ-pos}
 use Rattle.std.proofs.Common.{SFits, T, ◌≤◌, if◌then◌else◌, ◌≡◌, ℕ, ℤ, pos, negsuc, zero, suc, ◌*◌, ◌-◌, ◌++◌, nat_le, ◌*ℤ◌, ◌≤ℤ◌, w64, Bool, true, false, List, [], ◌∷◌, Some, refl, sym, ap, ◌∙◌, subst, arith}
+use Rattle.kube_base.specs.Bounds.{most_local}
 use Rattle.kube_objects.specs.declared.script.Event.{Event}
 use Rattle.kube_objects.specs.declared.script.Proc.{Proc}
 use Rattle.kube_objects.specs.declared.settings.Settings.{Settings}
 use Rattle.kube_objects.specs.Clocks.{moved, last_rate}
 use Rattle.kube_objects.specs.Document.{Doc, field, process_at, first_rate}
 use Rattle.kube_objects.specs.Newest.{or_else}
-use Rattle.skew_clock.specs.Clocking.{Clocking, moved as moved_micros, rate_at}
+use Rattle.skew_clock.specs.Clocking.{Clocking, moved as moved_micros, rate_at, reading}
 use Rattle.pause_times.specs.declared.pauses.Pauses.{Pauses}
 use Rattle.pause_times.specs.Owned.{PausesStand, pauses_of}
 use Rattle.script_reader.specs.Lawful.{AreLawful}
@@ -40,8 +41,8 @@ from-first j = leb-zero j
 
 pub clock-first : (doc : Doc) (p me : ℕ) (s : Settings) (x : Proc) (es : List Event) (first c : Clocking) (offset : ℤ) → offset ≡ x.offset_millis *ℤ pos 1000 → me ≡ p → doc.settings ≡ s → process_at doc p ≡ Some x → doc.events ≡ es →
     first ≡ record { epoch = s.epoch.0; offset = offset; beat_micros = s.beat_millis * 1000; end = s.end_beat.0; sets = (0, x.rate_ppm) ∷ [] } → SameSpan first c →
-    ((j : ℕ) → rate_at c.sets j ≡ or_else (rate_at first.sets j) (last_rate me j es)) → ClockStands doc p c
-clock-first doc p me s x es first c offset offset_is me_is settings process events is same rates =
+    ((j : ℕ) → rate_at c.sets j ≡ or_else (rate_at first.sets j) (last_rate me j es)) → reading c c.end ≤ most_local → ClockStands doc p c
+clock-first doc p me s x es first c offset offset_is me_is settings process events is same rates fits =
     record {
       epoch = same.epoch ∙ ap (λ y. y.epoch) is ∙ ap (λ y. y.epoch.0) (sym settings);
       offset = λ at. ap (λ z. moved_micros z at) (same.offset ∙ ap (λ y. y.offset) is ∙ offset_is) ∙ moved-millis x.offset_millis at ∙ ap (λ y. moved (field (λ z. z.offset_millis) (pos 0) y) at) (sym process);
@@ -53,6 +54,7 @@ clock-first doc p me s x es first c offset offset_is me_is settings process even
           ∙ ap (λ y. or_else (field (λ z. z.rate_ppm) 0 y) (last_rate me j es)) (sym process)
           ∙ ap (λ n. or_else (first_rate doc p) (last_rate n j es)) me_is
           ∙ ap (λ xs. or_else (first_rate doc p) (last_rate p j xs)) (sym events);
+      fits = fits;
     }
 
 -- ---- its pauses

@@ -1,5 +1,5 @@
 -- For what a term's tick is wanted, as the agenda reads it from the history.
-use Rattle.std.proofs.Common.{◌≡◌, ◌↔◌, ◌∙◌, ◌⊎◌, inl, inr, ℕ, ◌+◌, ◌≤◌, ◌&&◌, ◌||◌, not, nat_lt, Bool, true, false, List, [], ◌∷◌, Option, Some, None, IfSome, IfNone, option_map, refl, sym, ap, arith}
+use Rattle.std.proofs.Common.{◌≡◌, ◌↔◌, ◌∙◌, ◌⊎◌, inl, inr, ℕ, ◌+◌, ◌≤◌, ◌<◌, ◌==◌, min, ◌&&◌, ◌||◌, not, nat_lt, cond, Bool, true, false, List, [], ◌∷◌, Option, Some, None, IfSome, IfNone, option_map, refl, sym, ap, arith}
 use Rattle.std.proofs.lemmas.Bool.Decides.{nat_tests}
 use Rattle.std.specs.List.{list_any}
 use Rattle.kube_base.specs.declared.numbers.Local.{Local}
@@ -9,37 +9,44 @@ use Rattle.kube_objects.specs.declared.node.Node.{Node}
 use Rattle.kube_objects.specs.declared.pod.Due.{Due}
 use Rattle.kube_objects.specs.declared.pod.Due.TheVariants.{Never, At}
 use Rattle.kube_objects.specs.declared.pod.Pod.{Pod}
+use Rattle.kube_objects.specs.declared.rules.EvictRule.{EvictRule}
+use Rattle.kube_objects.specs.declared.rules.EvictRule.TheVariants as evictions
 use Rattle.kube_objects.specs.Clocks.{local}
-use Rattle.kube_objects.specs.Document.{Doc, of_millis}
+use Rattle.kube_objects.specs.Document.{Doc}
 use Rattle.kube_objects.specs.Entry.{Entry, Identity, Place}
-use Rattle.kube_objects.specs.Health.{last_pass}
+use Rattle.kube_objects.specs.Health.{last_pass, pass_period}
 use Rattle.kube_objects.specs.Modes.{mode, nodes, places}
 use Rattle.kube_objects.specs.Newest.{has, only_if}
 use Rattle.kube_objects.specs.Seen.{is_pod, is_stale, is_synced, node_names, pod_keys, seen_node, seen_pod}
+use Rattle.kube_objects.specs.Sightings.{sighted_due}
 use Rattle.kube_objects.specs.Stored.{node_key}
 use Rattle.kube_objects.specs.Tainting.{Queued, Wants, Nothing, Wanted, Whatever, head_of, waits, wants}
+use Rattle.kube_objects.specs.Tick.{has_room}
 use Rattle.kube_objects.specs.Tokens.{base, rated}
 use Rattle.kube_objects.specs.Tolerations.{due}
 use Rattle.history_laws.proofs.Plainly.{false_is, none_is}
 use Rattle.history_laws.proofs.Ticks.{Each, IsPodKey, pods_only}
 use Rattle.agenda_laws.specs.Ticking as agenda
-use Rattle.agenda_laws.specs.Ticking.{due_at, due_seen, dues_at, heads_at, is_clean_due, is_due_at_once, is_sync_at_once, is_unclean, is_unclean_seen, pass_at, synced_reading, term_time, time_of, token_at}
+use Rattle.agenda_laws.specs.Ticking.{due_at, due_at_by, due_seen, due_sighted, dues_at, heads_at, is_clean_due, is_due_at_once, is_sync_at_once, is_unclean, is_unclean_seen, pass_at, room_at, room_from, synced_reading, term_time, time_of, token_at}
 use Rattle.agenda_laws.specs.Times.{is_early, sooner}
 use Rattle.agenda_laws.proofs.Between.{both_sooner, early_same, sooner_both}
-use Rattle.agenda_laws.proofs.Ticking.{early_heads, grown_waits, heads_early}
+use Rattle.agenda_laws.proofs.Ticking.{early_heads, grown_waits, heads_early, rooms_wake}
 use Rattle.controller_core.proofs.Starting.{no_pass}
-use Rattle.controller_core.specs.Wakes.{IsAwaited, IsLeastAwaited, IsTokenReading, is_token_at, pass_reading}
-use Rattle.tick_laws.specs.Judged.{cleans, dirty_as, due_as, due_on, is_dirty, seen_due}
+use Rattle.controller_core.specs.Wakes.{IsAwaited, IsLeastAwaited, IsRoomReading, IsTokenReading, is_before, is_token_at, pass_reading}
+use Rattle.controller_core.specs.Working.{kept}
+use Rattle.tick_laws.specs.Judged.{cleans, dirty_as, due_as, due_by, due_on, is_dirty, sighted_as, term_due}
+use Rattle.tick_laws.specs.Room.{AreUpTo}
 use Rattle.tick_laws.specs.Walks.{Among}
 use Rattle.tick_laws.proofs.Cleaning.{dirty_seen}
-use Rattle.tick_laws.proofs.Evicting.{due_seen as seen_as_due}
+use Rattle.tick_laws.proofs.Evicting.{due_seen as seen_as_due, due_sighted as sighted_as_due}
 use Rattle.tick_laws.proofs.Named.{node_is_named, pod_is_named}
 use Rattle.tick_laws.proofs.Quiet.{head_some}
 use Rattle.tick_laws.proofs.Heads.{head_waits}
 use Rattle.tick_laws.proofs.Tainting.{since_waits, waiting, waiting_place}
+use Rattle.watch_cache.specs.Stands.{ticks}
 use Rattle.world_process.specs.Beats.{reading_of}
 use Rattle.world_process.specs.OwnTerm.{HasBegun}
-use Rattle.world_process.proofs.Begun.{unticked_clean, unticked_never}
+use Rattle.world_process.proofs.Begun.{unticked_clean, unticked_never, unticked_unseen}
 
 -- ---- tests
 
@@ -118,6 +125,39 @@ early-always : (now : ℕ) (b : Bool) (o : Option ℕ) → (b ≡ true → is_ea
 early-always now true o is = is refl
 early-always now false o is = refl
 
+-- a reading as it is kept comes no later, and where it comes is one that can be kept
+below : (now at : ℕ) → nat_lt now at ≡ true → at ≤ 18446744073709551615 → now < 18446744073709551615
+below now at before fits = let less : now < at = grind (arith, nat_tests) in omega (arith, less, fits)
+
+early-kept : (now : ℕ) (o : Option ℕ) → now < 18446744073709551615 → is_early now o ≡ true → is_early now (option_map kept o) ≡ true
+early-kept now None within early = refl
+early-kept now (Some at) within early =
+    let less : now < at = grind (arith, nat_tests) in
+    let still : now < kept at = omega (arith, less, within) in
+    grind (arith, nat_tests)
+
+kept-early : (now : ℕ) (o : Option ℕ) → is_early now (option_map kept o) ≡ true → is_early now o ≡ true
+kept-early now None early = refl
+kept-early now (Some at) early =
+    let least : ℕ = kept at in
+    let less : now < least = grind (arith, nat_tests) in
+    let more : now < at = omega (arith, less) in
+    grind (arith, nat_tests)
+
+pub kept-same : (now : ℕ) (o : Option ℕ) → now < 18446744073709551615 → is_early now (option_map kept o) ≡ is_early now o
+kept-same now o within = same-tests (is_early now (option_map kept o)) (is_early now o) (kept-early now o) (early-kept now o within)
+
+fits : (now at : ℕ) → nat_lt now (kept at) ≡ true → nat_lt now 18446744073709551615 ≡ true
+fits now at early =
+    let least : ℕ = kept at in
+    let less : now < least = grind (arith, nat_tests) in
+    let more : now < 18446744073709551615 = omega (arith, less) in
+    grind (arith, nat_tests)
+
+within-kept : (now one : ℕ) (o : Option ℕ) → is_early now (option_map kept (sooner (Some one) o)) ≡ true → nat_lt now 18446744073709551615 ≡ true
+within-kept now one None early = fits now one early
+within-kept now one (Some other) early = fits now (min one other) early
+
 not-early : (at : ℕ) → is_early at (Some at) ≡ true → ⊥
 not-early at is = grind (arith, nat_tests)
 
@@ -175,7 +215,7 @@ module _ (doc : Doc) (q : Identity) (h : List Entry) where
   same-pass : ¬ (last_pass q h ≡ None) → pass_reading doc q h ≡ pass_at doc q h
   same-pass some = by_pass (last_pass q h) refl
     where
-      by_pass : (o : Option ℕ) → last_pass q h ≡ o → option_map (λ k. local doc q.process k + of_millis doc.settings.monitor_period_millis) o ≡ Some (agenda.pass_after doc q o)
+      by_pass : (o : Option ℕ) → last_pass q h ≡ o → option_map (λ k. local doc q.process k + pass_period doc q h) o ≡ Some (agenda.pass_after doc q (pass_period doc q h) o)
       by_pass None is = absurd (some is)
       by_pass (Some last) is = refl
 
@@ -187,14 +227,17 @@ module _ (doc : Doc) (q : Identity) (h : List Entry) where
         by_head None is = refl
         by_head (Some other) is = let le = s.least other (inr (zone, head-reading zone other is)) in grind (arith, nat_tests)
 
-    before-all : (now : ℕ) → nat_lt now at ≡ true → is_early now least_reading ≡ true
-    before-all now before =
-        let le = s.least (agenda.pass_after doc q (last_pass q h)) (inl (same-pass some)) in
+    before-exact : (now : ℕ) → nat_lt now at ≡ true → is_early now least_reading ≡ true
+    before-exact now before =
+        let le = s.least (agenda.pass_after doc q (pass_period doc q h) (last_pass q h)) (inl (same-pass some)) in
         let pass : is_early now (pass_at doc q h) ≡ true = grind (arith, nat_tests) in
         both_sooner now (pass_at doc q h) (heads_at doc q (places (nodes q h)) h) pass (early_heads doc q now (places (nodes q h)) h (λ zone among. early-zone now before zone))
 
-    all-before : (now : ℕ) → is_early now least_reading ≡ true → nat_lt now at ≡ true
-    all-before now early = by_cause s.there (sooner_both now (pass_at doc q h) (heads_at doc q (places (nodes q h)) h) early)
+    before-all : (now : ℕ) → nat_lt now at ≡ true → is_early now (option_map kept least_reading) ≡ true
+    before-all now before = early-kept now least_reading (below now at before s.fits) (before-exact now before)
+
+    exact-before : IsAwaited doc q h at → (now : ℕ) → is_early now least_reading ≡ true → nat_lt now at ≡ true
+    exact-before there now early = by_cause there (sooner_both now (pass_at doc q h) (heads_at doc q (places (nodes q h)) h) early)
       where
         by_cause : IsAwaited doc q h at → (is_early now (pass_at doc q h) ≡ true) × (is_early now (heads_at doc q (places (nodes q h)) h) ≡ true) → nat_lt now at ≡ true
         by_cause (inl pass) e = ap (is_early now) (sym pass ∙ same-pass some) ∙ e.0
@@ -202,8 +245,15 @@ module _ (doc : Doc) (q : Identity) (h : List Entry) where
             let r = reading-head head.0 at head.1 in
             ap (is_early now) (sym r.0) ∙ heads_early doc q now (places (nodes q h)) h e.1 head.0 r.1
 
-    synced-is : Some at ≡ least_reading
-    synced-is = early_same (Some at) least_reading (λ now. same-tests (nat_lt now at) (is_early now least_reading) (before-all now) (all-before now))
+    all-before : (now : ℕ) → is_early now (option_map kept least_reading) ≡ true → nat_lt now at ≡ true
+    all-before now early = by_there s.there
+      where
+        by_there : IsAwaited doc q h at ⊎ (at ≡ 18446744073709551615) → nat_lt now at ≡ true
+        by_there (inl there) = exact-before there now (kept-early now least_reading early)
+        by_there (inr greatest) = ap (nat_lt now) greatest ∙ within-kept now (agenda.pass_after doc q (pass_period doc q h) (last_pass q h)) (heads_at doc q (places (nodes q h)) h) early
+
+    synced-is : Some at ≡ option_map kept least_reading
+    synced-is = early_same (Some at) (option_map kept least_reading) (λ now. same-tests (nat_lt now at) (is_early now (option_map kept least_reading)) (before-all now) (all-before now))
 
   module _ (begun : HasBegun q h) where
     not-synced : last_pass q h ≡ None → (b : Bool) → is_synced q h ≡ b → b ≡ false
@@ -214,15 +264,15 @@ module _ (doc : Doc) (q : Identity) (h : List Entry) where
     synced-once some true is = refl
     synced-once some false is = absurd (some (no_pass q h (begun.unsynced is)))
 
-    pub reading-is : (o : Option Local) → IfNone o (last_pass q h ≡ None) → IfSome o (λ at. ¬ (last_pass q h ≡ None)) → IfSome o (λ at. IsLeastAwaited doc q h at.0) → reading_of o ≡ synced_reading doc q h
-    reading-is None none some least = sym (ap (λ b. only_if b least_reading) (not-synced none (is_synced q h) refl))
-    reading-is (Some at) none some least = synced-is some at.0 least ∙ ap (λ b. only_if b least_reading) (sym (synced-once some (is_synced q h) refl))
+    pub reading-is : (o : Option Local) → IfNone o (last_pass q h ≡ None) → IfSome o (λ at. ¬ (last_pass q h ≡ None)) → IfSome o (λ at. IsLeastAwaited doc q h at.0) → reading_of o ≡ option_map kept (synced_reading doc q h)
+    reading-is None none some least = sym (ap (λ b. option_map kept (only_if b least_reading)) (not-synced none (is_synced q h) refl))
+    reading-is (Some at) none some least = synced-is some at.0 least ∙ ap (λ b. option_map kept (only_if b least_reading)) (sym (synced-once some (is_synced q h) refl))
 
 -- ---- from a time of day
 
-module _ (q : Identity) (h : List Entry) where
-  time-is : (key : Key) → is_pod key.kind ≡ true → due_at q key h ≡ time_of (seen_due q key h)
-  time-is key kind = by_stale (is_stale q key h) (seen_pod q key h) ∙ ap (λ b. time_of (due_as q (not b || is_stale q key h) (seen_pod q key h) h)) (sym kind)
+module _ (doc : Doc) (q : Identity) (h : List Entry) where
+  time-is : (key : Key) → is_pod key.kind ≡ true → due_at doc q key h ≡ time_of (term_due doc q key h)
+  time-is key kind = by_rule doc.settings.rules.evict_from
     where
       by_node : (x : Pod) (o : Option (Version × Node)) → agenda.due_on x o ≡ time_of (due_on x o)
       by_node x None = refl
@@ -233,39 +283,104 @@ module _ (q : Identity) (h : List Entry) where
       by_stale false None = refl
       by_stale false (Some x) = by_node x.1 (seen_node q x.1.node h)
 
-  all-early : (w : ℕ) → ((key : Key) → is_early w (time_of (seen_due q key h)) ≡ true) → (keys : List Key) → Each IsPodKey keys → is_early w (dues_at q keys h) ≡ true
-  all-early w each [] kinds = refl
-  all-early w each (key ∷ keys) kinds = both_sooner w (due_at q key h) (dues_at q keys h) (ap (is_early w) (time-is key kinds.0) ∙ each key) (all-early w each keys kinds.1)
+      by_sight : (b : Bool) (o : Option (Version × Pod)) (at : Due) → due_sighted b o at ≡ time_of (sighted_as b o at)
+      by_sight true o at = refl
+      by_sight false None at = refl
+      by_sight false (Some x) at = refl
 
-  each-early : (w : ℕ) (key : Key) (keys : List Key) → Among key keys → is_early w (dues_at q keys h) ≡ true → is_early w (due_at q key h) ≡ true
+      by_rule : (rule : EvictRule) → due_at_by rule doc q key h ≡ time_of (due_by rule doc q key h)
+      by_rule evictions.Added = by_stale (is_stale q key h) (seen_pod q key h) ∙ ap (λ b. time_of (due_as q (not b || is_stale q key h) (seen_pod q key h) h)) (sym kind)
+      by_rule evictions.Seen =
+          by_sight (is_stale q key h) (seen_pod q key h) (sighted_due doc q key h)
+          ∙ ap (λ b. time_of (sighted_as (not b || is_stale q key h) (seen_pod q key h) (sighted_due doc q key h))) (sym kind)
+
+  all-early : (w : ℕ) → ((key : Key) → is_early w (time_of (term_due doc q key h)) ≡ true) → (keys : List Key) → Each IsPodKey keys → is_early w (dues_at doc q keys h) ≡ true
+  all-early w each [] kinds = refl
+  all-early w each (key ∷ keys) kinds = both_sooner w (due_at doc q key h) (dues_at doc q keys h) (ap (is_early w) (time-is key kinds.0) ∙ each key) (all-early w each keys kinds.1)
+
+  each-early : (w : ℕ) (key : Key) (keys : List Key) → Among key keys → is_early w (dues_at doc q keys h) ≡ true → is_early w (due_at doc q key h) ≡ true
   each-early w key [] at early = absurd at
-  each-early w key (k ∷ keys) (inl is) early = ap (λ x. is_early w (due_at q x h)) is ∙ (sooner_both w (due_at q k h) (dues_at q keys h) early).0
-  each-early w key (k ∷ keys) (inr at) early = each-early w key keys at (sooner_both w (due_at q k h) (dues_at q keys h) early).1
+  each-early w key (k ∷ keys) (inl is) early = ap (λ x. is_early w (due_at doc q x h)) is ∙ (sooner_both w (due_at doc q k h) (dues_at doc q keys h) early).0
+  each-early w key (k ∷ keys) (inr at) early = each-early w key keys at (sooner_both w (due_at doc q k h) (dues_at doc q keys h) early).1
+
+  -- only a pod that is seen is ever due
+  record IsSeenPod (key : Key) : Type 0 where
+    kind : is_pod key.kind ≡ true
+    x : Version × Pod
+    sees : seen_pod q key h ≡ Some x
+
+  due-seen : (key : Key) (at : ℕ) → term_due doc q key h ≡ At at → IsSeenPod key
+  due-seen key at is = by_rule doc.settings.rules.evict_from is
+    where
+      by_rule : (rule : EvictRule) → due_by rule doc q key h ≡ At at → IsSeenPod key
+      by_rule evictions.Added is = let s = seen_as_due q key h at is in record { kind = s.kind; x = s.x; sees = s.sees }
+      by_rule evictions.Seen is = let s = sighted_as_due doc q key h at is in record { kind = s.kind; x = s.x; sees = s.sees }
+
+  -- before the first tick none is
+  unticked-due : (key : Key) → ticks q h ≡ 0 → term_due doc q key h ≡ Never
+  unticked-due key none = by_rule doc.settings.rules.evict_from
+    where
+      by_sight : (b : Bool) (at : Due) → sighted_as b None at ≡ Never
+      by_sight true at = refl
+      by_sight false at = refl
+
+      by_rule : (rule : EvictRule) → due_by rule doc q key h ≡ Never
+      by_rule evictions.Added = unticked_never q key h none
+      by_rule evictions.Seen =
+          ap (λ o. sighted_as (not (is_pod key.kind) || is_stale q key h) o (sighted_due doc q key h)) (unticked_unseen q key h none)
+          ∙ by_sight (not (is_pod key.kind) || is_stale q key h) (sighted_due doc q key h)
 
   module _ (begun : HasBegun q h) where
-    due-synced : (key : Key) (at : ℕ) → seen_due q key h ≡ At at → (b : Bool) → is_synced q h ≡ b → b ≡ true
+    due-synced : (key : Key) (at : ℕ) → term_due doc q key h ≡ At at → (b : Bool) → is_synced q h ≡ b → b ≡ true
     due-synced key at due true is = refl
-    due-synced key at due false is = absurd (never-at at (sym (unticked_never q key h (begun.unsynced is)) ∙ due))
+    due-synced key at due false is = absurd (never-at at (sym (unticked-due key (begun.unsynced is)) ∙ due))
       where
         never-at : (at : ℕ) → Never ≡ At at → ⊥
         never-at at is = cc
 
-    later : (w at : ℕ) → ((key : Key) (other : ℕ) → seen_due q key h ≡ At other → at ≤ other) → nat_lt w at ≡ true → (key : Key) → is_early w (time_of (seen_due q key h)) ≡ true
-    later w at least before key = by_due (seen_due q key h) refl
+    later : (w at : ℕ) → ((key : Key) (other : ℕ) → term_due doc q key h ≡ At other → at ≤ other) → nat_lt w at ≡ true → (key : Key) → is_early w (time_of (term_due doc q key h)) ≡ true
+    later w at least before key = by_due (term_due doc q key h) refl
       where
-        by_due : (d : Due) → seen_due q key h ≡ d → is_early w (time_of d) ≡ true
+        by_due : (d : Due) → term_due doc q key h ≡ d → is_early w (time_of d) ≡ true
         by_due Never is = refl
         by_due (At other) is = let le = least key other is in grind (arith, nat_tests)
 
-    sooner-than : (w at : ℕ) (key : Key) → seen_due q key h ≡ At at → is_early w (dues_at q (pod_keys h) h) ≡ true → nat_lt w at ≡ true
+    sooner-than : (w at : ℕ) (key : Key) → term_due doc q key h ≡ At at → is_early w (dues_at doc q (pod_keys h) h) ≡ true → nat_lt w at ≡ true
     sooner-than w at key is early =
-        let s = seen_as_due q key h at is in
+        let s = due-seen key at is in
         ap (is_early w) (sym (time-is key s.kind ∙ ap time_of is)) ∙ each-early w key (pod_keys h) (pod_is_named q key h s.x s.kind s.sees) early
 
-    pub time-least : (w : ℕ) (o : Option ℕ) → IfSome o (λ at. (key : Key) × (seen_due q key h ≡ At at)) → IfSome o (λ at. (key : Key) (other : ℕ) → seen_due q key h ≡ At other → at ≤ other)
-        → IfNone o ((key : Key) → seen_due q key h ≡ Never) → is_early w o ≡ is_early w (term_time q h)
+    pub time-least : (w : ℕ) (o : Option ℕ) → IfSome o (λ at. (key : Key) × (term_due doc q key h ≡ At at)) → IfSome o (λ at. (key : Key) (other : ℕ) → term_due doc q key h ≡ At other → at ≤ other)
+        → IfNone o ((key : Key) → term_due doc q key h ≡ Never) → is_early w o ≡ is_early w (term_time doc q h)
     time-least w None there least none =
-        sym (early-always w (is_synced q h) (dues_at q (pod_keys h) h) (λ _. all-early w (λ key. ap (λ d. is_early w (time_of d)) (none key)) (pod_keys h) (pods_only h)))
+        sym (early-always w (is_synced q h) (dues_at doc q (pod_keys h) h) (λ _. all-early w (λ key. ap (λ d. is_early w (time_of d)) (none key)) (pod_keys h) (pods_only h)))
     time-least w (Some at) there least none =
-        same-tests (nat_lt w at) (is_early w (dues_at q (pod_keys h) h)) (λ before. all-early w (later w at least before) (pod_keys h) (pods_only h)) (sooner-than w at there.0 there.1)
-        ∙ ap (λ b. is_early w (only_if b (dues_at q (pod_keys h) h))) (sym (due-synced there.0 at there.1 (is_synced q h) refl))
+        same-tests (nat_lt w at) (is_early w (dues_at doc q (pod_keys h) h)) (λ before. all-early w (later w at least before) (pod_keys h) (pods_only h)) (sooner-than w at there.0 there.1)
+        ∙ ap (λ b. is_early w (only_if b (dues_at doc q (pod_keys h) h))) (sym (due-synced there.0 at there.1 (is_synced q h) refl))
+
+-- ---- from the reading at which the limit lets another go
+
+before-early : (now : ℕ) (o : Option ℕ) → is_before now o ≡ is_early now o
+before-early now None = refl
+before-early now (Some at) = refl
+
+not-before-first : (now : ℕ) → nat_lt now 0 ≡ false
+not-before-first now = grind (arith, nat_tests)
+
+room-is : (doc : Doc) (k : ℕ) (q : Identity) (h : List Entry) → is_early (local doc q.process k) (room_at doc q h) ≡ not ((doc.settings.rules.evict_burst == 0) || has_room doc q k 0 h)
+room-is doc k q h = by_limit (doc.settings.rules.evict_burst == 0)
+  where
+    by_room : (b : Bool) → has_room doc q k 0 h ≡ b → is_early (local doc q.process k) (room_from doc q 0 h) ≡ not b
+    by_room false none = (rooms_wake doc k q 0 h).0 none
+    by_room true room = by_early (is_early (local doc q.process k) (room_from doc q 0 h)) refl
+      where
+        by_early : (b : Bool) → is_early (local doc q.process k) (room_from doc q 0 h) ≡ b → b ≡ false
+        by_early true early = absurd (false_is (sym ((rooms_wake doc k q 0 h).1 early) ∙ room))
+        by_early false late = refl
+
+    by_limit : (b : Bool) → is_early (local doc q.process k) (cond b (Some 0) (room_from doc q 0 h)) ≡ not (b || has_room doc q k 0 h)
+    by_limit true = not-before-first (local doc q.process k)
+    by_limit false = by_room (has_room doc q k 0 h) refl
+
+pub room-reading : (doc : Doc) (k : ℕ) (q : Identity) (h : List Entry) (o : Option ℕ) → IsRoomReading doc q h o → AreUpTo k h → is_early (local doc q.process k) o ≡ is_early (local doc q.process k) (room_at doc q h)
+room-reading doc k q h o reads upto = sym (before-early (local doc q.process k) o) ∙ reads k upto ∙ sym (room-is doc k q h)

@@ -12,6 +12,7 @@ use Rattle.kube_objects.specs.Seen.{is_synced}
 use Rattle.kube_objects.specs.Stalls.{is_stalled}
 use Rattle.kube_objects.specs.Tainting.{before_tick}
 use Rattle.kube_objects.specs.Tick.{sync}
+use Rattle.tick_laws.specs.Room.{AreInBeats, AreUpTo}
 use Rattle.watch_cache.specs.Stands.{ticks}
 use Rattle.zone_counts.specs.Settings.{AreSettings}
 use Rattle.controller_core.specs.declared.term.Term.{Term}
@@ -37,12 +38,14 @@ pub record IsUpAs (doc : Doc) (q : Identity) (h : List Entry) : Type 0 where
   pub sort : is_controller doc q.process ≡ true
   pub up : alive q.process h ≡ Some q.incarnation
 
--- what the tick of process p at beat k finds: no entry of a tick of its own on top, no more nodes than can be counted, and a store that
--- goes
+-- what the tick of process p at beat k finds: no entry of a tick of its own on top, no more nodes than can be counted, a store that goes, and
+-- entries in the order of their beats, none of a later one
 pub record CanTick (doc : Doc) (k p : ℕ) (h : List Entry) : Type 0 where
   pub fresh : (q : Identity) → q.process ≡ p → before_tick q k h ≡ h
   pub few : (q : Identity) → length (nodes q (sync doc k q h)) < 4294967296
   pub goes : is_stalled doc k ≡ false
+  pub in_beats : AreInBeats h
+  pub upto : AreUpTo k h
 
 -- no start, no lead and no entry of a tick
 abbrev pub is_beside : entry.Fact → Bool

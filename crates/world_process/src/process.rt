@@ -1,9 +1,10 @@
 // A process of the world, and what the world asks of each.
-ghost use Rattle.std.specs.Prelude.{◌≡◌, ◌↔◌, ◌+◌, ◌<◌, ◌≤◌, ◌^◌, not, ℕ, true, false, List, Option, Some, IfSome, OnOk, is_some};
+ghost use Rattle.std.specs.Prelude.{◌≡◌, ◌↔◌, ◌+◌, ◌<◌, ◌≤◌, ◌^◌, not, ℕ, true, false, List, Option, Some, IfSome, OnOk, is_some, option_map};
 ghost use Rattle.kube_base.specs.declared.numbers.Local.{Local};
 ghost use Rattle.kube_base.specs.declared.numbers.ProcId.{ProcId};
 ghost use Rattle.kube_objects.specs.declared.deed.Actor.TheVariants as actor;
 ghost use Rattle.kube_objects.specs.declared.script.What.TheVariants as what;
+ghost use Rattle.kube_objects.specs.Clocks.{local};
 ghost use Rattle.kube_objects.specs.Document.{Doc, is_controller, restart_delay};
 ghost use Rattle.kube_objects.specs.Elector.{leads};
 ghost use Rattle.kube_objects.specs.Entry.{Entry, Identity};
@@ -14,11 +15,13 @@ ghost use Rattle.kube_objects.specs.Pauses.{is_paused as is_paused_at, resume as
 ghost use Rattle.kube_objects.specs.Process.{alive, starts};
 ghost use Rattle.kube_objects.specs.Wire.{Back, loses_requests};
 ghost use Rattle.history.specs.Steps.{happens, start};
-ghost use Rattle.agenda_laws.specs.Ticking.{is_due_at_once, sync_at, synced_reading, term_time};
+ghost use Rattle.agenda_laws.specs.Ticking.{is_due_at_once, room_at, sync_at, synced_reading, term_time};
+ghost use Rattle.controller_core.specs.Working.{kept};
 ghost use Rattle.agenda_laws.specs.Times.{is_early};
 ghost use Rattle.leader_elector.specs.Stands.{acting_identity};
 ghost use Rattle.object_store.specs.Stands.{StoreStands};
 ghost use Rattle.pause_times.specs.Owned.{PausesStand};
+ghost use Rattle.tick_laws.specs.Room.{AreInBeats, AreUpTo};
 ghost use Rattle.world_process.specs.Beats.{IsBeatOf, beat_in, own_reading, reading_of};
 ghost use Rattle.world_process.specs.Moves.{own_turn};
 ghost use Rattle.world_process.specs.OwnTerm.{CanTick, IsUpAs};
@@ -245,7 +248,7 @@ impl Process {
     /// is none.
     pub fn term_wake(&self) -> Option<Local>
         ensures { (doc : Doc) (q : Identity) (h : List Entry) → ProcessStands doc q.process h self.now → IsUpAs doc q h
-            → reading_of result ≡ synced_reading doc q h }
+            → reading_of result ≡ option_map kept (synced_reading doc q h) }
     {
         match self {
             Process::Controller(controller) => controller.term_wake(),
@@ -253,14 +256,25 @@ impl Process {
         }
     }
 
-    /// The least due of the pods that a controller's term sees on a node that it sees, the stale ones aside, in microseconds since
-    /// 1970. None where there is none.
+    /// The least due of the pods that a controller's term sees, the stale ones aside, in microseconds since 1970. None where there is none.
     pub fn least_due(&self) -> Option<u128>
         ensures { (doc : Doc) (q : Identity) (h : List Entry) (w : ℕ) → ProcessStands doc q.process h self.now → IsUpAs doc q h
-            → is_early w result ≡ is_early w (term_time q h) }
+            → is_early w result ≡ is_early w (term_time doc q h) }
     {
         match self {
             Process::Controller(controller) => controller.least_due(),
+            Process::Kubelet(_) => None,
+        }
+    }
+
+    /// The reading from which on a tick of a controller's term may delete a pod that is due. None where none may any more.
+    pub fn delete_wake(&self) -> Option<Local>
+        ensures { (doc : Doc) (k : ℕ) (q : Identity) (h : List Entry) → ProcessStands doc q.process h self.now → IsUpAs doc q h
+            → AreInBeats h → AreUpTo k h
+            → is_early (local doc q.process k) (reading_of result) ≡ is_early (local doc q.process k) (room_at doc q h) }
+    {
+        match self {
+            Process::Controller(controller) => controller.delete_wake(),
             Process::Kubelet(_) => None,
         }
     }

@@ -23,5 +23,10 @@ pub(crate) fn tick_settings(settings: &Settings) -> TickSettings
         large_zone: settings.large_zone,
         unhealthy_percent: settings.unhealthy_percent,
         rate_policy: settings.rate_policy,
+        evict_from: settings.rules.evict_from,
+        evict_burst: settings.rules.evict_burst,
+        evict_rate: settings.rules.evict_rate,
+        ready_millis: settings.rules.ready_millis,
+        ready_burst: settings.rules.ready_burst,
     }
 }

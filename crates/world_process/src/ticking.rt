@@ -1,13 +1,16 @@
 // A controller's tick, and what its term waits for.
-ghost use Rattle.std.specs.Prelude.{◌≡◌, ◌≤◌, not, ℕ, true, false, List, OnOk};
+ghost use Rattle.std.specs.Prelude.{◌≡◌, ◌≤◌, not, ℕ, true, false, List, OnOk, option_map};
+ghost use Rattle.kube_objects.specs.Clocks.{local};
 ghost use Rattle.kube_objects.specs.Document.{Doc};
 ghost use Rattle.kube_objects.specs.Elector.{leads};
 ghost use Rattle.kube_objects.specs.Entry.{Entry, Identity};
 ghost use Rattle.kube_objects.specs.InForce.{watches};
 ghost use Rattle.kube_objects.specs.Wire.{loses_requests};
-ghost use Rattle.agenda_laws.specs.Ticking.{is_due_at_once, sync_at, synced_reading, term_time};
+ghost use Rattle.agenda_laws.specs.Ticking.{is_due_at_once, room_at, sync_at, synced_reading, term_time};
+ghost use Rattle.controller_core.specs.Working.{kept};
 ghost use Rattle.agenda_laws.specs.Times.{is_early};
 ghost use Rattle.object_store.specs.Stands.{StoreStands};
+ghost use Rattle.tick_laws.specs.Room.{AreInBeats, AreUpTo};
 ghost use Rattle.world_process.specs.Beats.{reading_of};
 ghost use Rattle.world_process.specs.Controllers.{ControllerStands, SameController, Ticked, is_up_as};
 ghost use Rattle.world_process.specs.OwnTerm.{CanTick, IsUpAs};
@@ -87,20 +90,28 @@ impl Controller {
         self.term.sync_wake(store, watch)
     }
 
-    /// The least reading at which a tick of its term has a pass, or a queued taint of those who wait now. None where there is none.
+    /// The least reading at which a tick of its term has a pass, or a queued taint of those who wait now; where it is no u64, the greatest
+    /// one. None where there is none.
     pub fn term_wake(&self) -> Option<Local>
         ensures { (doc : Doc) (q : Identity) (h : List Entry) → ControllerStands doc q.process h self.now → IsUpAs doc q h
-            → reading_of result ≡ synced_reading doc q h }
+            → reading_of result ≡ option_map kept (synced_reading doc q h) }
     {
         self.term.wake()
     }
 
-    /// The least due of the pods that its term sees on a node that it sees, the stale ones aside, in microseconds since 1970. None
-    /// where there is none.
+    /// The least due of the pods that its term sees, the stale ones aside, in microseconds since 1970. None where there is none.
     pub fn least_due(&self) -> Option<u128>
         ensures { (doc : Doc) (q : Identity) (h : List Entry) (w : ℕ) → ControllerStands doc q.process h self.now → IsUpAs doc q h
-            → is_early w result ≡ is_early w (term_time q h) }
+            → is_early w result ≡ is_early w (term_time doc q h) }
     {
         self.term.least_due()
+    }
+
+    /// The reading from which on a tick of its term may delete a pod that is due; none where none may any more.
+    pub fn delete_wake(&self) -> Option<Local>
+        ensures { (doc : Doc) (k : ℕ) (q : Identity) (h : List Entry) → ControllerStands doc q.process h self.now → IsUpAs doc q h
+            → AreInBeats h → AreUpTo k h → is_early (local doc q.process k) (reading_of result) ≡ is_early (local doc q.process k) (room_at doc q h) }
+    {
+        self.term.delete_wake()
     }
 }

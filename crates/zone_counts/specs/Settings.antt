@@ -14,4 +14,9 @@ pub record AreSettings (doc : Doc) (s : TickSettings) : Type 0 where
   pub large : s.large_zone ≡ doc.settings.large_zone
   pub percent : s.unhealthy_percent ≡ doc.settings.unhealthy_percent
   pub policy : s.rate_policy ≡ doc.settings.rate_policy
+  pub evict_from : s.evict_from ≡ doc.settings.rules.evict_from
+  pub evict_burst : s.evict_burst ≡ doc.settings.rules.evict_burst
+  pub evict_rate : s.evict_rate ≡ doc.settings.rules.evict_rate
+  pub ready_millis : s.ready_millis ≡ doc.settings.rules.ready_millis
+  pub ready_burst : s.ready_burst ≡ doc.settings.rules.ready_burst
   pub own : IsOwn doc

@@ -16,5 +16,8 @@ returns-clause-heads c = ticking.heads_wake
 pub returns-clause-deletes : goal.returns-clause-deletes
 returns-clause-deletes c = ticking.deletes_wake
 
+pub returns-clause-rooms : goal.returns-clause-rooms
+returns-clause-rooms c = ticking.rooms_wake
+
 pub returns-clause-ticks : goal.returns-clause-ticks
 returns-clause-ticks c = ticking.ticks_wake

@@ -34,12 +34,12 @@ apart_is n m less = grind (arith, nat_tests)
 -- h is the history at the start, now the one that is reached, and c the name that the walk is at
 pub record Walking (doc : Doc) (k : ℕ) (q : Identity) (before : List Deed) (h now : List Entry) (c : Option ℕ) (t : Cluster) (s : Store) (v : View) (told : Told) : Type 0 where
   pub own : IsOwn doc
-  pub running : MidTick q k before now t s told
+  pub running : MidTick doc q k before now t s told
   pub view : IsView doc k q now v
   pub follows : for_each (clean doc k q) (after nat_cmp c (node_names h)) now ≡ cleaned doc k q h
   pub untouched : (m : ℕ) → ComesAfter c m → is_dirty q m now ≡ is_dirty q m h
 
-pub begin_walk : (doc : Doc) (k : ℕ) (q : Identity) (before : List Deed) (h : List Entry) (t : Cluster) (s : Store) (v : View) (told : Told) → IsOwn doc → MidTick q k before h t s told → IsView doc k q h v
+pub begin_walk : (doc : Doc) (k : ℕ) (q : Identity) (before : List Deed) (h : List Entry) (t : Cluster) (s : Store) (v : View) (told : Told) → IsOwn doc → MidTick doc q k before h t s told → IsView doc k q h v
     → Walking doc k q before h h None t s v told
 begin_walk doc k q before h t s v told own r view =
     record {
@@ -54,7 +54,7 @@ pub next_dirty : (q : Identity) (now : List Entry) (c : Option ℕ) (n : ℕ) �
 next_dirty q now c n (later, dirty, none) = dirty
 
 pub next_walk : (doc : Doc) (k : ℕ) (q : Identity) (before : List Deed) (h now : List Entry) (c : Option ℕ) (n : ℕ) (t u : Cluster) (s z : Store) (v : View) (told more : Told)
-    → Walking doc k q before h now c t s v told → IsNextAfter (λ n. is_dirty q n now) c (Some n) → MidTick q k before (clean doc k q n now) u z more
+    → Walking doc k q before h now c t s v told → IsNextAfter (λ n. is_dirty q n now) c (Some n) → MidTick doc q k before (clean doc k q n now) u z more
     → Walking doc k q before h (clean doc k q n now) (Some n) u z v more
 next_walk doc k q before h now c n t u s z v told more w (later, dirty, none) r =
     record {

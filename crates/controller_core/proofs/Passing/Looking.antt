@@ -34,10 +34,12 @@ use Rattle.term_state.specs.declared.view.View.{View}
 use Rattle.term_state.specs.declared.writes.NodeWrite.TheVariants as write
 use Rattle.term_state.specs.Writes.{IsWrite}
 use Rattle.term_state.proofs.Widen.{and_not}
-use Rattle.controller_core.specs.Costs.{HaveCost}
 use Rattle.controller_core.specs.Passing.{IsPassing}
+use Rattle.controller_core.specs.Working.{HavePassCost, WritesStand}
+use Rattle.controller_core.specs.declared.pass.work.PodWrites.{PodWrites}
 use Rattle.controller_core.proofs.Passing.Listed.{listed_first, listed_later}
 use Rattle.controller_core.proofs.Passing.Marks.{mark_view, mark_write}
+use Rattle.controller_core.proofs.Passing.Working.{pods_begun}
 use Rattle.tick_laws.specs.Walks.{Above, Ascends}
 use Rattle.tick_laws.proofs.Frames.{kept_node, pass_change}
 use Rattle.tick_laws.proofs.Marking.{mark_others, marks_of_seen, names_ascend}
@@ -110,7 +112,7 @@ abbrev pub looked_of : List ℕ → List ℕ → ℕ → Bool
 looked_of names rest n = is_listed names n && not (is_listed rest n)
 
 -- now has the marks of the nodes before the rest
-pub record Looking (doc : Doc) (k : ℕ) (q : Identity) (before : List Deed) (h : List Entry) (names rest : List ℕ) (v : View) (c : Cluster) (x : Health) (s : Store) (t : Told) (old new : ℕ) : Type 0 where
+pub record Looking (doc : Doc) (k : ℕ) (q : Identity) (before : List Deed) (h : List Entry) (names rest : List ℕ) (v : View) (c : Cluster) (x : Health) (s : Store) (t : Told) (w : PodWrites) (old new : ℕ) : Type 0 where
   pub now : List Entry
   pub passing : IsPassing doc k q before h now (looked_of names rest) c x s t
   pub view : IsView doc k q now v
@@ -119,7 +121,8 @@ pub record Looking (doc : Doc) (k : ℕ) (q : Identity) (before : List Deed) (h 
   pub within : (n : ℕ) → is_listed rest n ≡ true → is_listed names n ≡ true
   pub seen : (n : ℕ) → is_listed rest n ≡ true → has (seen_node q n h) ≡ true
   pub untouched : (n : ℕ) → is_listed rest n ≡ true → seen_node q n now ≡ seen_node q n h
-  pub cost : HaveCost q k (add k q Pass h) now old new
+  pub writes : WritesStand doc q h now w
+  pub cost : HavePassCost doc q k h (add k q Pass h) now old new
 
 -- ---- its beginning
 
@@ -139,16 +142,17 @@ passed_renewal q k h n = ap lease_renewal (sym (lease_shown q n (add k q Pass h)
 pub named_passed : (q : Identity) (k : ℕ) (h : List Entry) (names : List ℕ) → AreNamed (λ n. has (seen_node q n h)) names → AreNamed (λ n. has (seen_node q n (add k q Pass h))) names
 named_passed q k h names s = record { ascend = s.ascend; named = λ n. s.named n ∙ ap has (sym (passed_seen q k h n)) }
 
-pub begin_looking : (doc : Doc) (k : ℕ) (q : Identity) (before : List Deed) (h : List Entry) (names : List ℕ) (v : View) (c : Cluster) (x : Health) (s : Store) (t : Told) (old : ℕ)
-    → MidTick q k before (add k q Pass h) c s t → HealthStands doc q h x → IsView doc k q (add k q Pass h) v → AreNamed (λ n. has (seen_node q n h)) names
-    → Looking doc k q before h names names v c x s t old old
-begin_looking doc k q before h names v c x s t old running health view are =
+pub begin_looking : (doc : Doc) (k : ℕ) (q : Identity) (before : List Deed) (h : List Entry) (names : List ℕ) (v : View) (c : Cluster) (x : Health) (s : Store) (t : Told) (w : PodWrites) (old : ℕ)
+    → MidTick doc q k before (add k q Pass h) c s t → HealthStands doc q h x → IsView doc k q (add k q Pass h) v → AreNamed (λ n. has (seen_node q n h)) names → WritesStand doc q h (add k q Pass h) w
+    → Looking doc k q before h names names v c x s t w old old
+begin_looking doc k q before h names v c x s t w old running health view are writes =
     record {
       now = add k q Pass h;
       passing = record {
         running = running;
         health = pass-same doc k q h (λ n. false) (looked_of names names) x (λ n. sym (and_not (is_listed names n))) health;
         leases = passed_renewal q k h;
+        pods = pods_begun q k h;
         probes = λ name. refl;
       };
       view = view;
@@ -157,6 +161,7 @@ begin_looking doc k q before h names v c x s t old running health view are =
       within = λ n is. is;
       seen = λ n is. sym (are.named n) ∙ is;
       untouched = λ n is. passed_seen q k h n;
+      writes = writes;
       cost = omega arith;
     }
 
@@ -186,17 +191,19 @@ looked_next names n ns above within m = by_name (n == m) refl (is_listed ns m) r
     by_name true same false there = sym (ap (λ b. b && true) (within m (ap (λ b. b || is_listed ns m) same)))
     by_name false same later there = refl
 
-pub next_looking : (doc : Doc) (k : ℕ) (q : Identity) (before : List Deed) (h : List Entry) (names all ns : List ℕ) (n : ℕ) (v : View) (c d : Cluster) (x y : Health) (s r : Store) (t u : Told) (old mid new : ℕ)
-    → all ≡ n ∷ ns → (l : Looking doc k q before h names all v c x s t old mid)
-    → IsPassing doc k q before h (mark doc k q n l.now) (and_looked n (looked_of names all)) d y r u → HaveCost q k l.now (mark doc k q n l.now) mid new
-    → Looking doc k q before h names ns v d y r u old new
-next_looking doc k q before h names all ns n v c d x y s r t u old mid new is l passing cost =
+pub next_looking : (doc : Doc) (k : ℕ) (q : Identity) (before : List Deed) (h : List Entry) (names all ns : List ℕ) (n : ℕ) (v : View) (c d : Cluster) (x y : Health) (s r : Store) (t u : Told) (w z : PodWrites) (old mid new : ℕ)
+    → all ≡ n ∷ ns → (l : Looking doc k q before h names all v c x s t w old mid)
+    → IsPassing doc k q before h (mark doc k q n l.now) (and_looked n (looked_of names all)) d y r u → WritesStand doc q h (mark doc k q n l.now) z
+    → HavePassCost doc q k h l.now (mark doc k q n l.now) mid new
+    → Looking doc k q before h names ns v d y r u z old new
+next_looking doc k q before h names all ns n v c d x y s r t u w z old mid new is l passing writes cost =
     record {
       now = mark doc k q n l.now;
       passing = record {
         running = passing.running;
         health = pass-same doc k q h (and_looked n (looked_of names all)) (looked_of names ns) y (λ m. ap (λ xs. and_looked n (looked_of names xs) m) is ∙ looked_next names n ns ascends.0 within m) passing.health;
         leases = passing.leases;
+        pods = passing.pods;
         probes = passing.probes;
       };
       view = mark_view doc k q n l.now v l.view;
@@ -205,6 +212,7 @@ next_looking doc k q before h names all ns n v c d x y s r t u old mid new is l 
       within = λ m there. within m (listed_later n m ns there);
       seen = λ m there. l.seen m (listed m there);
       untouched = λ m there. mark_others doc k q n m l.now (listed_apart n m ns ascends.0 there) ∙ l.untouched m (listed m there);
+      writes = writes;
       cost = omega (arith, l.cost, cost);
     }
   where
@@ -219,16 +227,20 @@ next_looking doc k q before h names all ns n v c d x y s r t u old mid new is l 
 
 -- ---- its end
 
-pub end_looking : (doc : Doc) (k : ℕ) (q : Identity) (before : List Deed) (h : List Entry) (names rest : List ℕ) (v : View) (c : Cluster) (x : Health) (s : Store) (t : Told) (old new : ℕ) → rest ≡ []
-    → Looking doc k q before h names rest v c x s t old new → IsPassing doc k q before h (marks doc k q (add k q Pass h)) (λ n. is_listed names n) c x s t × HaveCost q k (add k q Pass h) (marks doc k q (add k q Pass h)) old new
-end_looking doc k q before h names rest v c x s t old new is l =
-    subst (λ g. IsPassing doc k q before h g (λ n. is_listed names n) c x s t × HaveCost q k (add k q Pass h) g old new) (sym (ap (λ xs. for_each (mark doc k q) xs l.now) is) ∙ l.follows) (
+pub end_looking : (doc : Doc) (k : ℕ) (q : Identity) (before : List Deed) (h : List Entry) (names rest : List ℕ) (v : View) (c : Cluster) (x : Health) (s : Store) (t : Told) (w : PodWrites) (old new : ℕ) → rest ≡ []
+    → Looking doc k q before h names rest v c x s t w old new
+    → IsPassing doc k q before h (marks doc k q (add k q Pass h)) (λ n. is_listed names n) c x s t × WritesStand doc q h (marks doc k q (add k q Pass h)) w
+    × HavePassCost doc q k h (add k q Pass h) (marks doc k q (add k q Pass h)) old new
+end_looking doc k q before h names rest v c x s t w old new is l =
+    subst (λ g. IsPassing doc k q before h g (λ n. is_listed names n) c x s t × WritesStand doc q h g w × HavePassCost doc q k h (add k q Pass h) g old new) (sym (ap (λ xs. for_each (mark doc k q) xs l.now) is) ∙ l.follows) (
       record {
         running = l.passing.running;
         health = pass-same doc k q h (looked_of names rest) (λ n. is_listed names n) x (λ n. ap (λ xs. looked_of names xs n) is ∙ and_true (is_listed names n)) l.passing.health;
         leases = l.passing.leases;
+        pods = l.passing.pods;
         probes = l.passing.probes;
       },
+      l.writes,
       l.cost,
     )
   where

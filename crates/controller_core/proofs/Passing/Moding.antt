@@ -1,5 +1,5 @@
 -- The mode through a pass.
-use Rattle.std.proofs.Common.{◌≡◌, ◌∙◌, ℕ, Bool, true, false, List, Result, Ok, Err, OnOk, refl, sym, ap}
+use Rattle.std.proofs.Common.{◌≡◌, ◌∙◌, ℕ, Bool, true, false, List, Result, Ok, Err, OnOk, refl, sym, ap, subst}
 use Rattle.std.specs.Prelude.{if◌then◌else◌}
 use Rattle.kube_objects.specs.declared.deed.Deed.{Deed}
 use Rattle.kube_objects.specs.Document.{Doc}
@@ -13,6 +13,7 @@ use Rattle.object_store.proofs.Keeps.{store-beside}
 use Rattle.object_store.specs.declared.store.Store.{Store}
 use Rattle.term_state.specs.ClusterStands.{ClusterStands}
 use Rattle.term_state.specs.MidTick.{IsMoved, IsTold, MidTick}
+use Rattle.term_state.specs.Sights.{SightedBy}
 use Rattle.term_state.specs.declared.cluster.Cluster.{Cluster}
 use Rattle.term_state.specs.declared.told.Told.{Told}
 use Rattle.tick_laws.proofs.Frames.{mode_change}
@@ -40,18 +41,21 @@ mode_turns doc k q h on is apart =
 pub health_on : (doc : Doc) (k : ℕ) (q : Identity) (h : List Entry) (health : Health) → HealthStands doc q h health → HealthStands doc q (add k q (Mode true) h) health
 health_on doc k q h health s = health-same doc q h (add k q (Mode true) h) health (unheard-kind q h _ refl) s
 
-pub running_after : (q : Identity) (k : ℕ) (before : List Deed) (h : List Entry) (on : Bool) (old new : Cluster) (store : Store) (told after : Told)
-    → MidTick q k before h old store told → ClusterStands q (add k q (Mode on) h) new → IsMoved q k (add k q (Mode on) h) new
-    → IsTold q k before (add k q (Mode on) h) after → MidTick q k before (add k q (Mode on) h) new store after
-running_after q k before h on old new store told after r cluster moved told_after =
+pub running_after : (doc : Doc) (q : Identity) (k : ℕ) (before : List Deed) (h : List Entry) (on : Bool) (old new : Cluster) (store : Store) (told after : Told)
+    → MidTick doc q k before h old store told → ClusterStands q (add k q (Mode on) h) new → new.evict_from ≡ old.evict_from
+    → SightedBy old.evict_from doc k q (add k q (Mode on) h) new → IsMoved q k (add k q (Mode on) h) new
+    → IsTold q k before (add k q (Mode on) h) after → MidTick doc q k before (add k q (Mode on) h) new store after
+running_after doc q k before h on old new store told after r cluster from sights moved told_after =
     record {
       cluster = cluster;
+      from = from ∙ r.from;
+      sights = subst (λ rule. SightedBy rule doc k q (add k q (Mode on) h) new) r.from sights;
       moved = moved;
       store = store-beside h _ store r.store refl;
       told = told_after;
       synced = (mode_change q k h on).synced ∙ r.synced;
     }
 
-pub both_ok : {A E : Type 0} (r : Result A E) (P Q R : Type 0) → OnOk r P → OnOk r Q → (P → Q → R) → OnOk r R
-both_ok (Ok x) P Q R p q f = f p q
-both_ok (Err e) P Q R p q f = tt
+pub four_ok : {A E : Type 0} (r : Result A E) (P Q S T R : Type 0) → OnOk r P → OnOk r Q → OnOk r S → OnOk r T → (P → Q → S → T → R) → OnOk r R
+four_ok (Ok x) P Q S T R p q s t f = f p q s t
+four_ok (Err e) P Q S T R p q s t f = tt

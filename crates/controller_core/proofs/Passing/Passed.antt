@@ -1,16 +1,16 @@
 -- A pass begins, and what it leaves.
-use Rattle.std.proofs.Common.{◌≡◌, ◌∙◌, ◌≤◌, ℕ, nat_lt, Bool, true, false, cond, List, [], ◌∷◌, map, length, Some, None, IfSome, refl, sym, ap, subst, arith}
+use Rattle.std.proofs.Common.{◌≡◌, ◌∙◌, ◌≤◌, ℕ, ◌+◌, ◌-◌, ◌*◌, ◌==◌, nat_lt, Bool, true, false, cond, List, [], ◌∷◌, map, length, Some, None, IfSome, refl, sym, ap, subst, arith}
 use Rattle.std.specs.Prelude.{if◌then◌else◌}
 use Rattle.std.proofs.lemmas.Bool.Decides.{nat_tests}
 use Rattle.kube_objects.specs.declared.node.Node.{Node}
 use Rattle.kube_objects.specs.declared.node.ZoneState.{ZoneState}
 use Rattle.kube_objects.specs.declared.deed.Deed.{Deed}
 use Rattle.kube_objects.specs.Clocks.{local}
-use Rattle.kube_objects.specs.Document.{Doc}
+use Rattle.kube_objects.specs.Document.{Doc, of_millis}
 use Rattle.kube_objects.specs.Entry.{Entry, Identity, Place, Tick, Mark, Pass, Zone, entry, Ticks, Mode}
-use Rattle.kube_objects.specs.Health.{is_found, is_pass_due, last_pass}
+use Rattle.kube_objects.specs.Health.{at_pass, before_pass, is_found, is_pass_due, last_pass, marked_since, pass_period, pods_to_write, work_of}
 use Rattle.kube_objects.specs.Modes.{all_full, mode, nodes, place_of, places, rate_in, size_in, state_in}
-use Rattle.kube_objects.specs.Newest.{has, when}
+use Rattle.kube_objects.specs.Newest.{has, newest, only_if, or_else, when}
 use Rattle.kube_objects.specs.Seen.{is_synced, node_names, seen_node}
 use Rattle.kube_objects.specs.Tick.{add, is_same_mode, mark, marks, pass, set_mode, set_zones, zone, whole_pass}
 use Rattle.kube_objects.specs.Tries.{try_node}
@@ -24,14 +24,17 @@ use Rattle.object_store.specs.Stands.{StoreStands}
 use Rattle.object_store.specs.declared.store.Store.{Store}
 use Rattle.taint_zones.specs.Limits.{LimitsStand, limit_at}
 use Rattle.taint_zones.specs.declared.zones.Zones.{Zones}
+use Rattle.controller_core.specs.Working.{pods_counted, pods_passed}
 use Rattle.controller_core.specs.Zoned.{ArePassed}
 use Rattle.controller_core.proofs.Between.{says_more}
 use Rattle.controller_core.proofs.Passing.Looking.{named_passed}
 use Rattle.controller_core.proofs.Passing.Marks.{mark_either, mark_view}
 use Rattle.term_state.proofs.Aside.{same_aside, refused_moved}
+use Rattle.term_state.proofs.Sighted.{sighted_same}
 use Rattle.term_state.proofs.Telling.{told_beside}
 use Rattle.term_state.specs.ClusterStands.{ClusterStands, no_node, no_pod}
 use Rattle.term_state.specs.MidTick.{IsMoved, IsView, MidTick}
+use Rattle.term_state.specs.Sights.{SightedBy}
 use Rattle.term_state.specs.declared.cluster.Cluster.{Cluster}
 use Rattle.term_state.specs.declared.told.Told.{Told}
 use Rattle.term_state.specs.declared.view.View.{View}
@@ -47,11 +50,13 @@ use Rattle.watch_cache.proofs.Ticks.{same_self}
 use Rattle.watch_cache.specs.Told.{AreNamed}
 
 -- after the pass's own entry
-pub run_pass : (q : Identity) (k : ℕ) (before : List Deed) (h : List Entry) (c : Cluster) (s : Store) (t : Told) → MidTick q k before h c s t → MidTick q k before (add k q Pass h) c s t
-run_pass q k before h c s t r =
+pub run_pass : (doc : Doc) (q : Identity) (k : ℕ) (before : List Deed) (h : List Entry) (c : Cluster) (s : Store) (t : Told) → MidTick doc q k before h c s t → MidTick doc q k before (add k q Pass h) c s t
+run_pass doc q k before h c s t r =
     let change = pass_change q k h in
     record {
       cluster = same_aside q h (add k q Pass h) no_node no_pod c change r.cluster;
+      from = r.from;
+      sights = sighted_same doc.settings.rules.evict_from doc k q h (add k q Pass h) c (own_before q k Pass h) change r.sights;
       moved = refused_moved q h (add k q Pass h) None change k c c (own_before q k Pass h) (λ n. refl) r.moved;
       store = store-beside h (entry k 4 q (Ticks Pass)) s r.store refl;
       told = told_beside q k before h Pass t refl r.told;
@@ -161,6 +166,8 @@ moded_nodes doc k q h =
 
 pub record Zoned (doc : Doc) (q : Identity) (k : ℕ) (h : List Entry) (c : Cluster) (s : Store) (x : Health) : Type 0 where
   pub cluster : ClusterStands q h c
+  pub from : c.evict_from ≡ doc.settings.rules.evict_from
+  pub sights : SightedBy doc.settings.rules.evict_from doc k q h c
   pub moved : IsMoved q k h c
   pub store : StoreStands h s
   pub synced : is_synced q h ≡ true
@@ -172,6 +179,8 @@ zone_more doc q k h place state rate c s x r =
     let change = zone_change q k h place state rate in
     record {
       cluster = same_aside q h (add k q t h) no_node no_pod c change r.cluster;
+      from = r.from;
+      sights = sighted_same doc.settings.rules.evict_from doc k q h (add k q t h) c (own_before q k t h) change r.sights;
       moved = refused_moved q h (add k q t h) None change k c c (own_before q k t h) (λ n. refl) r.moved;
       store = store-beside h (entry k 4 q (Ticks t)) s r.store refl;
       synced = change.synced ∙ r.synced;
@@ -213,3 +222,73 @@ rest_cost doc k q g =
 
     grows : (t : Tick) (f : List Entry) → is_passing t ≡ true → tick_cost q k g ≤ tick_cost q k f → tick_cost q k g ≤ tick_cost q k (add k q t f)
     grows t f is le = omega (arith, le, cost_grows q k f t)
+
+-- ---- the pass's work
+
+module _ (doc : Doc) (k : ℕ) (q : Identity) where
+  -- the mode and the zones say nothing of it
+  abbrev WorksAlike : List Entry → List Entry → Type 0
+  WorksAlike m g = (before_pass q g ≡ before_pass q m) × (marked_since q g ≡ marked_since q m)
+
+  moded_works : (m : List Entry) → WorksAlike m (set_mode doc k q m)
+  moded_works m = by_test (all_full doc (nodes q m)) (is_same_mode (all_full doc (nodes q m)) (mode q m))
+    where
+      by_test : (on b : Bool) → WorksAlike m (if b then m else add k q (Mode on) m)
+      by_test on true = (refl, refl)
+      by_test on false = (refl, refl)
+
+  zoned_works : (m : List Entry) → WorksAlike m (set_zones doc k q (set_mode doc k q m))
+  zoned_works m = every (zone doc k q (nodes q (set_mode doc k q m))) (WorksAlike m) each (places (nodes q (set_mode doc k q m))) (set_mode doc k q m) (moded_works m)
+    where
+      by_test : (place : Place) (g : List Entry) → WorksAlike m g → (state : ZoneState) (rate : ℕ) (b : Bool) → WorksAlike m (if b then g else add k q (Zone place state rate) g)
+      by_test place g s state rate true = s
+      by_test place g s state rate false = s
+
+      each : (place : Place) (g : List Entry) → WorksAlike m g → WorksAlike m (zone doc k q (nodes q (set_mode doc k q m)) place g)
+      each place g s =
+          let state = state_in doc (nodes q (set_mode doc k q m)) place in
+          let rate = rate_in doc (mode q g) (nodes q (set_mode doc k q m)) place in
+          by_test place g s state rate (is_rated state rate (rated q place g))
+
+  marked_before : (h : List Entry) → before_pass q (marks doc k q (add k q Pass h)) ≡ h
+  marked_before h =
+      every (mark doc k q) (λ g. before_pass q g ≡ h) (λ name g s. mark_either doc k q name g (λ f. before_pass q f ≡ h) s (λ given written. s)) (node_names (add k q Pass h)) (add k q Pass h)
+      (ap (λ b. or_else [] (upper (only_if b (Some h)) (newest (λ e T. at_pass q (λ T. Some T) e.actor e.fact T) h))) (same_self q))
+
+no_pods : (millis burst : ℕ) → work_of millis burst 0 ≡ 0
+unfolding of_millis
+no_pods millis burst =
+    ap (λ n. of_millis (millis * n)) (let none : 0 - burst ≡ 0 = omega arith in none)
+    ∙ ap of_millis (let none : millis * 0 ≡ 0 = omega arith in none)
+
+-- how long after a pass the next one is due, by the pods that it counted
+pub period_is : (doc : Doc) (k : ℕ) (q : Identity) (h : List Entry) → pass_period doc q (set_zones doc k q (set_mode doc k q (marks doc k q (add k q Pass h))))
+    ≡ of_millis doc.settings.monitor_period_millis + work_of doc.settings.rules.ready_millis doc.settings.rules.ready_burst (pods_counted doc q h (marks doc k q (add k q Pass h)))
+period_is doc k q h =
+    let m = marks doc k q (add k q Pass h) in
+    let alike = zoned_works doc k q m in
+    ap (λ ns. period (doc.settings.rules.ready_millis == 0) ns (before_pass q (set_zones doc k q (set_mode doc k q m)))) alike.1
+    ∙ ap (period (doc.settings.rules.ready_millis == 0) (marked_since q m)) (alike.0 ∙ marked_before doc k q h)
+    ∙ by_test (doc.settings.rules.ready_millis == 0)
+  where
+    period : Bool → List ℕ → List Entry → ℕ
+    period b names g =
+        elim b [
+          | true ↦ of_millis doc.settings.monitor_period_millis
+          | false ↦ of_millis doc.settings.monitor_period_millis + work_of doc.settings.rules.ready_millis doc.settings.rules.ready_burst (pods_to_write q names g)
+        ]
+
+    by_test : (b : Bool) → period b (marked_since q (marks doc k q (add k q Pass h))) h
+        ≡ of_millis doc.settings.monitor_period_millis
+        + work_of doc.settings.rules.ready_millis doc.settings.rules.ready_burst (cond b 0 (pods_to_write q (marked_since q (marks doc k q (add k q Pass h))) h))
+    by_test true =
+        let none = no_pods doc.settings.rules.ready_millis doc.settings.rules.ready_burst in
+        omega (arith, none)
+    by_test false = refl
+
+-- how many it counted
+pub passed_pods : (doc : Doc) (k : ℕ) (q : Identity) (h : List Entry) → is_pass_due doc k q h ≡ true → pods_passed doc k q h ≡ pods_counted doc q h (marks doc k q (add k q Pass h))
+passed_pods doc k q h due =
+    let m = marks doc k q (add k q Pass h) in
+    ap (λ b. cond b (pods_counted doc q h (if b then whole_pass doc k q h else h)) 0) due
+    ∙ ap (λ ns. cond (doc.settings.rules.ready_millis == 0) 0 (pods_to_write q ns h)) (zoned_works doc k q m).1

@@ -12,6 +12,7 @@ ghost use Rattle.tick_laws.specs.Judged.{is_dirty};
 ghost use Rattle.controller_core.specs.Cleaning.{write_for};
 ghost use Rattle.controller_core.specs.Costs.{HaveCost};
 ghost use Rattle.term_state.specs.MidTick.{IsView, MidTick};
+ghost use Rattle.term_state.specs.Sights.{spent};
 
 use kube_base::{NoMemory, Steps, Wall, whole_second};
 use kube_objects::Node;
@@ -29,9 +30,9 @@ pub(crate) fn clean_one<L>(
     name: u32,
 ) -> Result<(), NoMemory>
     ensures { (doc : Doc) (k : ℕ) (q : Identity) (before : List Deed) (h : List Entry)
-        → IsOwn doc → MidTick q k before h cluster.old store.old told.old → IsView doc k q h view.entry.now → is_dirty q name h ≡ true
-        → OnOk result (MidTick q k before (tick.clean doc k q name h) cluster.new store.new told.new
-        × HaveCost q k h (tick.clean doc k q name h) steps.old steps.new) }
+        → IsOwn doc → MidTick doc q k before h cluster.old store.old told.old → IsView doc k q h view.entry.now → is_dirty q name h ≡ true
+        → OnOk result (MidTick doc q k before (tick.clean doc k q name h) cluster.new store.new told.new
+        × HaveCost q k h (tick.clean doc k q name h) (spent cluster.old steps.old) (spent cluster.new steps.new)) }
 {
     let Some((given, node)) = cluster.node(name) else {
         return Ok(());

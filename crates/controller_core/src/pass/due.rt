@@ -1,12 +1,13 @@
 // When a tick has a pass.
-ghost use Rattle.std.specs.Prelude.{◌≡◌, ℕ, List};
+ghost use Rattle.std.specs.Prelude.{◌≡◌, ◌≤◌, ℕ, List};
+ghost use Rattle.kube_base.specs.Bounds.{most_local};
 ghost use Rattle.kube_objects.specs.Clocks.{local};
 ghost use Rattle.kube_objects.specs.Document.{Doc, of_millis};
 ghost use Rattle.kube_objects.specs.Entry.{Entry, Identity};
 ghost use Rattle.kube_objects.specs.Health.{is_pass_due};
-ghost use Rattle.kube_objects.specs.Own.{IsOwn};
 ghost use Rattle.controller_core.specs.Passing.{LastStands};
 
+use crate::pass::work::LastPass;
 use kube_base::Local;
 
 /// Milliseconds as a span of readings, in units of 10^-12 s.
@@ -17,13 +18,14 @@ pub(crate) fn of_millis(millis: u32) -> u64
     u64::from(millis) * 1_000_000_000
 }
 
-/// Whether a tick has a pass: the first of a term, and then one a period after the last.
-pub(crate) fn is_due(last: Option<Local>, period: u64, now: Local) -> bool
-    ensures { (doc : Doc) (k : ℕ) (q : Identity) (h : List Entry) → IsOwn doc → LastStands doc q h last
-        → period ≡ of_millis doc.settings.monitor_period_millis → now.0 ≡ local doc q.process k → result ≡ is_pass_due doc k q h }
+/// Whether a tick has a pass: the first of a term, and then one a period after the last, and after that one's work.
+pub(crate) fn is_due(last: Option<LastPass>, now: Local) -> bool
+    requires { now.0 ≤ most_local }
+    ensures { (doc : Doc) (k : ℕ) (q : Identity) (h : List Entry) → LastStands doc q h last → now.0 ≡ local doc q.process k
+        → result ≡ is_pass_due doc k q h }
 {
     match last {
         None => true,
-        Some(last) => now.0 >= last.0 && now.0 - last.0 >= period,
+        Some(last) => now.0 >= last.at.0 && now.0 - last.at.0 >= last.period,
     }
 }

@@ -12,12 +12,14 @@ ghost use Rattle.kube_objects.specs.declared.deed.Deed.{Deed};
 ghost use Rattle.node_health.specs.Stands.{HealthStands, IsGraceOf, and_looked};
 ghost use Rattle.term_state.specs.ClusterStands.{ClusterStands};
 ghost use Rattle.term_state.specs.MidTick.{IsView, MidTick};
-ghost use Rattle.controller_core.specs.Costs.{HaveCost};
+ghost use Rattle.term_state.specs.Sights.{spent};
 ghost use Rattle.controller_core.specs.Passing.{IsPassing};
+ghost use Rattle.controller_core.specs.Working.{HavePassCost, WritesStand};
 ghost use Rattle.node_health.specs.Kept as spec;
 ghost use Rattle.watch_cache.specs.Told.{AreNamed};
 
-use crate::pass::marking::with_mark;
+use crate::pass::marking::{is_ready, with_mark};
+use crate::pass::work::PodWrites;
 use kube_base::{KUBE_NODE_LEASE, NoMemory, Steps, Wall, whole_second};
 use kube_objects::{Key, Kind, NumberList};
 use node_health::{Grace, Health, Verdict};
@@ -53,14 +55,16 @@ fn look<L>(
     view: &View,
     grace: &Grace,
     told: &mut Told,
+    writes: &mut PodWrites,
     steps: &mut Steps<L>,
 ) -> Result<(), NoMemory>
     ensures { (doc : Doc) (k : ℕ) (q : Identity) (before : List Deed) (h now : List Entry) (looked : ℕ → Bool)
         → IsPassing doc k q before h now looked cluster.old health.old store.old told.old → IsView doc k q now view.entry.now
-        → IsGraceOf doc grace.now
+        → IsGraceOf doc grace.now → WritesStand doc q h now writes.old
         → looked name ≡ false → has (seen_node q name h) ≡ true → seen_node q name now ≡ seen_node q name h
         → OnOk result (IsPassing doc k q before h (model.mark doc k q name now) (and_looked name looked)
-        cluster.new health.new store.new told.new × HaveCost q k now (model.mark doc k q name now) steps.old steps.new) }
+        cluster.new health.new store.new told.new × WritesStand doc q h (model.mark doc k q name now) writes.new
+        × HavePassCost doc q k h now (model.mark doc k q name now) (spent cluster.old steps.old) (spent cluster.new steps.new)) }
 {
     let renewed = renew_time(cluster, name);
     let Some((given, node)) = cluster.node(name) else {
@@ -69,8 +73,9 @@ fn look<L>(
     match health.look(name, node, renewed, view.now, grace)? {
         Verdict::Keep => Ok(()),
         Verdict::MarkUnknown(reason) => {
+            let ready = is_ready(node);
             let written = with_mark(node, whole_second(view.wall))?;
-            try_write(
+            let answer = try_write(
                 cluster,
                 store,
                 view,
@@ -81,7 +86,7 @@ fn look<L>(
                 written,
                 NodeWrite::Mark(reason),
             )?;
-            Ok(())
+            writes.note_mark(name, ready, answer, cluster, steps)
         }
     }
 }
@@ -95,19 +100,22 @@ pub(crate) fn look_all<L>(
     view: &View,
     grace: &Grace,
     told: &mut Told,
+    writes: &mut PodWrites,
     steps: &mut Steps<L>,
 ) -> Result<(), NoMemory>
     ensures { (doc : Doc) (k : ℕ) (q : Identity) (before : List Deed) (h : List Entry)
-        → MidTick q k before (add k q Pass h) cluster.old store.old told.old → HealthStands doc q h health.old
+        → MidTick doc q k before (add k q Pass h) cluster.old store.old told.old → HealthStands doc q h health.old
         → IsView doc k q h view.entry.now
-        → IsGraceOf doc grace.now → AreNamed (λ n. has (seen_node q n h)) names.now
+        → IsGraceOf doc grace.now → AreNamed (λ n. has (seen_node q n h)) names.now → WritesStand doc q h (add k q Pass h) writes.old
         → OnOk result (IsPassing doc k q before h (model.marks doc k q (add k q Pass h)) (λ n. spec.is_listed names.now n)
-        cluster.new health.new store.new told.new
-        × HaveCost q k (add k q Pass h) (model.marks doc k q (add k q Pass h)) steps.old steps.new) }
+        cluster.new health.new store.new told.new × WritesStand doc q h (model.marks doc k q (add k q Pass h)) writes.new
+        × HavePassCost doc q k h (add k q Pass h) (model.marks doc k q (add k q Pass h)) (spent cluster.old steps.old) (spent cluster.new steps.new)) }
 {
     let mut rest = names.as_slice();
     while let Some((name, others)) = rest.split_first() {
-        look(*name, cluster, health, store, view, grace, told, steps)?;
+        look(
+            *name, cluster, health, store, view, grace, told, writes, steps,
+        )?;
         rest = others;
     }
     Ok(())

@@ -1,6 +1,7 @@
 // Marks of nodes.
 ghost use Rattle.std.specs.Prelude.{◌≡◌, IfOk};
 ghost use Rattle.kube_objects.specs.Health as model;
+ghost use Rattle.kube_objects.specs.Modes as modes;
 
 use kube_base::{NODE_STATUS_NEVER_UPDATED, NODE_STATUS_UNKNOWN, NoMemory, Wall};
 use kube_objects::{Node, Ready, ReadyStatus};
@@ -33,4 +34,14 @@ pub(crate) fn with_mark(node: &Node, second: Wall) -> Result<Node, NoMemory>
     let mut copy = node.copy()?;
     copy.ready = Some(ready);
     Ok(copy)
+}
+
+/// Whether a node's Ready condition is True.
+pub(crate) fn is_ready(node: &Node) -> bool
+    ensures { result ≡ modes.is_ready node.now.ready }
+{
+    match node.ready {
+        Some(ready) => ready.status == ReadyStatus::True,
+        None => false,
+    }
 }

@@ -9,6 +9,7 @@ ghost use Rattle.kube_objects.specs.declared.deed.Deed.{Deed};
 ghost use Rattle.node_health.specs.Stands.{HealthStands};
 ghost use Rattle.object_store.specs.declared.store.Store.{Store};
 ghost use Rattle.term_state.specs.MidTick.{IsView, MidTick};
+ghost use Rattle.term_state.specs.Sights.{touched_len};
 ghost use Rattle.zone_counts.specs.Counted.{zone_counts};
 
 use kube_base::{Local, NoMemory};
@@ -36,11 +37,12 @@ pub(crate) fn set_mode(
     view: &View,
     told: &mut Told,
 ) -> Result<(), NoMemory>
-    ensures { (doc : Doc) (k : ℕ) (q : Identity) (before : List Deed) (h : List Entry) (store : Store)
-        → MidTick q k before h cluster.old store told.old → HealthStands doc q h health.old → IsView doc k q h view.entry.now
+    ensures stands { (doc : Doc) (k : ℕ) (q : Identity) (before : List Deed) (h : List Entry) (store : Store)
+        → MidTick doc q k before h cluster.old store told.old → HealthStands doc q h health.old → IsView doc k q h view.entry.now
         → zones.now ≡ zone_counts (nodes q h) → percent ≡ doc.settings.unhealthy_percent
-        → OnOk result (MidTick q k before (model.set_mode doc k q h) cluster.new store told.new
+        → OnOk result (MidTick doc q k before (model.set_mode doc k q h) cluster.new store told.new
         × HealthStands doc q (model.set_mode doc k q h) health.new) }
+    ensures touched { OnOk result (touched_len cluster.new ≡ touched_len cluster.old) }
 {
     let on = all_full(zones, percent);
     if on == cluster.mode() {

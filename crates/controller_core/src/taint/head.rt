@@ -5,6 +5,7 @@ ghost use Rattle.kube_objects.specs.Document.{Doc};
 ghost use Rattle.kube_objects.specs.Entry.{Entry, Identity};
 ghost use Rattle.kube_objects.specs.Entry as entry_words;
 ghost use Rattle.kube_objects.specs.Clocks.{wall};
+ghost use Rattle.kube_objects.specs.Newest.{has};
 ghost use Rattle.kube_objects.specs.Own.{IsOwn};
 ghost use Rattle.kube_objects.specs.Seen.{is_synced, seen_node};
 ghost use Rattle.kube_objects.specs.Tainting.{waits};
@@ -17,6 +18,7 @@ ghost use Rattle.taint_zones.specs.Places.{entry_place};
 ghost use Rattle.taint_zones.specs.Waiting.{since};
 ghost use Rattle.term_state.specs.ClusterStands.{ClusterStands};
 ghost use Rattle.term_state.specs.MidTick.{IsView, MidTick};
+ghost use Rattle.term_state.specs.Sights.{spent};
 ghost use Rattle.controller_core.specs.Costs.{HaveCost};
 ghost use Rattle.controller_core.specs.Heading.{Heading};
 ghost use Rattle.controller_core.specs.Attempts.{headed, lacking_of, requeued};
@@ -42,7 +44,7 @@ pub(crate) fn taint_first<L>(
     ensures { (doc : Doc) (q : Identity) (k : ℕ) (before : List Deed) (h : List Entry)
         → IsOwn doc → Heading doc q k before h zones.old cluster.old store.old told.old → IsView doc k q h view.entry.now
         → OnOk result (Heading doc q k before (tick.taint doc k q (entry_place place) h) zones.new cluster.new store.new told.new
-        × HaveCost q k h (tick.taint doc k q (entry_place place) h) steps.old steps.new) }
+        × HaveCost q k h (tick.taint doc k q (entry_place place) h) (spent cluster.old steps.old) (spent cluster.new steps.new)) }
 {
     let Some(name) = zones.queues.head(place) else {
         return Ok(());
@@ -107,9 +109,9 @@ fn attempt<L>(
     lacking: Lacking,
 ) -> Result<(), NoMemory>
     ensures { (doc : Doc) (k : ℕ) (q : Identity) (before : List Deed) (h : List Entry)
-        → MidTick q k before h cluster.old store.old told.old → IsView doc k q h view.entry.now
-        → OnOk result (MidTick q k before (headed k q (entry_place place) name lacking h) cluster.new store.new told.new
-        × HaveCost q k h (headed k q (entry_place place) name lacking h) steps.old steps.new
+        → MidTick doc q k before h cluster.old store.old told.old → IsView doc k q h view.entry.now → has (seen_node q name h) ≡ true
+        → OnOk result (MidTick doc q k before (headed k q (entry_place place) name lacking h) cluster.new store.new told.new
+        × HaveCost q k h (headed k q (entry_place place) name lacking h) (spent cluster.old steps.old) (spent cluster.new steps.new)
         × ((zone : Place) (other : ℕ) → since queues.new zone other
         ≡ (if name == other then requeued (tries.try_node q name lacking.given h) place zone k (since queues.old zone name)
         else since queues.old zone other))) }

@@ -1,6 +1,7 @@
 use Rattle.std.proofs.Common.{suc}
 use Rattle.kube_objects.specs.Document.{end_beat}
 use Rattle.eviction_laws.proofs.Early as early
+use Rattle.eviction_laws.proofs.Limit as limit
 use Rattle.eviction_laws.proofs.Turns as turns
 use Rattle.eviction_laws.proofs.evictions_are_timely.Goals as goal
 
@@ -15,3 +16,6 @@ returns-clause-not_early c doc = early.never_early doc (suc (end_beat doc))
 
 pub returns-clause-prompt : goal.returns-clause-prompt
 returns-clause-prompt c doc own q k end = turns.prompt doc own q k
+
+pub returns-clause-limited : goal.returns-clause-limited
+returns-clause-limited c doc = limit.limit doc

@@ -11,7 +11,7 @@ ghost use Rattle.world_process.specs.Processes.{IsKept, IsTimed, ProcessStands, 
 ghost use Rattle.world_core.specs.Waits.{awake_turn};
 ghost use Rattle.world_process.specs.Moves.{own_ticks};
 ghost use Rattle.world_process.specs.Plain.{IsFew};
-ghost use Rattle.world_core.specs.Worlds.{IsRunning, Keeps, MidBeat, Adds};
+ghost use Rattle.world_core.specs.Worlds.{Adds, AreInTime, IsRunning, Keeps, MidBeat};
 
 use crate::printing::{end_act, start_act, tell};
 use crate::world::World;
@@ -29,7 +29,7 @@ impl World {
         requires running { IsRunning self.old }
         ensures kept { OnOk result (Keeps self.old self.new) }
         ensures stands { (doc : Doc) (k : ℕ) (before : List Deed) (arriving : List Sent) (coming : List Back) (h : List Entry)
-            → MidBeat doc k before arriving coming h self.old deeds.old → IsUnticked k h → IsFew (turns doc k (processes doc) h)
+            → MidBeat doc k before arriving coming h self.old deeds.old → IsUnticked k h → AreInTime k h → IsFew (turns doc k (processes doc) h)
             → OnOk result (MidBeat doc k before arriving coming (turns doc k (processes doc) h) self.new deeds.new) }
     {
         for i in 0..self.controllers {
@@ -107,7 +107,7 @@ impl World {
         ensures kept { OnOk result (Keeps self.old self.new) }
         ensures stands { (doc : Doc) (k : ℕ) (before : List Deed) (arriving : List Sent) (coming : List Back) (h : List Entry)
             → MidBeat doc k before arriving coming h self.old deeds.old → (is_controller doc i ≡ true → IsUntickedFrom k i h)
-            → IsFew (own_ticks doc k i h)
+            → AreInTime k h → IsFew (own_ticks doc k i h)
             → OnOk result (MidBeat doc k before arriving coming (own_ticks doc k i h) self.new deeds.new) }
     {
         if self.processes[i].leadership(self.beat).is_none() {

@@ -53,7 +53,7 @@ impl World {
         }
         let wake = process.wake();
         if process.leadership(self.beat).is_none() {
-            return Wakes::with(false, wake, None);
+            return Wakes::with(false, wake, None, None);
         }
         let watch = self.in_force.watch(who);
         let term = sooner(process.sync_wake(&self.store, watch), process.term_wake());
@@ -61,6 +61,7 @@ impl World {
             process.at_once(&self.store, watch),
             sooner(wake, term),
             process.least_due(),
+            process.delete_wake(),
         )
     }
 
@@ -70,7 +71,7 @@ impl World {
         ensures { (doc : Doc) (k : ℕ) (h : List Entry) → WorldStands doc k h self.now → TurnWakesStand doc who.0 h result }
     {
         let process = &self.processes[who.0 as usize];
-        Wakes::with(false, process.wake(), None)
+        Wakes::with(false, process.wake(), None, None)
     }
 
     /// The first beat up to the end at which a process's clock has the reading that is waited for; None where there is none.

@@ -3,6 +3,7 @@ use Rattle.kube_objects.specs.Tick.{clean}
 use Rattle.tick_laws.specs.Judged.{is_dirty}
 use Rattle.term_state.specs.Queues.{IsNextAfter}
 use Rattle.term_state.specs.MidTick.{MidTick}
+use Rattle.term_state.specs.Sights.{spent}
 use Rattle.controller_core.specs.Costs.{HaveCost}
 use Rattle.controller_core.proofs.Cleaning.CleanWalk.{begin_walk, end_walk, next_dirty, next_walk}
 use Rattle.controller_core.proofs.clean.clean.Goals as goal
@@ -29,5 +30,5 @@ pub returns : goal.returns
 returns g c doc k q before h own r v =
     let i = c.loop-next.invariant doc k q before h own r v in
     let none = subst (IsNextAfter (λ n. is_dirty q n i.0) i.1) c.in_default.is i.3 in
-    subst (λ now. MidTick q k before now c.loop-next.cluster c.loop-next.store c.loop-next.told × HaveCost q k h now c.args.steps.now c.loop-next.steps)
+    subst (λ now. MidTick doc q k before now c.loop-next.cluster c.loop-next.store c.loop-next.told × HaveCost q k h now (spent c.args.cluster.now c.args.steps.now) (spent c.loop-next.cluster c.loop-next.steps))
     (end_walk doc k q before h i.0 i.1 c.loop-next.cluster c.loop-next.store c.args.view.now c.loop-next.told i.2 none) (i.2.running, i.4)

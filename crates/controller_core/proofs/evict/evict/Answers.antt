@@ -1,62 +1,63 @@
-use Rattle.std.proofs.Common.{◌≡◌, ◌∙◌, ◌<◌, Bool, true, false, cond, List, [], ◌∷◌, None, Some, refl, sym, ap, subst, length, arith}
-use Rattle.std.specs.BTreeMap.{is_at}
-use Rattle.std.specs.BTreeSet.{IsLowerBound, Updates, btree_set_len, contains}
-use Rattle.std.specs.List.{list_any}
-use Rattle.kube_objects.specs.declared.key.Key.{Key}
-use Rattle.kube_objects.specs.Keys.{key_cmp, key_eq}
-use Rattle.kube_objects.specs.Tick.{evict}
-use Rattle.kube_objects.proofs.KeyOrder.{key_order}
-use Rattle.history_laws.proofs.Plainly.{false_is}
-use Rattle.tick_laws.specs.Judged.{is_by_now, seen_due}
-use Rattle.tick_laws.specs.Steps.{tick_cost}
-use Rattle.controller_core.proofs.Evicting.Walking.{begin_evicting, end_evicting, end_history, evict_costs, is_due, next_evicting}
+use Rattle.std.proofs.Common.{◌≡◌, ◌∙◌, ◌≤◌, ◌==◌, ℕ, not, Bool, true, false, List, refl, sym, arith}
+use Rattle.std.proofs.lemmas.Bool.Decides.{nat_tests}
+use Rattle.std.proofs.lemmas.Result.{on_ok_weaker}
+use Rattle.kube_objects.specs.declared.deed.Deed.{Deed}
+use Rattle.kube_objects.specs.Document.{Doc}
+use Rattle.kube_objects.specs.Entry.{Entry, Identity}
+use Rattle.kube_objects.specs.Tick.{evicted}
+use Rattle.history_laws.proofs.Plainly.{false_is, true_is}
+use Rattle.object_store.specs.declared.store.Store.{Store}
+use Rattle.term_state.specs.declared.cluster.Cluster.{Cluster}
+use Rattle.term_state.specs.declared.told.Told.{Told}
+use Rattle.term_state.specs.ClusterStands.{ClusterStands, has_moved, no_pod}
+use Rattle.term_state.specs.MidTick.{MidTick}
+use Rattle.term_state.specs.Sights.{SettledBy}
+use Rattle.controller_core.specs.Deleting.{Deleting}
+use Rattle.controller_core.proofs.Allowed.{allowance_free}
 use Rattle.controller_core.proofs.evict.evict.Goals as goal
 
-pub loop-pod-init : goal.loop-pod-init
-loop-pod-init g c doc k q before h own r v = (
-  h,
-  None,
-  begin_evicting doc k q before h c.in_ok-todo.todo c.take_due.new.self c.args.store.now c.args.view.now c.args.told.now own
-      (record {
-        cluster = c.in_ok-todo.ensures.stands q h r.cluster;
-        moved = λ n out. r.moved n (sym (c.in_ok-todo.ensures.moved n) ∙ out);
-        store = r.store;
-        told = r.told;
-        synced = r.synced;
-      })
-      v (λ p. c.in_ok-todo.ensures.due q h r.cluster p ∙ ap (λ n. is_by_now n (seen_due q p h)) v.time),
-  omega (arith, c.in_ok-todo.ensures.counted),
-)
+-- the rows are settled
+settled : (doc : Doc) (q : Identity) (k : ℕ) (before : List Deed) (h : List Entry) (c d : Cluster) (s : Store) (t : Told) → d.evict_from ≡ c.evict_from → ((n : ℕ) → has_moved d n ≡ has_moved c n)
+    → MidTick doc q k before h c s t → ClusterStands q h d → SettledBy doc.settings.rules.evict_from doc q h no_pod d → Deleting doc q k before h no_pod d s t
+settled doc q k before h c d s t from moved r stands rows = record {
+  dues = record { cluster = stands; from = from ∙ r.from; settled = rows };
+  moved = λ n out. r.moved n (sym (moved n) ∙ out);
+  store = r.store;
+  told = r.told;
+  synced = r.synced;
+}
 
-pub loop-pod-preserved : goal.loop-pod-preserved
-loop-pod-preserved g c doc k q before h own r v =
-    let i = c.loop-pod.invariant doc k q before h own r v in
-    let n = c.in-Some.pod in
-    let todo = c.loop-pod.todo in
-    let left = c.pop_first.new.self in
-    let there : contains key_cmp todo n ≡ true = ap (λ cmp. contains cmp todo n) (sym key_order) ∙ c.in-Some.ensures.member in
-    let least : (p : Key) → contains key_cmp todo p ≡ true → _ = subst (λ cmp. IsLowerBound cmp todo n) key_order c.in-Some.ensures.least in
-    let has : (p : Key) → contains key_cmp left p ≡ cond (key_eq n p) false (contains key_cmp todo p) = (subst (λ cmp. Updates cmp todo left n false) key_order c.in-Some.ensures.updates).0 in
-    let due = is_due doc k q before h i.0 i.1 todo c.loop-pod.cluster c.loop-pod.store c.args.view.now c.loop-pod.told i.2 n there in (
-      evict doc k q n i.0,
-      Some n,
-      next_evicting doc k q before h i.0 i.1 todo c.loop-pod.cluster c.loop-pod.store c.args.view.now c.loop-pod.told i.2 n left c.evict_one.new.cluster c.evict_one.new.store c.evict_one.new.told
-          there least has (c.in_ok-evict_one.ensures.stands doc k q before i.0 (λ p. contains key_cmp todo p) own i.2.deleting i.2.view due),
-      omega (arith, i.3, c.in-Some.ensures.len, c.in_ok-evict_one.ensures.counted, evict_costs doc own k q n i.0 due),
-    )
+no_limit : (b : Bool) (limited : Bool) → limited ≡ not b → limited ≡ false → b ≡ true
+no_limit true limited is off = refl
+no_limit false limited is off = absurd (true_is (sym is ∙ off))
 
-empty_any : (f : Key → Bool) (xs : List Key) → (0 < length xs → ⊥) → list_any f xs ≡ false
-empty_any f [] h = refl
-empty_any f (x ∷ xs) h = absurd (h (omega arith))
+a_limit : (b : Bool) (limited : Bool) → limited ≡ not b → limited ≡ true → b ≡ false
+a_limit true limited is on = absurd (false_is (sym is ∙ on))
+a_limit false limited is on = refl
 
-empty_len : (xs : List Key) → (0 < length xs → ⊥) → length xs ≡ 0
-empty_len [] h = refl
-empty_len (x ∷ xs) h = absurd (h (omega arith))
+zero_is : (a b : ℕ) → a ≡ b → (a == 0) ≡ true → b ≡ 0
+zero_is a b same is = grind (arith, nat_tests)
+
+some_is : (a b : ℕ) → a ≡ b → (a == 0) ≡ false → 1 ≤ b
+some_is a b same is = grind (arith, nat_tests)
+
+pub evict_within-requires-clause-limited : goal.evict_within-requires-clause-limited
+evict_within-requires-clause-limited g c = a_limit _ c.is_limited.result c.is_limited.ensures c.if-is_limited.true
+
+pub returns-then-is_limited : goal.returns-then-is_limited
+returns-then-is_limited g c doc k q before h beats upto kept r v a =
+    let some = some_is c.args.allowance.now.burst doc.settings.rules.evict_burst a.burst (a_limit _ c.is_limited.result c.is_limited.ensures c.if-is_limited.true) in
+    let d = settled doc q k before h c.args.cluster.now c.settle_rows.new.self c.args.store.now c.args.told.now c.settle_rows.ensures.from c.settle_rows.ensures.moved r
+    (c.in_ok-settle_rows.ensures.stands doc k q h r.cluster r.from r.sights) (c.in_ok-settle_rows.ensures.settled doc k q h r.cluster r.synced r.from r.sights kept v.time) in
+    on_ok_weaker c.evict_within.result
+    (λ all. (all.0, all.1, omega (arith, all.2, c.in_ok-settle_rows.ensures.counted)))
+    (c.evict_within.ensures doc k q before h some beats upto d v a)
 
 pub returns : goal.returns
-returns g c doc k q before h own r v =
-    let i = c.loop-pod.invariant doc k q before h own r v in
-    let none = λ (p : Key). empty_any (is_at (key_cmp p)) c.loop-pod.todo.keys (λ more. false_is (c.in_default.ensures.variant.1 more)) in
-    let same = end_history doc k q before h i.0 i.1 c.loop-pod.todo c.loop-pod.cluster c.loop-pod.store c.args.view.now c.loop-pod.told i.2 none in
-    let zero : btree_set_len c.loop-pod.todo ≡ 0 = empty_len c.loop-pod.todo.keys (λ more. false_is (c.in_default.ensures.variant.1 more)) in
-    (end_evicting doc k q before h i.0 i.1 c.loop-pod.todo c.loop-pod.cluster c.loop-pod.store c.args.view.now c.loop-pod.told i.2 none, omega (arith, i.3, zero, ap (tick_cost q k) same))
+returns g c doc k q before h beats upto kept r v a =
+    let free = zero_is c.args.allowance.now.burst doc.settings.rules.evict_burst a.burst (no_limit _ c.is_limited.result c.is_limited.ensures c.if-is_limited.false) in
+    let d = settled doc q k before h c.args.cluster.now c.settle_rows.new.self c.args.store.now c.args.told.now c.settle_rows.ensures.from c.settle_rows.ensures.moved r
+    (c.in_ok-settle_rows.ensures.stands doc k q h r.cluster r.from r.sights) (c.in_ok-settle_rows.ensures.settled doc k q h r.cluster r.synced r.from r.sights kept v.time) in
+    on_ok_weaker c.evict_all.result
+    (λ all. (all.0, allowance_free doc q h (evicted doc k q h) c.args.allowance.now free a, omega (arith, all.1, c.in_ok-settle_rows.ensures.counted)))
+    (c.evict_all.ensures doc k q before h free d v)

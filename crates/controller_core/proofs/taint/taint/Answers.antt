@@ -2,6 +2,7 @@ use Rattle.std.proofs.Common.{Some, None, subst, arith}
 use Rattle.kube_objects.specs.Tick.{taint}
 use Rattle.taint_zones.specs.Places.{entry_place}
 use Rattle.taint_zones.specs.Waiting.{IsNextZone}
+use Rattle.term_state.specs.Sights.{spent}
 use Rattle.controller_core.specs.Costs.{HaveCost}
 use Rattle.controller_core.specs.Heading.{Heading}
 use Rattle.controller_core.proofs.Tainting.ZoneWalk.{begin_walk, end_walk, next_walk}
@@ -29,5 +30,5 @@ pub returns : goal.returns
 returns g c doc q k before h own s v =
     let i = c.loop-next.invariant doc q k before h own s v in
     let none = subst (IsNextZone c.loop-next.zones.queues i.1) c.in_default.is i.3 in
-    subst (λ now. Heading doc q k before now c.loop-next.zones c.loop-next.cluster c.loop-next.store c.loop-next.told × HaveCost q k h now c.args.steps.now c.loop-next.steps)
+    subst (λ now. Heading doc q k before now c.loop-next.zones c.loop-next.cluster c.loop-next.store c.loop-next.told × HaveCost q k h now (spent c.args.cluster.now c.args.steps.now) (spent c.loop-next.cluster c.loop-next.steps))
     (end_walk doc q k before h i.0 i.1 c.loop-next.zones c.loop-next.cluster c.loop-next.store c.args.view.now c.loop-next.told i.2 none) (i.2.heading, i.4)

@@ -6,6 +6,18 @@ use Rattle.world_process.proofs.Readings.{reading-local, wall-when}
 use Rattle.lens_lateness.proofs.ClockLaws.{own-is}
 use Rattle.lens_lateness.proofs.clocks.own_time.Goals as goal
 
+pub wall-requires : goal.wall-requires
+wall-requires c =
+    let p = c.in_ok-controller.controller in
+    let clock = c.index-clocks-controller.result in
+    let count = c.requires.count in
+    let below = c.in_ok-controller.ensures.within in
+    let within : p < length c.args.clocks.now = omega (arith, count, below) in
+    let stands = c.requires.each p clock (slice_get_read c.args.clocks.now _ p clock refl within c.index-clocks-controller.is) in
+    let end = stands.end in
+    let up = c.if-beat-document.true in
+    omega (arith, end, up)
+
 pub returns-then-beat-document : goal.returns-then-beat-document
 returns-then-beat-document c =
     let d = c.args.document.now in

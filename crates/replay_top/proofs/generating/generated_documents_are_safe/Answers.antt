@@ -13,6 +13,7 @@ returns-clause-safe c s within =
       spacing = c.taints_are_spaced.ensures doc premise sound lawful.settings.secondary;
       not_early = c.evictions_are_timely.ensures.not_early doc;
       prompt = c.evictions_are_timely.ensures.prompt doc sound.2;
+      limit = c.evictions_are_timely.ensures.limited doc;
     }
 
 pub returns-clause-timely : goal.returns-clause-timely

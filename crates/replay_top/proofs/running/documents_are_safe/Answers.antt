@@ -12,6 +12,7 @@ returns c =
           c.taints_are_spaced.ensures (doc_of d) premise (sound (doc_of d) (lawful bytes d read)) (lawful bytes d read).settings.secondary;
       not_early = λ d. c.evictions_are_timely.ensures.not_early (doc_of d);
       prompt = λ bytes d read. c.evictions_are_timely.ensures.prompt (doc_of d) (sound (doc_of d) (lawful bytes d read)).2;
+      limit = λ d. c.evictions_are_timely.ensures.limited (doc_of d);
       timely = λ bytes d read. record {
         sound = sound (doc_of d) (lawful bytes d read);
         takes_over = c.takeovers_are_bounded.ensures.told (doc_of d);

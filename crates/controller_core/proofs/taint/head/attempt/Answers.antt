@@ -8,14 +8,14 @@ use Rattle.controller_core.proofs.Tainting.Attempting.{head_write}
 use Rattle.controller_core.proofs.taint.head.attempt.Goals as goal
 
 pub returns : goal.returns
-returns g c doc k q before h r v =
+returns g c doc k q before h r v sees =
     let x = c.args.lacking in
     let name = c.args.name in
     let old = c.args.queues.now in
     let a = try_node q name x.given h in
     let place = entry_place c.args.place in
     let write = head_write place name x.wanted x.given x.written a in (
-      c.in_ok-answer.ensures.stands doc k q before h (Head place name x.wanted x.given x.written a) r v write,
+      c.in_ok-answer.ensures.stands doc k q before h (Head place name x.wanted x.given x.written a) r v write sees,
       c.in_ok-answer.ensures.counted doc k q before h (Head place name x.wanted x.given x.written a) r v write,
       λ zone other.
           c.requeue.ensures zone other

@@ -1,6 +1,7 @@
-use Rattle.std.proofs.Common.{◌≡◌, ◌∙◌, ◌==◌, ℕ, cond, sym, subst, arith}
+use Rattle.std.proofs.Common.{◌≡◌, ◌∙◌, ◌==◌, ℕ, cond, ap, sym, subst, arith}
 use Rattle.std.specs.Result.{OnOk}
 use Rattle.std.proofs.lemmas.Result.{on_ok_weaker}
+use Rattle.kube_objects.specs.Newest.{has}
 use Rattle.kube_objects.specs.Tries.{try_node}
 use Rattle.history_laws.proofs.Plainly.{none_is}
 use Rattle.taint_zones.specs.declared.place.Place.{Place}
@@ -8,6 +9,7 @@ use Rattle.taint_zones.specs.Places.{entry_place, of_place}
 use Rattle.taint_zones.specs.Waiting.{since}
 use Rattle.tick_laws.proofs.Tainting.{heading_fresh}
 use Rattle.term_state.specs.MidTick.{MidTick}
+use Rattle.term_state.specs.Sights.{spent}
 use Rattle.controller_core.specs.Attempts.{headed, requeued}
 use Rattle.controller_core.specs.Costs.{HaveCost}
 use Rattle.controller_core.specs.Heading.{Heading}
@@ -18,7 +20,7 @@ use Rattle.controller_core.proofs.taint.head.taint_first.Goals as goal
 
 pub returns-in_default : goal.returns-in_default
 returns-in_default g c doc q k before h own s v =
-    subst (λ more. Heading doc q k before more c.args.zones.now c.args.cluster.now c.args.store.now c.args.told.now × HaveCost q k h more c.args.steps.now c.args.steps.now)
+    subst (λ more. Heading doc q k before more c.args.zones.now c.args.cluster.now c.args.store.now c.args.told.now × HaveCost q k h more (spent c.args.cluster.now c.args.steps.now) (spent c.args.cluster.now c.args.steps.now))
     (sym (zone_idle doc k q h c.args.zones.now.queues (entry_place c.args.place) s.queues c.in_default.ensures.none)) (s, omega arith)
 
 pub returns-in_default-2 : goal.returns-in_default-2
@@ -38,7 +40,7 @@ returns g c doc q k before h own s v =
     (sym (c.try_take.ensures.there doc q k h own s.limits v.reading) ∙ c.if-not-try_take.false) in
     let queues : QueuesStand q h c.try_take.new.self.queues = λ zone n. c.try_take.ensures.queues (of_place zone) n ∙ s.queues zone n in
     subst (λ more. OnOk c.attempt.result (Heading doc q k before more (record { limits = c.try_take.new.self.limits; queues = c.attempt.new.queues }) c.attempt.new.cluster c.attempt.new.store c.attempt.new.told
-    × HaveCost q k h more c.args.steps.now c.attempt.new.steps)) t.adds
+    × HaveCost q k h more (spent c.args.cluster.now c.args.steps.now) (spent c.attempt.new.cluster c.attempt.new.steps))) t.adds
     (on_ok_weaker c.attempt.result
     (λ all. (
       record {
@@ -52,7 +54,7 @@ returns g c doc q k before h own s v =
     ))
     (subst
     (λ l. OnOk c.attempt.result
-    (MidTick q k before (headed k q (entry_place p) name l h) c.attempt.new.cluster c.attempt.new.store c.attempt.new.told
-    × HaveCost q k h (headed k q (entry_place p) name l h) c.args.steps.now c.attempt.new.steps
+    (MidTick doc q k before (headed k q (entry_place p) name l h) c.attempt.new.cluster c.attempt.new.store c.attempt.new.told
+    × HaveCost q k h (headed k q (entry_place p) name l h) (spent c.args.cluster.now c.args.steps.now) (spent c.attempt.new.cluster c.attempt.new.steps)
     × ((zone : Place) (other : ℕ) → since c.attempt.new.queues zone other ≡ cond (name == other) (requeued (try_node q name l.given h) p zone k (since c.try_take.new.self.queues zone name)) (since c.try_take.new.self.queues zone other))))
-    t.is (c.attempt.ensures doc k q before h s.running v)))
+    t.is (c.attempt.ensures doc k q before h s.running v (ap has w.sees))))

@@ -10,19 +10,24 @@ use Rattle.kube_objects.specs.Tick.{sync, tick, phases}
 use Rattle.node_health.proofs.Frames.{health-same}
 use Rattle.object_store.specs.declared.store.Store.{Store}
 use Rattle.term_state.specs.declared.told.Told.{Told}
-use Rattle.term_state.specs.ClusterStands.{ClusterStands}
+use Rattle.term_state.specs.ClusterStands.{ClusterStands, no_pod}
 use Rattle.term_state.specs.MidTick.{IsMoved}
+use Rattle.term_state.specs.Sights.{touched_len}
+use Rattle.term_state.proofs.Sighted.{untouched_len}
 use Rattle.term_state.proofs.Viewing.{view_ticked}
 use Rattle.tick_laws.specs.Judged.{waits_since}
 use Rattle.tick_laws.specs.Since.{AreReached}
 use Rattle.tick_laws.specs.Steps.{tick_cost}
 use Rattle.tick_laws.proofs.Phases.{reached_after_tick, sync_heads, sync_limits}
+use Rattle.tick_laws.proofs.Sights.{sync_sights}
 use Rattle.tick_laws.proofs.Steps.{cost_start}
 use Rattle.tick_laws.proofs.Ticked.{sync_ticked, ticked_before}
 use Rattle.tick_laws.proofs.Waiting.{no_heads_start}
 use Rattle.controller_core.specs.declared.term.Term.{Term}
 use Rattle.controller_core.specs.TermStands.{Went, acted}
+use Rattle.controller_core.proofs.Allowed.{allowance_synced, synced_beats}
 use Rattle.controller_core.proofs.Between.{last_stands, limits_stand, sync_says, told_synced, unsynced_none}
+use Rattle.controller_core.proofs.Evicting.Settled.{settled_none}
 use Rattle.controller_core.proofs.FirstSync.{settles_ticked}
 use Rattle.controller_core.proofs.term.Term.begin.Goals as goal
 
@@ -30,8 +35,10 @@ went_same : (doc : Doc) (k : ℕ) (q : Identity) (before : List Deed) (h g : Lis
 went_same doc k q before h g t s o is w = subst (λ f. Went doc k q before f t s o) (sym is) w
 
 pub returns-then-not-is_synced : goal.returns-then-not-is_synced
-returns-then-not-is_synced g c doc k q before h s st told v led start small =
-    let one = c.in_ok-sync.ensures.stands doc k q h (s.settles led) s.cluster st s.reached v in
+returns-then-not-is_synced g c doc k q before h s st told v beats upto led start small =
+    let one = c.in_ok-sync.ensures.stands doc k q h (s.settles led) s.cluster st s.reached v s.from in
+    let seen = c.in_ok-sync.ensures.sights doc k q h (s.settles led) s.cluster st s.reached v start s.from s.sights in
+    let none : touched_len c.args.self.now.cluster ≡ 0 = untouched_len c.args.self.now.cluster (settled_none doc.settings.rules.evict_from doc q h no_pod c.args.self.now.cluster s.sights) in
     let unsynced : is_synced q (sync doc k q h) ≡ false = sym (c.is_synced.ensures q (sync doc k q h) one.0) ∙ c.if-not-is_synced.true in
     let same = unsynced_none doc k q h unsynced in
     let whole : tick doc k q h ≡ sync doc k q h = ap (λ b. (if b then phases doc k q (sync doc k q h) else (sync doc k q h))) unsynced in (
@@ -39,6 +46,9 @@ returns-then-not-is_synced g c doc k q before h s st told v led start small =
           (record {
             term = record {
               cluster = subst (λ f. ClusterStands q f c.sync.new.cluster) same one.0;
+              from = seen.0;
+              sights = seen.2 unsynced;
+              allowance = s.allowance;
               reached = s.reached;
               health = s.health;
               limits = s.limits;
@@ -51,13 +61,16 @@ returns-then-not-is_synced g c doc k q before h s st told v led start small =
             store = st;
             told = told;
           }),
-      omega (arith, one.1, ap (tick_cost q k) whole),
+      omega (arith, one.1, none, ap (tick_cost q k) whole),
     )
 
 pub returns : goal.returns
-returns g c doc k q before h s st told v led start small =
+returns g c doc k q before h s st told v beats upto led start small =
     let f = sync doc k q h in
-    let one = c.in_ok-sync.ensures.stands doc k q h (s.settles led) s.cluster st s.reached v in
+    let one = c.in_ok-sync.ensures.stands doc k q h (s.settles led) s.cluster st s.reached v s.from in
+    let seen = c.in_ok-sync.ensures.sights doc k q h (s.settles led) s.cluster st s.reached v start s.from s.sights in
+    let none : touched_len c.args.self.now.cluster ≡ 0 = untouched_len c.args.self.now.cluster (settled_none doc.settings.rules.evict_from doc q h no_pod c.args.self.now.cluster s.sights) in
+    let order = synced_beats doc k q h (beats, upto) in
     let synced : is_synced q f ≡ true = sym (c.is_synced.ensures q f one.0) ∙ c.if-not-is_synced.false in
     let beneath : before_tick q k f ≡ before_tick q k h = ticked_before q k h f (sync_ticked doc k q h) in
     let moved : IsMoved q k h c.args.self.now.cluster = λ n out place. ap (waits q place n) (sym start) in
@@ -66,8 +79,11 @@ returns g c doc k q before h s st told v led start small =
     (λ two. (
       subst (λ f. Went doc k q before f c.act.new.self c.act.new.store c.act.new.told) (sym whole) (record {
         term = record {
-          cluster = two.0.running.cluster;
-          reached = subst (AreReached q) whole (reached_after_tick doc s.settings.own k q h s.reached);
+          cluster = two.0.running.dues.cluster;
+          from = two.0.running.dues.from;
+          sights = two.0.running.dues.settled;
+          allowance = two.0.allowance;
+          reached = subst (AreReached q) whole (reached_after_tick doc k q h s.reached);
           health = two.0.health;
           limits = two.0.limits;
           queues = two.0.queues;
@@ -79,22 +95,25 @@ returns g c doc k q before h s st told v led start small =
         store = two.0.running.store;
         told = two.0.running.told;
       }),
-      omega (arith, one.1, two.1, cost_start q k h start, ap (tick_cost q k) whole),
+      omega (arith, one.1, two.1, none, cost_start q k h start, ap (tick_cost q k) whole),
     ))
     (c.act.ensures doc k q before f (record {
       running = record {
         cluster = one.0;
+        from = seen.0;
+        sights = seen.1;
         moved = c.in_ok-sync.ensures.moved doc k q h (s.settles led) s.cluster st s.reached v moved beneath;
         store = c.in_ok-sync.ensures.store doc k q h st;
         told = told_synced doc k q before h c.args.told.now told;
         synced = synced;
       };
+      allowance = allowance_synced doc k q c.args.self.now.allowance h s.allowance;
       health = health-same doc q h f c.args.self.now.health (sync_says doc s.settings.own k q h) s.health;
       limits = limits_stand doc q h f c.args.self.now.zones (sync_limits doc s.settings.own k q h) s.limits;
       queues = λ place n. s.queues place n ∙ ap (waits_since q place n) (sym (beneath ∙ start));
       heads = sync_heads doc s.settings.own k q h (no_heads_start q k h start);
-      last = last_stands doc q h f c.args.self.now.last (sync_limits doc s.settings.own k q h).passed s.last;
+      last = last_stands doc q h f c.args.self.now.last (sync_limits doc s.settings.own k q h).passed ((sync_limits doc s.settings.own k q h).period doc) s.last;
       range = s.range;
       settles = settles_ticked doc q k h f c.args.self.now.settles (sync_ticked doc k q h) s.settles;
       settings = s.settings;
-    }) (view_ticked doc k q h f c.args.view.now (sync_ticked doc k q h) v) small)
+    }) (view_ticked doc k q h f c.args.view.now (sync_ticked doc k q h) v) order.0 order.1 (sync_sights doc k q h start) small)

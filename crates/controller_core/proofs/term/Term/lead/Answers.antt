@@ -12,6 +12,9 @@ returns c doc k step q version h s is =
     let led = others_with doc q h (entry k step q (Leads version)) self c.settles_after-self.result refl (settles_led doc k step q version h c.args.now.0 c.settles_after-self.result is settles) s in
     record {
       cluster = led.cluster;
+      from = led.from;
+      sights = led.sights;
+      allowance = led.allowance;
       reached = led.reached;
       health = led.health;
       limits = led.limits;

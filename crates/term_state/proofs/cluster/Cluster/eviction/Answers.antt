@@ -1,44 +1,24 @@
-use Rattle.std.proofs.Common.{◌≡◌, ◌∙◌, ◌<◌, false, refl, ap, sym, arith}
-use Rattle.tick_laws.specs.Judged.{is_by_now, seen_due}
-use Rattle.tick_laws.proofs.Tried.{unseen_never}
-use Rattle.watch_cache.specs.Told.{found_pair}
-use Rattle.term_state.proofs.Closing.{if_none_always, late_due, quiet_pod, unplaced_never}
+use Rattle.std.proofs.Common.{◌≡◌, ◌∙◌, false, IfNone, IfSome, sym, subst}
+use Rattle.tick_laws.specs.Judged.{due_by, is_by_now}
+use Rattle.term_state.specs.Evictions.{IsEvictionBy}
+use Rattle.term_state.specs.Sights.{SettledBy}
 use Rattle.term_state.proofs.cluster.Cluster.eviction.Goals as goal
 
-pub returns-in_err-given-clause-none : goal.returns-in_err-given-clause-none
-returns-in_err-given-clause-none g c q h nodes pods s synced =
-    let none = sym (c.pod.ensures.seen q h nodes pods s synced) ∙ ap found_pair c.in_err-given.was in
-    if_none_always (is_by_now c.args.now.0 (seen_due q c.args.key.now h) ≡ false) c.from_residual.result
-    (ap (is_by_now c.args.now.0) (unseen_never q c.args.key.now h none))
+pub returns-in-Added-clause-some : goal.returns-in-Added-clause-some
+returns-in-Added-clause-some g c doc q h nodes pods s from settled synced =
+    subst (λ rule. IfSome c.eviction_on_node.result (IsEvictionBy rule doc q h c.args.key.now)) (sym c.in-Added.is ∙ from) (c.eviction_on_node.ensures.some q h nodes pods s synced)
 
-pub returns-in_err-node_given-clause-none : goal.returns-in_err-node_given-clause-none
-returns-in_err-node_given-clause-none g c q h nodes pods s synced =
-    let sees = sym (c.pod.ensures.seen q h nodes pods s synced) ∙ ap found_pair c.in_ok-given.was in
-    let none = sym (c.node.ensures q h nodes pods s synced) ∙ ap found_pair c.in_err-node_given.was in
-    if_none_always (is_by_now c.args.now.0 (seen_due q c.args.key.now h) ≡ false) c.from_residual-in_err-node_given.result
-    (ap (is_by_now c.args.now.0) (unplaced_never q c.args.key.now h (c.in_ok-given.given, c.in_ok-given.pod.now) sees none))
+pub returns-in-Added-clause-none : goal.returns-in-Added-clause-none
+returns-in-Added-clause-none g c doc q h nodes pods s from settled synced =
+    subst (λ rule. IfNone c.eviction_on_node.result (is_by_now c.args.now.0 (due_by rule doc q c.args.key.now h) ≡ false)) (sym c.in-Added.is ∙ from) (c.eviction_on_node.ensures.none q h nodes pods s synced)
 
-pub returns-then-from-at-clause-none : goal.returns-then-from-at-clause-none
-returns-then-from-at-clause-none g c q h nodes pods s synced =
-    let sees = sym (c.pod.ensures.seen q h nodes pods s synced) ∙ ap found_pair c.in_ok-given.was in
-    let sees_node = sym (c.node.ensures q h nodes pods s synced) ∙ ap found_pair c.in_ok-node_given.was in
-    let less : c.args.now.0 < c.in-At.at = omega arith in
-    quiet_pod c.args.now.0 q c.args.key.now h (c.in_ok-given.given, c.in_ok-given.pod.now) (c.in_ok-node_given.node_given, c.in_ok-node_given.node.now) sees sees_node
-    (late_due c.args.now.0 c.in-At.at _ (sym c.due.ensures ∙ c.in-At.is) less)
+pub returns-in-Seen-clause-some : goal.returns-in-Seen-clause-some
+returns-in-Seen-clause-some g c doc q h nodes pods s from settled synced =
+    let rows = subst (λ rule. SettledBy rule doc q h pods c.args.self.now) (sym (sym c.in-Seen.is ∙ from)) settled in
+    subst (λ rule. IfSome c.eviction_by_row.result (IsEvictionBy rule doc q h c.args.key.now)) (sym c.in-Seen.is ∙ from) (c.eviction_by_row.ensures.some doc q h nodes pods s rows synced)
 
-pub returns-in-Never-clause-none : goal.returns-in-Never-clause-none
-returns-in-Never-clause-none g c q h nodes pods s synced =
-    let sees = sym (c.pod.ensures.seen q h nodes pods s synced) ∙ ap found_pair c.in_ok-given.was in
-    let sees_node = sym (c.node.ensures q h nodes pods s synced) ∙ ap found_pair c.in_ok-node_given.was in
-    quiet_pod c.args.now.0 q c.args.key.now h (c.in_ok-given.given, c.in_ok-given.pod.now) (c.in_ok-node_given.node_given, c.in_ok-node_given.node.now) sees sees_node
-    (ap (is_by_now c.args.now.0) (sym c.due.ensures ∙ c.in-Never.is))
-
-pub returns-else-from-at-clause-some : goal.returns-else-from-at-clause-some
-returns-else-from-at-clause-some g c q h nodes pods s synced = record {
-  pod = c.in_ok-given.pod.now;
-  node = c.in_ok-node_given.node.now;
-  name = refl;
-  sees_pod = sym (c.pod.ensures.seen q h nodes pods s synced) ∙ ap found_pair c.in_ok-given.was;
-  sees_node = sym (c.node.ensures q h nodes pods s synced) ∙ ap found_pair c.in_ok-node_given.was;
-  at = sym c.due.ensures ∙ c.in-At.is;
-}
+pub returns-in-Seen-clause-none : goal.returns-in-Seen-clause-none
+returns-in-Seen-clause-none g c doc q h nodes pods s from settled synced =
+    let rows = subst (λ rule. SettledBy rule doc q h pods c.args.self.now) (sym (sym c.in-Seen.is ∙ from)) settled in
+    subst (λ rule. IfNone c.eviction_by_row.result (is_by_now c.args.now.0 (due_by rule doc q c.args.key.now h) ≡ false)) (sym c.in-Seen.is ∙ from)
+    (c.eviction_by_row.ensures.none doc q h nodes pods s rows synced)

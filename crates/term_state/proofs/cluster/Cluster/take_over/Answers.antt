@@ -1,4 +1,4 @@
-use Rattle.std.proofs.Common.{◌≡◌, ◌∙◌, cond, length, ap, sym, subst, arith}
+use Rattle.std.proofs.Common.{◌≡◌, ◌∙◌, false, cond, length, ap, sym, subst, arith}
 use Rattle.std.specs.BTreeSet.{contains}
 use Rattle.std.specs.Ordering.{nat_cmp}
 use Rattle.std.proofs.lemmas.List.{length-drop}
@@ -11,11 +11,11 @@ use Rattle.object_store.specs.Stands as feed
 use Rattle.object_store.specs.StoreAnswers.{changed_keys}
 use Rattle.tick_laws.specs.Since.{keys_since}
 use Rattle.tick_laws.proofs.Syncing.{sync_shows}
-use Rattle.tick_laws.proofs.ToJudge.{unsettled}
-use Rattle.watch_cache.specs.TaintChanges.{IsSettled}
+use Rattle.watch_cache.specs.TaintChanges.{IsSettled, appears}
 use Rattle.watch_cache.specs.Stands.{kept_in}
 use Rattle.watch_cache.proofs.Syncs.{synced_few, written-count}
-use Rattle.term_state.proofs.Takes.{kept_same, keys_same, since_is, taken_over}
+use Rattle.term_state.specs.Sights.{is_by_sight}
+use Rattle.term_state.proofs.Takes.{kept_same, keys_same, since_is, taken_alike, taken_over, to_judge}
 use Rattle.term_state.proofs.cluster.Cluster.take_over.Goals as goal
 
 pub returns-then-position-changes-clause-stands : goal.returns-then-position-changes-clause-stands
@@ -53,8 +53,24 @@ returns-clause-judged g c q k h s st n there =
     let keys = c.since-since.ensures.keys h st ∙ since_is q h c.position-position.result (c.position-position.ensures.kept ∙ s.cache.position) in
     let now = c.since-since.ensures.shown h (node_key n) st ∙ kept_same (stored (node_key n) h) ∙ sym (sync_shows q k h (node_key n)) in (
       ap (λ ks. is_among ks (node_key n)) (sym keys) ∙ c.in_ok-names.ensures.changed n there,
-      unsettled q n h (add k q Sync h) c.args.self.now.cache (feed.shown_since since (node_key n)) s.cache now (c.in_ok-names.ensures.unsettled n there),
+      to_judge q n h (add k q Sync h) c.args.self.now.cache (feed.shown_since since (node_key n)) s.cache now c.args.self.now.evict_from c.keeps_rows.result c.keeps_rows.ensures (c.in_ok-names.ensures.unsettled n there),
     )
+
+pub returns-then-position-changes-clause-untouched : goal.returns-then-position-changes-clause-untouched
+returns-then-position-changes-clause-untouched g c q k h s st r =
+    let count : length (feed.changed_in c.args.store.now) ≡ writes h = ap length st.changes ∙ ap length (keys_same h) ∙ written-count h in
+    let position = c.position-position.ensures.kept ∙ s.cache.position in
+    absurd (omega (arith, count, position, synced_few q h, c.changes.ensures))
+
+pub returns-clause-untouched : goal.returns-clause-untouched
+returns-clause-untouched g c q k h s st r seen key out =
+    let old = c.args.self.now.cache in
+    let keys = c.since-since.ensures.keys h st ∙ since_is q h c.position-position.result (c.position-position.ensures.kept ∙ s.cache.position) in
+    let kept = c.keeps_rows.ensures ∙ ap is_by_sight seen in
+    taken_alike q k h c.args.self.now c.sync_since.new.self c.args.store.now s st r (contains nat_cmp c.in_ok-names.names)
+    (λ n among off. subst (IsSettled old n) (c.since-since.ensures.shown h (node_key n) st) (c.in_ok-names.ensures.settled n (ap (λ ks. is_among ks (node_key n)) keys ∙ among) off))
+    (λ n among off. subst (λ x. appears old n x ≡ false) (c.since-since.ensures.shown h (node_key n) st) (c.in_ok-names.ensures.appeared kept n (ap (λ ks. is_among ks (node_key n)) keys ∙ among) off))
+    key out
 
 pub returns-clause-counted : goal.returns-clause-counted
 returns-clause-counted g c q h s st =

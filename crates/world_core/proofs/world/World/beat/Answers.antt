@@ -8,7 +8,7 @@ use Rattle.history.specs.Steps.{first_starts, turns, answer_all, deliver_all}
 use Rattle.world_core.specs.declared.world.World.{World}
 use Rattle.world_process.specs.Plain.{IsFew, SentByKnown, BackToKnown}
 use Rattle.world_core.specs.Worlds.{IsPlaced, MidBeat, WorldStands, names_of}
-use Rattle.world_core.proofs.Beats.{one, two, three, beat-is, few-three, few-one, few-starts, requests-starts, replies-starts, replies-answers, unticked-three, unticked-next, world-next}
+use Rattle.world_core.proofs.Beats.{one, two, three, beat-is, few-three, few-one, few-starts, requests-starts, replies-starts, replies-answers, unticked-three, unticked-next, in-time-three, in-time-next, world-next}
 use Rattle.world_core.proofs.Known.{requests-known, replies-known}
 use Rattle.world_core.proofs.Writing.{beat-writable, lawful-few}
 use Rattle.world_core.proofs.world.World.beat.Goals as goal
@@ -38,10 +38,10 @@ returns-clause-stands g c doc k h few s =
     let same3 : deliver_all doc k (replies_due k h) h2 ≡ h3 = ap (λ bs. deliver_all doc k bs h2) (sym back) in
     let r3 = c.in_ok-deliveries.ensures.stands doc k before [] (replies_due k h) h2 r2' (subst (BackToKnown n h2) back (replies-known n k h2 r2'.world.rest.plain)) (subst IsFew (sym same3) few3) in
     let r3' : MidBeat doc k before [] [] h3 c.deliveries.new.self c.deliveries.new.deeds = subst (λ g. MidBeat doc k before [] [] g c.deliveries.new.self c.deliveries.new.deeds) same3 r3 in
-    let r4 = c.in_ok-turns.ensures.stands doc k before [] [] h3 r3' (unticked-three doc k h s.unticked) few4 in
+    let r4 = c.in_ok-turns.ensures.stands doc k before [] [] h3 r3' (unticked-three doc k h s.unticked) (in-time-three doc k h s.in_time) few4 in
     let w : World = record c.turns.new.self { beat = record { 0 = c.turns.new.self.beat.0 + 1 } } in
     let place = c.in_ok-turns.ensures.kept.place ∙ c.in_ok-deliveries.ensures.kept.place ∙ c.in_ok-arrivals.ensures.kept.place in
-    (subst (λ g. WorldStands doc (k + 1) g w) (sym is) (world-next doc k (turns doc k n h3) c.turns.new.self r4.world (subst (IsPlaced doc (k + 1)) (sym place) scripted.placed) (unticked-next doc k h s.unticked)), r4.told ∙ ap printed (sym is))
+    (subst (λ g. WorldStands doc (k + 1) g w) (sym is) (world-next doc k (turns doc k n h3) c.turns.new.self r4.world (subst (IsPlaced doc (k + 1)) (sym place) scripted.placed) (unticked-next doc k h s.unticked) (in-time-next doc k h s.in_time)), r4.told ∙ ap printed (sym is))
 
 pub returns-clause-writable : goal.returns-clause-writable
 returns-clause-writable g c doc k own stands within =

@@ -11,6 +11,7 @@ use Rattle.script_reader.proofs.OwnDocuments.{own-document}
 use Rattle.pause_times.specs.Owned.{StallsStand, AreStallsFit, stalls_of}
 use Rattle.wire_calls.specs.WireStands.{WireStands}
 use Rattle.world_core.specs.Worlds.{AreNoted}
+use Rattle.world_core.proofs.InTime.{first-in-time}
 use Rattle.world_core.proofs.Ranges.{end-most, all-fit, stalls-fit}
 use Rattle.world_core.proofs.Puts.{put-plain, put-wire, put-each, put-in_force, put-requests, put-replies}
 use Rattle.world_core.proofs.world.World.new.Goals as goal
@@ -62,6 +63,7 @@ returns-clause-stands c = record {
   };
   placed = record { earlier = λ i e less is. absurd (omega (arith, less)); later = c.requires.lawful.events };
   unticked = first_unticked doc;
+  in_time = first-in-time doc;
 }
   where
     doc : Doc

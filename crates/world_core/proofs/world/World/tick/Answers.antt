@@ -13,7 +13,7 @@ use Rattle.world_core.proofs.Turns.{same-twice}
 use Rattle.world_core.proofs.world.World.tick.Goals as goal
 
 pub returns-then-is_none-clause-stands : goal.returns-then-is_none-clause-stands
-returns-then-is_none-clause-stands g c doc k before arriving coming h r unticked few =
+returns-then-is_none-clause-stands g c doc k before arriving coming h r unticked timely few =
     let w = c.args.self.now in
     let i = c.args.i in
     let x = c.index.result.now in
@@ -22,7 +22,7 @@ returns-then-is_none-clause-stands g c doc k before arriving coming h r unticked
     running-unticked doc k i before c.args.deeds.now arriving coming h w none r
 
 pub returns-then-is_stalled-clause-stands : goal.returns-then-is_stalled-clause-stands
-returns-then-is_stalled-clause-stands g c doc k before arriving coming h r unticked few =
+returns-then-is_stalled-clause-stands g c doc k before arriving coming h r unticked timely few =
     let d = r.world.rest.document in
     let stands : is_stalled doc k ≡ true = ap (is_stalled doc) (sym d.at) ∙ sym (c.is_stalled.ensures doc d.stalls) ∙ c.if-is_stalled.true in
     running-stalled doc k c.args.i before c.args.deeds.now arriving coming h c.args.self.now stands r
@@ -48,7 +48,7 @@ returns-clause-kept g c =
     (kept-after x y z (c.requires.running.ready.kept i x was) c.tick.ensures.same c.tick.ensures.waking c.note.ensures.kept) (record { room = c.note.ensures.room; leaves = c.note.ensures.leaves })) c.requires.running.ready
 
 pub returns-clause-stands : goal.returns-clause-stands
-returns-clause-stands g c doc k before arriving coming h r unticked few =
+returns-clause-stands g c doc k before arriving coming h r unticked timely few =
     let w = c.args.self.now in
     let i = c.args.i in
     let x = c.index_mut-process.result.now in
@@ -63,5 +63,5 @@ returns-clause-stands g c doc k before arriving coming h r unticked few =
     let passes = c.passes-passes.ensures (processes doc) k arriving coming h r.world.rest.wire ∙ ap (λ p. not (loses_requests p h)) me in
     let d = r.world.rest.document in
     let goes : is_stalled doc k ≡ false = ap (is_stalled doc) (sym d.at) ∙ sym (c.is_stalled.ensures doc d.stalls) ∙ c.if-is_stalled.false in
-    let ticked = c.in_ok-tick.ensures.stands doc k i h s r.world.rest.store r.world.rest.document.at watch passes (λ sort. can-tick doc k i h goes (unticked sort) few) in
+    let ticked = c.in_ok-tick.ensures.stands doc k i h s r.world.rest.store r.world.rest.document.at watch passes (λ sort. can-tick doc k i h goes (unticked sort) timely few) in
     running-ticked doc k i before c.args.deeds.now c.tick.new.deeds arriving coming h x y z w _ c.tick.new.store within (one_process_moved was refl) refl (λ g stands. c.note.ensures.stands doc i g stands) r ticked

@@ -13,4 +13,5 @@ returns c doc k h s =
       at_once = ap (λ w. w.at_once) c.with.ensures;
       reading = ap (λ w. option_map (λ at. at.0) w.local) c.with.ensures ∙ readings-alike c.wake.result ∙ c.wake.ensures doc p h stands;
       time = ap (λ w. w.wall) c.with.ensures;
+      room = ap (λ w. w.room) c.with.ensures;
     }

@@ -1,10 +1,12 @@
-use Rattle.std.proofs.Common.{◌≡◌, not, false, sym, ap, ◌∙◌, subst}
+use Rattle.std.proofs.Common.{◌≡◌, not, false, sym, ap, ◌∙◌, subst, arith}
+use Rattle.kube_objects.specs.Clocks.{local}
 use Rattle.kube_objects.specs.Identities.{identity}
+use Rattle.agenda_laws.specs.Times.{is_early}
 use Rattle.world_process.proofs.Timers.{leads-in}
 use Rattle.world_process.specs.OwnTerm.{IsUpAs}
 use Rattle.world_process.specs.Processes.{in_term_now, clock_of, incarnation_of}
 use Rattle.world_core.specs.Waits.{WakesStand, starts_now}
-use Rattle.world_core.proofs.Awake.{acting-stands, begun-is, down-is, idle-stands, its-clock, its-term, some-holds, starting-stands, starts-is, term-reading}
+use Rattle.world_core.proofs.Awake.{acting-stands, begun-is, down-is, idle-stands, its-clock, its-term, readings-alike, some-holds, starting-stands, starts-is, term-reading}
 use Rattle.world_core.proofs.Moving.{read-at, within-end, within-processes}
 use Rattle.world_core.proofs.Ticking.{term-is}
 use Rattle.world_core.proofs.world.World.wakes.Goals.{else-self-eq0-via-then-self-eq0+else-is_up_first, else-self-eq0-via-else-self-eq0}
@@ -59,6 +61,8 @@ returns c doc k h s end =
     let led = leads-in doc k q h acts.term in
     let term = term-reading doc q h c.sync_wake.result c.term_wake.result c.sooner-term.result c.sooner-term.ensures (c.sync_wake.ensures doc q h stands s.within.rest.store watch it led) (c.term_wake.ensures doc q h stands it) in
     subst (WakesStand doc k p h) (sym c.with-2.ensures)
-    (acting-stands doc k p i h (clock_of x) c.wake-wake.result c.sooner-term.result (record { at_once = c.at_once-2.result; local = c.sooner.result; wall = c.least_due.result }) (its-clock doc p h x stands) starts (its-term doc k p i h up acts)
+    (acting-stands doc k p i h (clock_of x) c.wake-wake.result c.sooner-term.result (record { at_once = c.at_once-2.result; local = c.sooner.result; wall = c.least_due.result; room = c.delete_wake.result }) (its-clock doc p h x stands) starts (its-term doc k p i h up acts)
     (c.wake-wake.ensures doc p h stands) (c.at_once-2.ensures doc q h stands s.within.rest.store watch it) c.sooner.ensures
-    term (λ now. c.least_due.ensures doc q h now stands it))
+    term (λ now. c.least_due.ensures doc q h now stands it)
+    (λ j from. ap (is_early (local doc p j)) (readings-alike c.delete_wake.result)
+    ∙ c.delete_wake.ensures doc j q h stands it s.in_time.in_beats (λ e at. let most = s.in_time.upto e at in omega (arith, most, from))))

@@ -1,0 +1,6 @@
+use Rattle.std.proofs.Common.{sym, ◌∙◌}
+use Rattle.term_state.proofs.Same.{same_tolerations}
+use Rattle.term_state.proofs.last.are_equal.Goals as goal
+
+pub returns : goal.returns
+returns c is = same_tolerations c.args.some.now c.args.others.now (sym c.eq.ensures ∙ is)
