@@ -68,9 +68,9 @@ DeadNodesAreMarked =
     → (latest : ℕ) → a ≤ latest → v + far ≤ suc latest → latest + most ≤ e
     → MarkedAfter doc q name a e v latest near far enough needed most (IsLatestRenewal name told.x told.before)
 
--- where the node's zone keeps a rate from beat y on, which is no sooner than the latest mark, and up to that never more than k nodes are ahead of it: by as many of a
--- token's intervals after y, and one more, it is tainted, or doesn't wait any more; and where evictions go by the own rules too, by as many beats later
--- as the seconds take that a pod tolerates the taint, the pod is gone, or the taint is
+-- where the node's zone keeps a rate from beat y on, which is no sooner than the latest mark, and up to that never more than k nodes are ahead of
+-- it: by as many of a token's intervals after y, and one more, it is tainted, or doesn't wait any more; and where evictions go by the own rules too,
+-- by as many beats later as the seconds take that a pod tolerates the taint, the pod is gone, or the taint is
 abbrev pub DeadNodesEnd : Type 0
 DeadNodesEnd =
     (doc : Doc) → IsOwn doc → PassesTakeNoWork doc → (q : Identity) (name a e v : ℕ) → WatchesOver doc q name a e → (told : IsLastTold doc name v e)

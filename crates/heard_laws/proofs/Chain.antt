@@ -175,17 +175,17 @@ module _ (doc : Doc) (sound : IsSound doc) (near far s l e : ℕ) (q : Identity)
     abbrev y1 : ℕ
     y1 = r1.round.comes
 
-    abbrev D1 : List Entry
-    D1 = with_reply y1 q call (answer call.request r1.round.before) r1.before
+    abbrev after_post_reply : List Entry
+    after_post_reply = with_reply y1 q call (answer call.request r1.round.before) r1.before
 
     abbrev get : Call
-    get = next_call q y1 Plain (Get key) D1
+    get = next_call q y1 Plain (Get key) after_post_reply
 
     abbrev x2 : Entry
-    x2 = entry y1 3 q (Sends get (request_arrival doc q.process y1 D1))
+    x2 = entry y1 3 q (Sends get (request_arrival doc q.process y1 after_post_reply))
 
-    at_2 : IsTail (x2 ∷ D1) (history doc (suc y1))
-    at_2 = subst (λ o. IsTail (send_next doc y1 q o D1) (history doc (suc y1))) (post_next doc q y1 call.request (answer call.request r1.round.before) post) r1.position
+    at_2 : IsTail (x2 ∷ after_post_reply) (history doc (suc y1))
+    at_2 = subst (λ o. IsTail (send_next doc y1 q o after_post_reply) (history doc (suc y1))) (post_next doc q y1 call.request (answer call.request r1.round.before) post) r1.position
 
     y1_most : y1 ≤ x.beat + 2 * far
     y1_most = omega (arith, r1.round.most, r1.round.comes_most)
@@ -193,13 +193,13 @@ module _ (doc : Doc) (sound : IsSound doc) (near far s l e : ℕ) (q : Identity)
     y1_least : x.beat + 2 * near ≤ y1
     y1_least = omega (arith, r1.round.least, r1.round.comes_least)
 
-    in_2 : IsTail (x2 ∷ D1) (history doc (suc l))
-    in_2 = tail_trans (x2 ∷ D1) (history doc (suc y1)) (history doc (suc l)) at_2 (later_tail doc (suc y1) (suc l) (omega (arith, y1_most, to)))
+    in_2 : IsTail (x2 ∷ after_post_reply) (history doc (suc l))
+    in_2 = tail_trans (x2 ∷ after_post_reply) (history doc (suc y1)) (history doc (suc l)) at_2 (later_tail doc (suc y1) (suc l) (omega (arith, y1_most, to)))
 
     -- ---- its reply, and the write
 
-    r2 : Replied doc near far q get (request_arrival doc q.process y1 D1) y1
-    r2 = replied doc sound near far s l e q role steady up_first fast runs timeout one within x2 D1 get (request_arrival doc q.process y1 D1) in_2 refl refl (omega (arith, y1_least, from)) (omega (arith, y1_most, to))
+    r2 : Replied doc near far q get (request_arrival doc q.process y1 after_post_reply) y1
+    r2 = replied doc sound near far s l e q role steady up_first fast runs timeout one within x2 after_post_reply get (request_arrival doc q.process y1 after_post_reply) in_2 refl refl (omega (arith, y1_least, from)) (omega (arith, y1_most, to))
 
     abbrev B2 : List Entry
     B2 = r2.round.before
@@ -207,8 +207,8 @@ module _ (doc : Doc) (sound : IsSound doc) (near far s l e : ℕ) (q : Identity)
     abbrev y2 : ℕ
     y2 = r2.round.comes
 
-    abbrev D2 : List Entry
-    D2 = with_reply y2 q get (answer (Get key) B2) r2.before
+    abbrev after_get_reply : List Entry
+    after_get_reply = with_reply y2 q get (answer (Get key) B2) r2.before
 
     y2_most : y2 ≤ x.beat + 4 * far
     y2_most = omega (arith, r2.round.most, r2.round.comes_most, y1_most)
@@ -229,22 +229,22 @@ module _ (doc : Doc) (sound : IsSound doc) (near far s l e : ℕ) (q : Identity)
     a = accepted_on doc q y2 key B2 held_lease
 
     abbrev put : Call
-    put = next_call q y2 Plain a.request D2
+    put = next_call q y2 Plain a.request after_get_reply
 
     abbrev x3 : Entry
-    x3 = entry y2 3 q (Sends put (request_arrival doc q.process y2 D2))
+    x3 = entry y2 3 q (Sends put (request_arrival doc q.process y2 after_get_reply))
 
-    at_3 : IsTail (x3 ∷ D2) (history doc (suc y2))
-    at_3 = subst (λ o. IsTail (send_next doc y2 q o D2) (history doc (suc y2))) a.next r2.position
+    at_3 : IsTail (x3 ∷ after_get_reply) (history doc (suc y2))
+    at_3 = subst (λ o. IsTail (send_next doc y2 q o after_get_reply) (history doc (suc y2))) a.next r2.position
 
-    in_3 : IsTail (x3 ∷ D2) (history doc (suc l))
-    in_3 = tail_trans (x3 ∷ D2) (history doc (suc y2)) (history doc (suc l)) at_3 (later_tail doc (suc y2) (suc l) (omega (arith, y2_most, to)))
+    in_3 : IsTail (x3 ∷ after_get_reply) (history doc (suc l))
+    in_3 = tail_trans (x3 ∷ after_get_reply) (history doc (suc y2)) (history doc (suc l)) at_3 (later_tail doc (suc y2) (suc l) (omega (arith, y2_most, to)))
 
-    in_3e : IsTail (x3 ∷ D2) (history doc (suc e))
-    in_3e = tail_trans (x3 ∷ D2) (history doc (suc l)) (history doc (suc e)) in_3 (later_tail doc (suc l) (suc e) (omega (arith, within)))
+    in_3e : IsTail (x3 ∷ after_get_reply) (history doc (suc e))
+    in_3e = tail_trans (x3 ∷ after_get_reply) (history doc (suc l)) (history doc (suc e)) in_3 (later_tail doc (suc l) (suc e) (omega (arith, within)))
 
-    arriving : (w : ℕ) × (request_arrival doc q.process y2 D2 ≡ Some w) × (y2 + near ≤ w) × (w ≤ y2 + far)
-    arriving = arrives_in doc sound near far s l q role steady x3 D2 put (request_arrival doc q.process y2 D2) (suc y2) at_3 refl refl (omega (arith, y2_least, from)) (omega (arith, y2_most, to)) goes
+    arriving : (w : ℕ) × (request_arrival doc q.process y2 after_get_reply ≡ Some w) × (y2 + near ≤ w) × (w ≤ y2 + far)
+    arriving = arrives_in doc sound near far s l q role steady x3 after_get_reply put (request_arrival doc q.process y2 after_get_reply) (suc y2) at_3 refl refl (omega (arith, y2_least, from)) (omega (arith, y2_most, to)) goes
 
     abbrev w : ℕ
     w = arriving.0
@@ -254,7 +254,7 @@ module _ (doc : Doc) (sound : IsSound doc) (near far s l e : ℕ) (q : Identity)
 
     answering : IsAnswered doc w third
     answering =
-        requests_are_answered doc w x3 third (in_events doc y2 w x3 D2 (omega (arith, one, arriving.2)) at_3) (ap (λ o. Some (record { who = q; call = put; arrives = o })) arriving.1) refl
+        requests_are_answered doc w x3 third (in_events doc y2 w x3 after_get_reply (omega (arith, one, arriving.2)) at_3) (ap (λ o. Some (record { who = q; call = put; arrives = o })) arriving.1) refl
 
     abbrev B3 : List Entry
     B3 = answering.before
@@ -273,10 +273,10 @@ module _ (doc : Doc) (sound : IsSound doc) (near far s l e : ℕ) (q : Identity)
 
     -- ---- nothing tells of the node between
 
-    get_low : IsTail (x2 ∷ D1) B2
+    get_low : IsTail (x2 ∷ after_post_reply) B2
     get_low =
-        tail_trans (x2 ∷ D1) (with_events doc r2.round.at) B2
-        (tail_trans (x2 ∷ D1) (history doc r2.round.at) (with_events doc r2.round.at) (tail_trans (x2 ∷ D1) (history doc (suc y1)) (history doc r2.round.at) at_2 (later_tail doc (suc y1) r2.round.at (omega (arith, one, r2.round.least)))) (before_events doc r2.round.at))
+        tail_trans (x2 ∷ after_post_reply) (with_events doc r2.round.at) B2
+        (tail_trans (x2 ∷ after_post_reply) (history doc r2.round.at) (with_events doc r2.round.at) (tail_trans (x2 ∷ after_post_reply) (history doc (suc y1)) (history doc r2.round.at) at_2 (later_tail doc (suc y1) r2.round.at (omega (arith, one, r2.round.least)))) (before_events doc r2.round.at))
         r2.round.after
 
     B2_low : IsTail B2 B3
@@ -293,11 +293,11 @@ module _ (doc : Doc) (sound : IsSound doc) (near far s l e : ℕ) (q : Identity)
       y_in : IsTail (y ∷ t) (history doc (suc e))
       y_in = tail_trans (y ∷ t) B3 (history doc (suc e)) y_at B3_in
 
-      get_before : IsTail (x2 ∷ D1) t
-      get_before = tail_trans (x2 ∷ D1) B2 t get_low since
+      get_before : IsTail (x2 ∷ after_post_reply) t
+      get_before = tail_trans (x2 ∷ after_post_reply) B2 t get_low since
 
       y_late : y1 ≤ y.beat
-      y_late = ⊎_elim (λ lt. omega (arith, lt)) (λ here. omega (arith, here.0)) (below_ordered y t (history doc (suc e)) y_in (entries_are_ordered doc (suc e)) x2 (in_tail x2 (x2 ∷ D1) t get_before (inl refl)))
+      y_late = ⊎_elim (λ lt. omega (arith, lt)) (λ here. omega (arith, here.0)) (below_ordered y t (history doc (suc e)) y_in (entries_are_ordered doc (suc e)) x2 (in_tail x2 (x2 ∷ after_post_reply) t get_before (inl refl)))
 
       -- an answer to a call of the kubelet's
       module _ (c : Call) (replied_as : Reply) (comes : Option ℕ) (wrote : Option Object) (y_fact : y.fact ≡ Answers c replied_as comes wrote) (mine : y.actor ≡ actor_of q) (sent_late : s ≤ c.sent)
@@ -346,11 +346,11 @@ module _ (doc : Doc) (sound : IsSound doc) (near far s l e : ℕ) (q : Identity)
         t_in = tail_trans t (y ∷ t) (history doc (suc e)) (inr (tail_all t)) y_in
 
         -- the Get writes nothing
-        is_get : f ∷ S ≡ x2 ∷ D1 → ⊥
+        is_get : f ∷ S ≡ x2 ∷ after_post_reply → ⊥
         is_get is = false_is (sym none ∙ tells)
           where
             same : c ≡ get
-            same = sends_call c get made.s.arrives (request_arrival doc q.process y1 D1) (sym f_fact ∙ ap (λ (e : Entry). e.fact) (same_head f x2 S D1 is))
+            same = sends_call c get made.s.arrives (request_arrival doc q.process y1 after_post_reply) (sym f_fact ∙ ap (λ (e : Entry). e.fact) (same_head f x2 S after_post_reply is))
 
             nothing : wrote ≡ None
             nothing = made.written_is ∙ ap (λ (c : Call). written c.request t) (sym made.call_is ∙ same)
@@ -359,43 +359,43 @@ module _ (doc : Doc) (sound : IsSound doc) (near far s l e : ℕ) (q : Identity)
             none = ap (λ o. is_about name (request_write c.request o)) nothing
 
         -- an earlier call was answered before the Get was sent
-        is_earlier : IsTail (f ∷ S) D1 → ⊥
+        is_earlier : IsTail (f ∷ S) after_post_reply → ⊥
         is_earlier low =
-            let d1_in : IsTail D1 (history doc (suc l)) = tail_trans D1 (x2 ∷ D1) (history doc (suc l)) (inr (tail_all D1)) in_2 in
-            no_other D1 (tail_trans D1 (x2 ∷ D1) t (inr (tail_all D1)) get_before) t_in
-            (one_at_a_time doc sound near far s l e q role steady up_first fast runs timeout one within f S c made.s.arrives (tail_trans (f ∷ S) D1 (history doc (suc l)) low d1_in) f_actor f_fact f_late
-            x2 D1 get (request_arrival doc q.process y1 D1) in_2 refl refl low)
+            let d1_in : IsTail after_post_reply (history doc (suc l)) = tail_trans after_post_reply (x2 ∷ after_post_reply) (history doc (suc l)) (inr (tail_all after_post_reply)) in_2 in
+            no_other after_post_reply (tail_trans after_post_reply (x2 ∷ after_post_reply) t (inr (tail_all after_post_reply)) get_before) t_in
+            (one_at_a_time doc sound near far s l e q role steady up_first fast runs timeout one within f S c made.s.arrives (tail_trans (f ∷ S) after_post_reply (history doc (suc l)) low d1_in) f_actor f_fact f_late
+            x2 after_post_reply get (request_arrival doc q.process y1 after_post_reply) in_2 refl refl low)
 
         -- the call of the write is answered above
-        is_put : f ∷ S ≡ x3 ∷ D2 → ⊥
+        is_put : f ∷ S ≡ x3 ∷ after_get_reply → ⊥
         is_put is = no_cycle a3 B3 (subst (λ h. IsTail h B3) same y_at)
           where
             that : c ≡ put
-            that = sends_call c put made.s.arrives (request_arrival doc q.process y2 D2) (sym f_fact ∙ ap (λ (e : Entry). e.fact) (same_head f x3 S D2 is))
+            that = sends_call c put made.s.arrives (request_arrival doc q.process y2 after_get_reply) (sym f_fact ∙ ap (λ (e : Entry). e.fact) (same_head f x3 S after_get_reply is))
 
             same : y ∷ t ≡ a3 ∷ B3
             same =
                 answers_differ doc sound.2 (suc e) y a3 t B3 back (record { who = q; call = put; reply = answer a.request B3; comes = reply_arrival doc q.process w B3 }) y_in a3_in y_back refl refl (ap (λ (c : Call). c.number) that)
 
         -- no call is sent between the two
-        is_between : IsTail (x2 ∷ D1) S → IsTail (f ∷ S) D2 → ⊥
+        is_between : IsTail (x2 ∷ after_post_reply) S → IsTail (f ∷ S) after_get_reply → ⊥
         is_between low high =
             omega (
               arith,
               (number_is doc sound (suc e) q role c made.s.arrives f S f_in f_actor f_fact).1,
-              (number_is doc sound (suc l) q role get (request_arrival doc q.process y1 D1) x2 D1 in_2 refl refl).0,
-              (number_is doc sound (suc l) q role get (request_arrival doc q.process y1 D1) x2 D1 in_2 refl refl).1,
-              begun_tail q (x2 ∷ D1) S low,
-              begun_tail q (f ∷ S) D2 high,
+              (number_is doc sound (suc l) q role get (request_arrival doc q.process y1 after_post_reply) x2 after_post_reply in_2 refl refl).0,
+              (number_is doc sound (suc l) q role get (request_arrival doc q.process y1 after_post_reply) x2 after_post_reply in_2 refl refl).1,
+              begun_tail q (x2 ∷ after_post_reply) S low,
+              begun_tail q (f ∷ S) after_get_reply high,
               newest_number doc sound (suc l) q role r2.before before_in get r2.waits,
             )
           where
             before_in : IsTail r2.before (history doc (suc l))
-            before_in = tail_trans r2.before (x3 ∷ D2) (history doc (suc l)) (inr (inr (tail_all r2.before))) in_3
+            before_in = tail_trans r2.before (x3 ∷ after_get_reply) (history doc (suc l)) (inr (inr (tail_all r2.before))) in_3
 
         -- nor after the write's call while it waits
-        is_later : IsTail (x3 ∷ D2) S → ⊥
-        is_later low = ⊎_elim (λ waits. none_is put (sym sending.free ∙ waits)) closed (waits_on doc sound (suc e) q role put (request_arrival doc q.process y2 D2) x3 D2 in_3e refl refl S s_in low)
+        is_later : IsTail (x3 ∷ after_get_reply) S → ⊥
+        is_later low = ⊎_elim (λ waits. none_is put (sym sending.free ∙ waits)) closed (waits_on doc sound (suc e) q role put (request_arrival doc q.process y2 after_get_reply) x3 after_get_reply in_3e refl refl S s_in low)
           where
             s_low : IsTail S t
             s_low = tail_trans S (f ∷ S) t (inr (tail_all S)) f_at
@@ -406,7 +406,7 @@ module _ (doc : Doc) (sound : IsSound doc) (near far s l e : ℕ) (q : Identity)
             s_B3 : IsTail S B3
             s_B3 = tail_trans S t B3 s_low (tail_trans t (y ∷ t) B3 (inr (tail_all t)) y_at)
 
-            on_time : (z : Entry) (Z : List Entry) → IsTail (z ∷ Z) S → IsTail (x3 ∷ D2) Z → z.actor ≡ actor_of q → is_late doc q z.beat put ≡ true → call_in q Z ≡ Some put → ⊥
+            on_time : (z : Entry) (Z : List Entry) → IsTail (z ∷ Z) S → IsTail (x3 ∷ after_get_reply) Z → z.actor ≡ actor_of q → is_late doc q z.beat put ≡ true → call_in q Z ≡ Some put → ⊥
             on_time z Z z_at z_since z_mine late waits =
                 true_is (sym late ∙ timely doc sound near far s l e q role steady up_first fast runs timeout one within put y2 z.beat refl (omega (arith, y2_least, from)) after (omega (arith, upto, arriving.3)) (omega (arith, upto, w_end)))
               where
@@ -419,10 +419,10 @@ module _ (doc : Doc) (sound : IsSound doc) (near far s l e : ℕ) (q : Identity)
                 after : y2 ≤ z.beat
                 after =
                     ⊎_elim (λ lt. omega (arith, lt)) (λ here. omega (arith, here.0))
-                    (below_ordered z Z (history doc (suc e)) (tail_trans (z ∷ Z) S (history doc (suc e)) z_at s_in) (entries_are_ordered doc (suc e)) x3 (in_tail x3 (x3 ∷ D2) Z z_since (inl refl)))
+                    (below_ordered z Z (history doc (suc e)) (tail_trans (z ∷ Z) S (history doc (suc e)) z_at s_in) (entries_are_ordered doc (suc e)) x3 (in_tail x3 (x3 ∷ after_get_reply) Z z_since (inl refl)))
 
-            closed : IsClosed q put (x3 ∷ D2) S → ⊥
-            closed closing = by_answer (closed_answered doc sound (suc e) q role put (x3 ∷ D2) S s_in closing on_time)
+            closed : IsClosed q put (x3 ∷ after_get_reply) S → ⊥
+            closed closing = by_answer (closed_answered doc sound (suc e) q role put (x3 ∷ after_get_reply) S s_in closing on_time)
               where
                 by_answer : HasAnswer q put.number S → ⊥
                 by_answer has_one =
@@ -432,19 +432,19 @@ module _ (doc : Doc) (sound : IsSound doc) (near far s l e : ℕ) (q : Identity)
                     (tail_trans (has_one.z ∷ p.before) S (history doc (suc e)) p.position s_in) a3_in has_one.is refl has_one.who has_one.number_is in
                     no_cycle a3 B3 (tail_trans (a3 ∷ B3) S B3 (subst (λ h. IsTail h S) same p.position) s_B3)
 
-        after_get : IsTail (x2 ∷ D1) S → ⊥
-        after_get low = by_place (tails_meet (f ∷ S) (x3 ∷ D2) (history doc (suc e)) f_in in_3e)
+        after_get : IsTail (x2 ∷ after_post_reply) S → ⊥
+        after_get low = by_place (tails_meet (f ∷ S) (x3 ∷ after_get_reply) (history doc (suc e)) f_in in_3e)
           where
-            by_place : IsTail (f ∷ S) (x3 ∷ D2) ⊎ IsTail (x3 ∷ D2) (f ∷ S) → ⊥
+            by_place : IsTail (f ∷ S) (x3 ∷ after_get_reply) ⊎ IsTail (x3 ∷ after_get_reply) (f ∷ S) → ⊥
             by_place (inl (inl is)) = is_put is
             by_place (inl (inr high)) = is_between low high
             by_place (inr (inl is)) = is_put (sym is)
             by_place (inr (inr high)) = is_later high
 
         no_answer : ⊥
-        no_answer = by_place (tails_meet (f ∷ S) (x2 ∷ D1) (history doc (suc e)) f_in (tail_trans (x2 ∷ D1) (history doc (suc l)) (history doc (suc e)) in_2 (later_tail doc (suc l) (suc e) (omega (arith, within)))))
+        no_answer = by_place (tails_meet (f ∷ S) (x2 ∷ after_post_reply) (history doc (suc e)) f_in (tail_trans (x2 ∷ after_post_reply) (history doc (suc l)) (history doc (suc e)) in_2 (later_tail doc (suc l) (suc e) (omega (arith, within)))))
           where
-            by_place : IsTail (f ∷ S) (x2 ∷ D1) ⊎ IsTail (x2 ∷ D1) (f ∷ S) → ⊥
+            by_place : IsTail (f ∷ S) (x2 ∷ after_post_reply) ⊎ IsTail (x2 ∷ after_post_reply) (f ∷ S) → ⊥
             by_place (inl (inl is)) = is_get is
             by_place (inl (inr low)) = is_earlier low
             by_place (inr (inl is)) = is_get (sym is)
@@ -481,14 +481,14 @@ module _ (doc : Doc) (sound : IsSound doc) (near far s l e : ℕ) (q : Identity)
 
     -- where there is time for the third reply too
     module _ (more : x.beat + 6 * far ≤ l) where
-      r3 : Replied doc near far q put (request_arrival doc q.process y2 D2) y2
-      r3 = replied doc sound near far s l e q role steady up_first fast runs timeout one within x3 D2 put (request_arrival doc q.process y2 D2) in_3 refl refl (omega (arith, y2_least, from)) (omega (arith, y2_most, more))
+      r3 : Replied doc near far q put (request_arrival doc q.process y2 after_get_reply) y2
+      r3 = replied doc sound near far s l e q role steady up_first fast runs timeout one within x3 after_get_reply put (request_arrival doc q.process y2 after_get_reply) in_3 refl refl (omega (arith, y2_least, from)) (omega (arith, y2_most, more))
 
       abbrev y3 : ℕ
       y3 = r3.round.comes
 
-      abbrev D3 : List Entry
-      D3 = with_reply y3 q put (answer a.request r3.round.before) r3.before
+      abbrev after_write_reply : List Entry
+      after_write_reply = with_reply y3 q put (answer a.request r3.round.before) r3.before
 
       y3_most : y3 ≤ x.beat + 6 * far
       y3_most = omega (arith, r3.round.most, r3.round.comes_most, y2_most)
@@ -496,10 +496,10 @@ module _ (doc : Doc) (sound : IsSound doc) (near far s l e : ℕ) (q : Identity)
       y3_least : x.beat + 6 * near ≤ y3
       y3_least = omega (arith, r3.round.least, r3.round.comes_least, y2_least)
 
-      D3_in : IsTail D3 (history doc (suc l))
+      D3_in : IsTail after_write_reply (history doc (suc l))
       D3_in =
-          tail_trans D3 (history doc (suc y3)) (history doc (suc l))
-          (tail_trans D3 (send_next doc y3 q (next_request doc q y3 put.request (answer put.request r3.round.before)) D3) (history doc (suc y3)) (next_low doc y3 q (next_request doc q y3 put.request (answer put.request r3.round.before)) D3) r3.position)
+          tail_trans after_write_reply (history doc (suc y3)) (history doc (suc l))
+          (tail_trans after_write_reply (send_next doc y3 q (next_request doc q y3 put.request (answer put.request r3.round.before)) after_write_reply) (history doc (suc y3)) (next_low doc y3 q (next_request doc q y3 put.request (answer put.request r3.round.before)) after_write_reply) r3.position)
           (later_tail doc (suc y3) (suc l) (omega (arith, y3_most, more)))
 
       -- a request stands below its reply
@@ -521,20 +521,20 @@ module _ (doc : Doc) (sound : IsSound doc) (near far s l e : ℕ) (q : Identity)
           stays_up doc sound near far s l q role steady (with_events doc s) h (tail_all (with_events doc s))
           (tail_trans (with_events doc s) T h low (tail_trans T (x ∷ T) h (inr (tail_all T)) since)) h_in (omega (arith, from, to)) up_first
 
-      low_1 : IsTail (x ∷ T) D1
+      low_1 : IsTail (x ∷ T) after_post_reply
       low_1 = inr (below_reply x T call arrives x.beat r1 refl at)
 
-      low_2 : IsTail (x2 ∷ D1) D2
-      low_2 = inr (below_reply x2 D1 get (request_arrival doc q.process y1 D1) y1 r2 refl in_2)
+      low_2 : IsTail (x2 ∷ after_post_reply) after_get_reply
+      low_2 = inr (below_reply x2 after_post_reply get (request_arrival doc q.process y1 after_post_reply) y1 r2 refl in_2)
 
-      low_3 : IsTail (x3 ∷ D2) D3
-      low_3 = inr (below_reply x3 D2 put (request_arrival doc q.process y2 D2) y2 r3 refl in_3)
+      low_3 : IsTail (x3 ∷ after_get_reply) after_write_reply
+      low_3 = inr (below_reply x3 after_get_reply put (request_arrival doc q.process y2 after_get_reply) y2 r3 refl in_3)
 
-      D1_in : IsTail D1 (history doc (suc l))
-      D1_in = tail_trans D1 (x2 ∷ D1) (history doc (suc l)) (inr (tail_all D1)) in_2
+      D1_in : IsTail after_post_reply (history doc (suc l))
+      D1_in = tail_trans after_post_reply (x2 ∷ after_post_reply) (history doc (suc l)) (inr (tail_all after_post_reply)) in_2
 
-      D2_in : IsTail D2 (history doc (suc l))
-      D2_in = tail_trans D2 (x3 ∷ D2) (history doc (suc l)) (inr (tail_all D2)) in_3
+      D2_in : IsTail after_get_reply (history doc (suc l))
+      D2_in = tail_trans after_get_reply (x3 ∷ after_get_reply) (history doc (suc l)) (inr (tail_all after_get_reply)) in_3
 
       below_top : (z : Entry) (h : List Entry) → IsTail (z ∷ h) (history doc (suc l)) → IsTail h (history doc (suc l))
       below_top z h z_at = tail_trans h (z ∷ h) (history doc (suc l)) (inr (tail_all h)) z_at
@@ -547,30 +547,30 @@ module _ (doc : Doc) (sound : IsSound doc) (near far s l e : ℕ) (q : Identity)
           ∙ ap (λ b. or_zero (upper (when (b && is_same q q) (local doc q.process x.beat + round_period doc)) (newest (λ e T. round_timer_says doc q e.beat e.actor e.fact) T))) post
           ∙ ap (λ b. or_zero (upper (when b (local doc q.process x.beat + round_period doc)) (newest (λ e T. round_timer_says doc q e.beat e.actor e.fact) T))) (same_self q)
 
-      timer_1 : round_timer doc q D1 ≡ round_timer doc q (x ∷ T)
+      timer_1 : round_timer doc q after_post_reply ≡ round_timer doc q (x ∷ T)
       timer_1 =
-          timer_stays doc sound (suc l) q role (x ∷ T) (λ h since h_in. up_at h since h_in) D1 low_1 D1_in
+          timer_stays doc sound (suc l) q role (x ∷ T) (λ h since h_in. up_at h since h_in) after_post_reply low_1 D1_in
           (omega (arith, newest_number doc sound (suc l) q role r1.before (below_top (entry y1 3 q (Delivers call (answer call.request r1.round.before) true)) r1.before D1_in) call r1.waits, (number_is doc sound (suc l) q role call arrives x T at actor fact).0, (number_is doc sound (suc l) q role call arrives x T at actor fact).1))
 
-      since_2 : (h : List Entry) → IsTail (x2 ∷ D1) h → IsTail (x ∷ T) h
-      since_2 h since = tail_trans (x ∷ T) (x2 ∷ D1) h (inr low_1) since
+      since_2 : (h : List Entry) → IsTail (x2 ∷ after_post_reply) h → IsTail (x ∷ T) h
+      since_2 h since = tail_trans (x ∷ T) (x2 ∷ after_post_reply) h (inr low_1) since
 
-      timer_2 : round_timer doc q D2 ≡ round_timer doc q (x2 ∷ D1)
+      timer_2 : round_timer doc q after_get_reply ≡ round_timer doc q (x2 ∷ after_post_reply)
       timer_2 =
-          timer_stays doc sound (suc l) q role (x2 ∷ D1) (λ h since h_in. up_at h (since_2 h since) h_in) D2 low_2 D2_in
-          (omega (arith, newest_number doc sound (suc l) q role r2.before (below_top (entry y2 3 q (Delivers get (answer (Get key) B2) true)) r2.before D2_in) get r2.waits, (number_is doc sound (suc l) q role get (request_arrival doc q.process y1 D1) x2 D1 in_2 refl refl).0, (number_is doc sound (suc l) q role get (request_arrival doc q.process y1 D1) x2 D1 in_2 refl refl).1))
+          timer_stays doc sound (suc l) q role (x2 ∷ after_post_reply) (λ h since h_in. up_at h (since_2 h since) h_in) after_get_reply low_2 D2_in
+          (omega (arith, newest_number doc sound (suc l) q role r2.before (below_top (entry y2 3 q (Delivers get (answer (Get key) B2) true)) r2.before D2_in) get r2.waits, (number_is doc sound (suc l) q role get (request_arrival doc q.process y1 after_post_reply) x2 after_post_reply in_2 refl refl).0, (number_is doc sound (suc l) q role get (request_arrival doc q.process y1 after_post_reply) x2 after_post_reply in_2 refl refl).1))
 
-      timer_3 : round_timer doc q D3 ≡ round_timer doc q (x3 ∷ D2)
+      timer_3 : round_timer doc q after_write_reply ≡ round_timer doc q (x3 ∷ after_get_reply)
       timer_3 =
-          timer_stays doc sound (suc l) q role (x3 ∷ D2) (λ h since h_in. up_at h (since_2 h (tail_trans (x2 ∷ D1) (x3 ∷ D2) h (inr low_2) since)) h_in) D3 low_3 D3_in
-          (omega (arith, newest_number doc sound (suc l) q role r3.before (below_top (entry y3 3 q (Delivers put (answer a.request r3.round.before) true)) r3.before D3_in) put r3.waits, (number_is doc sound (suc l) q role put (request_arrival doc q.process y2 D2) x3 D2 in_3 refl refl).0, (number_is doc sound (suc l) q role put (request_arrival doc q.process y2 D2) x3 D2 in_3 refl refl).1))
+          timer_stays doc sound (suc l) q role (x3 ∷ after_get_reply) (λ h since h_in. up_at h (since_2 h (tail_trans (x2 ∷ after_post_reply) (x3 ∷ after_get_reply) h (inr low_2) since)) h_in) after_write_reply low_3 D3_in
+          (omega (arith, newest_number doc sound (suc l) q role r3.before (below_top (entry y3 3 q (Delivers put (answer a.request r3.round.before) true)) r3.before D3_in) put r3.waits, (number_is doc sound (suc l) q role put (request_arrival doc q.process y2 after_get_reply) x3 after_get_reply in_3 refl refl).0, (number_is doc sound (suc l) q role put (request_arrival doc q.process y2 after_get_reply) x3 after_get_reply in_3 refl refl).1))
 
-      timer_put : round_timer doc q (x3 ∷ D2) ≡ round_timer doc q D2
-      timer_put = ap (λ b. or_zero (upper (when (b && is_same q q) (local doc q.process y2 + round_period doc)) (newest (λ e T. round_timer_says doc q e.beat e.actor e.fact) D2))) a.plain
+      timer_put : round_timer doc q (x3 ∷ after_get_reply) ≡ round_timer doc q after_get_reply
+      timer_put = ap (λ b. or_zero (upper (when (b && is_same q q) (local doc q.process y2 + round_period doc)) (newest (λ e T. round_timer_says doc q e.beat e.actor e.fact) after_get_reply))) a.plain
 
       pub round_ends : RoundEnds doc q x.beat (x.beat + 6 * far) (x ∷ T) l
       round_ends = record {
-        h = D3;
+        h = after_write_reply;
         beat = y3;
         least = omega (arith, y3_least, one);
         most = y3_most;
@@ -578,7 +578,7 @@ module _ (doc : Doc) (sound : IsSound doc) (near far s l e : ℕ) (q : Identity)
         there = inl refl;
         last_beat = refl;
         stands = r3.stands;
-        since = tail_trans (x ∷ T) (x2 ∷ D1) D3 (inr low_1) (tail_trans (x2 ∷ D1) (x3 ∷ D2) D3 (inr low_2) low_3);
+        since = tail_trans (x ∷ T) (x2 ∷ after_post_reply) after_write_reply (inr low_1) (tail_trans (x2 ∷ after_post_reply) (x3 ∷ after_get_reply) after_write_reply (inr low_2) low_3);
         within = D3_in;
         idle = record {
           free = ap (λ b. join (upper (when b None) (last_call q r3.before))) (same_self q);
@@ -590,7 +590,7 @@ module _ (doc : Doc) (sound : IsSound doc) (near far s l e : ℕ) (q : Identity)
         unfollowed = λ k waiting reply before is waits next follows. unfollow k waiting reply before is next follows;
       }
         where
-          unfollow : (k : ℕ) (waiting : Call) (reply : Reply) (before : List Entry) → D3 ≡ entry k 3 q (Delivers waiting reply true) ∷ before → (next : Request) → next_request doc q k waiting.request reply ≡ Some next → ⊥
+          unfollow : (k : ℕ) (waiting : Call) (reply : Reply) (before : List Entry) → after_write_reply ≡ entry k 3 q (Delivers waiting reply true) ∷ before → (next : Request) → next_request doc q k waiting.request reply ≡ Some next → ⊥
           unfollow k waiting reply before is next follows =
               let same : put ≡ waiting = delivers_call put waiting (answer a.request r3.round.before) reply (ap (λ (x : Entry). x.fact) (same_head (entry y3 3 q (Delivers put (answer a.request r3.round.before) true)) (entry k 3 q (Delivers waiting reply true)) r3.before before is)) in
               none_is next (sym (ap (λ (c : Call). next_request doc q k c.request reply) (sym same) ∙ ends_at k reply) ∙ follows)

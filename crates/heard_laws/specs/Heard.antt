@@ -56,8 +56,8 @@ pub record HearsAt (doc : Doc) (q : Identity) (name p : ℕ) : Type 0 where
   pub heard : hears q name (synced_at doc q p) ≡ true
   pub found : has (stored_node name (synced_at doc q p)) ≡ true
 
--- with the project's own rules, where the writes of passes take no time, of a leader that attends to the beats from a pass on: another pass that hears of a node comes sooner after the
--- last write that tells of the node than the monitor period takes on the leader's clock
+-- with the project's own rules, where the writes of passes take no time, of a leader that attends to the beats from a pass on: another pass that
+-- hears of a node comes sooner after the last write that tells of the node than the monitor period takes on the leader's clock
 abbrev pub PassesHearInTime : Type 0
 PassesHearInTime =
     (doc : Doc) → IsOwn doc → PassesTakeNoWork doc → (q : Identity) (name a p e v : ℕ) → Attends doc q a e → has_pass doc q a ≡ true → IsLastTold doc name v e
