@@ -198,7 +198,11 @@ hint() {
 try_hints() {
     mode=hints launcher=$room/hints/kube_replay bytes=$(($(wc -c <"$room/bad.json")))
     stand_in kube_replay <<'PROGRAM'
-if grep bad >/dev/null 2>&1; then echo 'refused 3 /'; exit 1; fi
+input=$(cat 2>/dev/null)
+case "$input" in
+    *bad*) echo 'refused 3 /'; exit 1 ;;
+    *taint*) echo 'refused 43 /5'; exit 1 ;;
+esac
 echo ok
 PROGRAM
     stand_in kube_lens <<'LENS'
@@ -221,6 +225,13 @@ LENS
     hint 'a document given for a trace' 1 'refused 3 /' 'this is JSON, as a document is; audit reads a trace, as ./kube_replay replay writes it'
     echo bad | run audit
     hint 'a refusal of what is no document' 1 'refused 3 /' ''
+    printf '%s\n' 'trace 1 beat=100 end=9 premise=yes' '4 a_1 lead v=1' '4 a_1 zone r/z Normal rate=1' '4 a_1 taint n not-ready v=2' \
+        '5 a_1 taint n not-ready v=3' >"$room/early"
+    run audit <"$room/early"
+    hint 'a second taint that is early' 1 'refused 43 /5' ''
+    sed '4s/.*/4 a_1 zone r\/y Normal rate=1/' "$room/early" | run audit
+    hint 'a first taint of a zone, which a full bucket allows' 1 'refused 43 /5' \
+        'line 5 is one of the first taints of its term: by "bucket":"full", as with "rules":"1.20", that is lawful'
     run check </
     hint 'a directory as input' 0 ok ''
     touch "$room/hints/crates.txt"
@@ -281,6 +292,40 @@ LENS
     hint 'a folder in place of a document' 3 '' "$room can't be read"
     run summary --document "$room/document.json" </
     hint 'a folder in place of a trace' 3 '' 'standard input is a directory'
+    try_traces_to_explain
+}
+
+# What `explain` answers of a trace is what `audit` of kube_replay says, and the sentence behind it; of all else it is the answer of kube_lens.
+try_traces_to_explain() {
+    bytes=$(wc -c <"$room/document.json")
+    lawful='line 5 is one of the first taints of its term: by "bucket":"full", as with "rules":"1.20", that is lawful'
+    sed '4s/.*/4 a_1 zone r\/y Normal rate=1/' "$room/early" >"$room/lawful"
+    stand_in kube_replay <<'PROGRAM'
+[ "$*" = audit ] || exit 2
+case "$(cat)" in *taint*) echo 'refused 43 /5'; exit 1 ;; *) echo ok ;; esac
+PROGRAM
+    { echo '[ "${1:-}" = explain ] || exit 2'; echo 'echo "$# $(wc -c 2>/dev/null)"'; } | stand_in kube_lens
+    run explain <"$room/document.json"
+    hint 'a document to explain' 0 "1 $bytes" ''
+    { sleep 1; cat "$room/document.json"; } | run explain
+    hint 'a document to explain, slow pipe' 0 "1 $bytes" ''
+    { cat "$room/document.json"; head -c 20000000 /dev/zero; } | run explain
+    hint 'explain of 20 MB, from a pipe' 0 '1 16777217' ''
+    run explain <"$room/lawful"
+    hint 'explain: lawful by a full bucket' 1 'refused 43 /5' "$lawful"
+    { sleep 1; cat "$room/lawful"; } | run explain
+    hint 'the same, from a slow pipe' 1 'refused 43 /5' "$lawful"
+    run explain <"$room/early"
+    hint 'explain: a taint that is early' 1 'refused 43 /5' ''
+    run explain <"$room/trace.txt"
+    hint 'explain: a safe trace' 0 ok ''
+    run explain --json <"$room/lawful"
+    hint 'explain --json of a trace' 0 "2 $(($(wc -c <"$room/lawful")))" ''
+    run explain </
+    hint 'explain of a directory' 0 '1 0' ''
+    touch -d '1 hour ago' "$room/hints/crates/kube_replay/out/kube_replay"
+    run explain <"$room/lawful"
+    hint 'kube_replay is older than sources' 0 "1 $(($(wc -c <"$room/lawful")))" ''
 }
 
 if [ "${1:-hints}" = hints ]; then

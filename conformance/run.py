@@ -4,7 +4,7 @@
     conformance/run.py [--exe COMMAND] [--lens COMMAND] [--rules-exe COMMAND] [SET ..]
 
 COMMAND is the program without its command word; else it is the built one, crates/kube_replay/out/kube_replay, and behind --lens
-crates/kube_lens/out/kube_lens, which tells how long nobody leads after a crash. Some sets and scenarios are compared by upstream's rules too,
+crates/kube_lens/out/kube_lens, which tells how long nobody leads after a crash. All sets and scenarios are compared by upstream's rules too,
 in documents of version 4, by another program behind --rules-exe if there is one; where it has not built these keys, that is left out
 and told. --rules alone compares by these rules and nothing else. Ends with 1 where a count isn't that of counts.json,
 where a rule of docs/profile.md doesn't say how it is known, where a kind of difference has no rule there that names its set or
@@ -40,6 +40,10 @@ def faults_of(name, counts, wanted, profile):
     """What is wrong with the counts of a set, as sentences."""
     if counts != wanted:
         yield f"{name}: other counts than in counts.json: {json.dumps(counts)}"
+    yield from unnamed(name, counts, profile)
+
+
+def unnamed(name, counts, profile):
     for kind in counts["differ"]:
         if not profile.names_set(row_of(kind), name):
             yield f"{name}: no rule of docs/profile.md is named '{row_of(kind)}' and known by `{name}`, for: {kind}"
@@ -59,7 +63,7 @@ def of_sets(names, program, profile, is_written):
     return counts, faults
 
 
-def of_rules(own, program, is_written):
+def of_rules(own, program, profile, is_written):
     """How many cases there are by upstream's rules, the tables of both, and what is wrong; nothing where the program has no such rules yet."""
     if not by_rules.are_built(program):
         print("by upstream's rules: left out, since this program has no keys for them yet", flush=True)
@@ -67,17 +71,23 @@ def of_rules(own, program, is_written):
     path = f"{TOP}/counts_by_rules.json"
     with open(path, encoding="utf-8") as file:
         wanted = json.load(file)
-    counts = by_rules.tallies(program)
-    for name, it in counts.items():
-        print(f"by upstream's rules, {told(name, it)}", flush=True)
+    counts = {}
+    for name in SETS:
+        counts[name] = by_rules.tally(name, program)
+        print(f"by upstream's rules, {told(name, counts[name])}", flush=True)
     if is_written:
         with open(path, "w", encoding="utf-8") as file:
             json.dump(counts, file, indent=1)
             file.write("\n")
     faults = [f"{name}, by upstream's rules: other counts than in counts_by_rules.json: {json.dumps(it)}" for name, it in counts.items()
               if it != wanted.get(name) and not is_written]
-    made = {"by rules": by_rules.both(own, counts), **scenarios_by_rules.tables(plane.Scenario, program)}
-    return sum(it["cases"] for it in counts.values()), made, faults
+    for name, it in counts.items():
+        faults += unnamed(name, it, profile)
+    found = scenarios_by_rules.compared(functools.lru_cache(None)(plane.Scenario), program)
+    print(f"by upstream's rules, {len(found)} scenarios: {scenarios_by_rules.told(found)}", flush=True)
+    made = {"by rules": by_rules.both(own, counts), "differences by rules": by_rules.differences(counts), "evictions": by_rules.evictions(program),
+            **scenarios_by_rules.tables(found)}
+    return sum(it["cases"] for it in counts.values()), made, [*faults, *scenarios_by_rules.faults(found, profile)]
 
 
 def of_crashes(lens, found, scenario_of):
@@ -124,7 +134,7 @@ def of_plane(found, stalled, scenario_of, program):
 
 def of_answers(counts, program):
     """The tables of the recorded answers."""
-    made = {"evictions": tables.evictions(program), "releases": release_tables.two_leaders(program), "grid": grid.attempts(),
+    made = {"releases": release_tables.two_leaders(program), "grid": grid.attempts(),
             "emptied rounds": release_tables.emptied_rounds(program)}
     for version, folder, more in (("", "", {}), (" 0.36", NEW, SETTINGS)):
         some = tables.of_version(counts, bool(folder))
@@ -181,7 +191,7 @@ def compared(given):
         made.update(of_answers(counts, program))
         faults += [*unnamed, *grid.faults()]
     if not given.sets:
-        more, both, wrong = of_rules(counts or known_counts(), ruled, given.write)
+        more, both, wrong = of_rules(counts or known_counts(), ruled, profile, given.write)
         cases += more
         faults += [*wrong, *of_page({**made, **both}, given.write)]
     return cases, program.runs() + (ruled.runs() if ruled is not program else 0), faults

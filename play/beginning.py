@@ -12,7 +12,9 @@ import cluster_flags
 from gate import MOST_BYTES
 
 DOC = '/usr/share/doc/kube-replay'
-FIRST = 'leader-crashes'
+# What the page begins with: this example, by the rules of this version of Kubernetes.
+EXAMPLE, RULES = 'leader-crashes', '1.20'
+FIRST = '%s-%s' % (EXAMPLE, RULES)
 KUBECTL = ['kubectl', 'get', 'nodes,pods,leases', '-A', '-o', 'json']
 IS_INSTALLED = not os.path.isdir(os.path.join(TOP, 'examples'))
 
@@ -32,13 +34,22 @@ def read(path):
     return data
 
 
+def by_rules(example):
+    """The example by the rules of Kubernetes, in a document of version 4."""
+    document = json.loads(example['text'])
+    text = json.dumps({**document, 'version': 4, 'settings': {**document['settings'], 'rules': RULES}}, indent=2)
+    return {'name': FIRST, 'sentence': '%s, as Kubernetes %s does' % (example['sentence'], RULES), 'text': text + '\n'}
+
+
 def examples():
-    """Each example with its sentence, as examples/README.md has it, and its document."""
+    """Each example with its sentence, as examples/README.md has it, and its document; and the first document behind its example."""
     folder = os.path.join(DOC if IS_INSTALLED else TOP, 'examples')
     with open(os.path.join(folder, 'README.md'), encoding='utf-8') as file:
         rows = re.findall(r'^\| \[([a-z-]+)\]\(\1/\) \| (.*) \|$', file.read(), re.M)
-    return [{'name': name, 'sentence': sentence.replace('`', ''), 'text': read(os.path.join(folder, name, 'document.json')).decode()}
-            for name, sentence in rows]
+    listed = [{'name': name, 'sentence': sentence.replace('`', ''), 'text': read(os.path.join(folder, name, 'document.json')).decode()}
+              for name, sentence in rows]
+    place = next(place for place, each in enumerate(listed) if each['name'] == EXAMPLE)
+    return [*listed[:place + 1], by_rules(listed[place]), *listed[place + 1:]]
 
 
 def of_cluster(words):

@@ -1,6 +1,6 @@
 """Serves the playground: a page on which a document is asked by clicking.
 
-    ./playground                        begins with examples/leader-crashes, and offers all examples
+    ./playground                        begins with examples/leader-crashes by the rules of Kubernetes 1.20, and offers all examples
     ./playground DOCUMENT               begins with a document
     ./playground --kubectl              begins with the cluster that kubectl sees
     ./playground --kubectl -- --from-manifest FILE       the words behind -- are those of tools/from-cluster

@@ -28,6 +28,7 @@ from driver import CONTROL, SHIFT, Person, Playground, spent
 sys.path.insert(0, os.path.join(TOP, 'python'))
 from kube_replay.engine import find_library, find_program
 
+FIRST = 'leader-crashes-1.20'
 faults = []
 
 
@@ -103,10 +104,17 @@ def test_examples(person, served, pictures):
     with open(os.path.join(TOP, 'examples', 'README.md'), encoding='utf-8') as file:
         sentences = dict(re.findall(r'^\| \[([a-z-]+)\]\([a-z-]+/\) \| (.*) \|$', file.read(), re.M))
     names = sorted(os.path.basename(os.path.dirname(path)) for path in glob.glob(os.path.join(TOP, 'examples', '*', 'document.json')))
-    same('begins with', person.run('[timeline.name, playground.undo.past.length]'), ['leader-crashes', 0])
+    same('begins with', person.run('[timeline.name, playground.undo.past.length]'), [FIRST, 0])
+    first = same_trace('the first document', person)
+    with open(os.path.join(TOP, 'examples', 'leader-crashes', 'document.json'), encoding='utf-8') as file:
+        example = json.load(file)
+    same('the example, by the rules of 1.20', first, {**example, 'version': 4, 'settings': {**example['settings'], 'rules': '1.20'}})
+    same('it is chosen in the list', person.run('document.getElementById("examples").value'), FIRST)
     offered = person.run('[...document.querySelectorAll("#examples option")].slice(1).map(e => [e.value, e.textContent])')
-    same('the examples', sorted(name for name, _ in offered), names)
+    same('the examples', sorted(name for name, _ in offered), sorted([*names, FIRST]))
     for name, words in offered:
+        if name == FIRST:
+            continue
         same('sentence of ' + name, words, name + ' – ' + sentences[name].replace('`', ''))
         load(person, name)
         with open(os.path.join(TOP, 'examples', name, 'trace.txt'), encoding='utf-8') as file:
@@ -393,7 +401,7 @@ def test_opened(person, served, pictures):
     for _ in range(3):
         person.strike('z', modifiers=CONTROL)
         person.settle()
-    same('undo goes back over all documents', (person.run('timeline.name'), person.run('playground.undo.past.length')), ('leader-crashes', 0))
+    same('undo goes back over all documents', (person.run('timeline.name'), person.run('playground.undo.past.length')), (FIRST, 0))
     same_trace('undo goes back to the first document', person)
     for _ in range(2):
         person.strike('y', modifiers=CONTROL)
@@ -682,14 +690,14 @@ def test_large(person, served, pictures):
 def test_first_minute(person, served, pictures):
     """What docs/playground.md tells of three questions comes out as it is told."""
     longest = lambda: person.run('document.querySelectorAll("#answers .value")[1].textContent')
-    load(person, 'leader-crashes')
-    same('before', longest(), '16.4 s')
+    load(person, FIRST)
+    same('before', longest(), '17 s')
     person.press('#pin')
     slide(person, '--leader-elect-lease-duration', 29 / 59)
     same('the run is too short', longest(), 'over 20.1 s')
     person.press_words('run twice as long')
     same_trace('a lease of 30 s', person)
-    same('the answer', (longest(), 'pinned: 16.4 s (+15.4 s)' in person.run('document.querySelector("#answers").textContent')), ('31.8 s', True))
+    same('the answer', (longest(), 'pinned: 17 s (+13.6 s)' in person.run('document.querySelector("#answers").textContent')), ('30.6 s', True))
     person.press('#pin')
     load(person, 'first-election')
     enter(person, 'runs for', 60)
@@ -701,7 +709,7 @@ def test_first_minute(person, served, pictures):
         same('slow for %d s' % seconds, longest(), wanted)
         person.strike('z', modifiers=CONTROL)
     # 15 s are longer than 14 s times 1.0714, and 15 s times 0.9334 than 14 s.
-    load(person, 'leader-crashes')
+    load(person, FIRST)
     for percent, wanted in ((7.1, 'ruled out'), (7.2, 'not ruled out'), (-6.6, 'ruled out'), (-6.7, 'not ruled out')):
         enter(person, 'clock off by', percent)
         same('a clock that is off by %s %%' % percent, premise(person), wanted)
@@ -716,7 +724,7 @@ def test_pictures(person, served, pictures):
     if not pictures:
         return
     person.size(1280, 720)
-    load(person, 'leader-crashes')
+    load(person, FIRST)
     person.click(*person.spot('controller cp-east-2', 100))
     person.picture(os.path.join(pictures, 'playground.png'))
     person.strike('Escape')

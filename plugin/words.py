@@ -24,6 +24,7 @@ FACTS = {
     'kubernetes': ('VERSION', 'the version of the cluster, such as 1.36 (the newest of its kubelets)'),
     'from-manifest': ('FILE', "a manifest of kube-controller-manager, in place of its pods' flags"),
     'call-timeout': ('TIME', 'how long a call waits for its reply (by the version)'),
+    'rules': ('RULES', "whose rules: 1.20, 1.36, or own for this project's (by the version)"),
     'beat': ('TIME', 'how long a beat is, 1ms to 1s (100ms)'),
     'epoch': ('TIME', 'the time of day at beat 0, instead of that of the list'),
 }

@@ -50,13 +50,14 @@ def share(scale):
 Flag = collections.namedtuple('Flag', 'key read default least most')
 LEASE, RENEW, RETRY = '--leader-elect-lease-duration', '--leader-elect-renew-deadline', '--leader-elect-retry-period'
 PRIMARY, SECONDARY, GRACE = '--node-eviction-rate', '--secondary-node-eviction-rate', '--node-monitor-grace-period'
+MONITOR, STARTUP = '--node-monitor-period', '--node-startup-grace-period'
 FLAGS = {
     LEASE: Flag('leaseDurationSeconds', seconds, '15s', 1, 86_400),
     RENEW: Flag('renewDeadlineMillis', millis, '10s', 1, 86_400_000),
     RETRY: Flag('retryPeriodMillis', millis, '2s', 1, 86_400_000),
-    '--node-monitor-period': Flag('monitorPeriodMillis', millis, '5s', 1, 604_800_000),
+    MONITOR: Flag('monitorPeriodMillis', millis, '5s', 1, 604_800_000),
     GRACE: Flag('gracePeriodMillis', millis, None, 1, 604_800_000),
-    '--node-startup-grace-period': Flag('startupGraceMillis', millis, '1m', 1, 604_800_000),
+    STARTUP: Flag('startupGraceMillis', millis, '1m', 1, 604_800_000),
     PRIMARY: Flag('primaryRate', share(1_000), '0.1', 0, 1_000_000),
     SECONDARY: Flag('secondaryRate', share(1_000), '0.01', 0, 1_000_000),
     '--large-cluster-size-threshold': Flag('largeZone', share(1), '50', 0, 1_000_000),

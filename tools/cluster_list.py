@@ -5,6 +5,7 @@ from cluster_sets import sets_of
 NODE_LEASES = 'kube-node-lease'
 ELECTION = ('kube-system', 'kube-controller-manager')
 CONTROL_PLANE = ('node-role.kubernetes.io/control-plane', 'node-role.kubernetes.io/master')
+CONDITION_TAINTS = ('node.kubernetes.io/not-ready', 'node.kubernetes.io/unreachable')
 COMPARE = ('Lt', 'Gt')
 ZONE, REGION = 'topology.kubernetes.io/zone', 'topology.kubernetes.io/region'
 
@@ -49,6 +50,11 @@ class Found:
         """A kubelet for each node; of some the clock is so many milliseconds ahead."""
         kubelets = [kubelet_of(node) for node in self.nodes]
         return [{**each, 'offsetMillis': offsets[each['node']]} if each['node'] in offsets else each for each in kubelets]
+
+    def tainted(self):
+        """The nodes that have one of the taints by which a silent node's pods are evicted."""
+        return [node['metadata']['name'] for node in self.nodes
+                if any(taint.get('key') in CONDITION_TAINTS and taint.get('effect') == 'NoExecute' for taint in part(node, 'spec', 'taints') or [])]
 
     def pods(self):
         return [item for item in self.items if item.get('kind') == 'Pod']

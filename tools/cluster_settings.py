@@ -1,7 +1,7 @@
 """The settings of a document: of flags, of a manifest, of the list, and what the version of the cluster has by default."""
 import cluster_flags
 import cluster_manifest
-from cluster_flags import FLAGS, GRACE, LEASE, PRIMARY, RENEW, RETRY, SECONDARY, Wrong, duration, millis, value_of
+from cluster_flags import FLAGS, GRACE, LEASE, MONITOR, PRIMARY, RENEW, RETRY, SECONDARY, STARTUP, Wrong, duration, millis, value_of
 from cluster_versions import Default
 
 MOST_CALL = 600_000
@@ -72,8 +72,8 @@ def refuse(flags, great, has_to, small, more, less):
         shown(great, flags), has_to, shown(small, flags), other, first, second))
 
 
-def settings_of(given, found, moment, version, beat, told):
-    """The settings. Flags that nobody gave are left to the program, which has the same defaults, but for the grace."""
+def settings_of(given, found, moment, version, rules, beat, told):
+    """The settings, and the grace by the flags. Flags that nobody gave are left to the program, which has the same defaults, but for the grace."""
     flags = flags_of(given, version, told)
     renew = flags[RENEW].value
     timeout, fast = version.call_timeout(renew), version.fast_renew()
@@ -85,16 +85,28 @@ def settings_of(given, found, moment, version, beat, told):
     if not 1 <= settings['callTimeoutMillis'] <= MOST_CALL:
         raise Wrong('calls would wait %s, and a document has 1ms to 10m: --call-timeout TIME' % duration(settings['callTimeoutMillis']))
     settings['fastRenew'] = fast.value
-    tell_flags(flags, told)
+    settings.update(rules.keys())
+    sliding = looks_of(rules, flags, beat)
+    settings.update({FLAGS[flag].key: value for flag, value in sliding.items()})
+    tell_flags(flags, sliding, told)
     told.row('callTimeoutMillis', settings['callTimeoutMillis'], *(('--call-timeout', 'your words') if given.call_timeout else timeout[1:]))
     told.row('fastRenew', str(fast.value).lower(), *fast[1:])
+    rules.tell(told)
     tell_rest(given, found, settings, told)
-    return settings
+    return settings, flags[GRACE].value
 
 
-def tell_flags(flags, told):
+def looks_of(rules, flags, beat):
+    """The period of looks and the graces as these rules have them, where they differ from the flags."""
+    names = (MONITOR, GRACE, STARTUP)
+    monitor, graces = rules.looks(beat, flags[MONITOR].value, [flags[name].value for name in names[1:]])
+    return {name: value for name, value in zip(names, (monitor, *graces)) if value != flags[name].value}
+
+
+def tell_flags(flags, sliding, told):
     for flag, each in flags.items():
-        told.row(FLAGS[flag].key, each.value, each.why, each.known)
+        more = ', and %+d ms: looks come later each time' % (sliding[flag] - each.value) if flag in sliding else ''
+        told.row(FLAGS[flag].key, sliding.get(flag, each.value), each.why + more, each.known)
 
 
 def tell_rest(given, found, settings, told):

@@ -69,13 +69,15 @@ class Version:
     def unverified(self):
         if self.number in (OLD, NEW):
             return ''
-        return '; the last two are not verified %s' % ('between 1.20 and 1.36' if OLD < self.number < NEW else 'for ' + self.text())
+        return ' not verified %s' % ('between 1.20 and 1.36' if OLD < self.number < NEW else 'for ' + self.text())
 
-    def tell(self, told, settings):
+    def tell(self, told, settings, grace, rules):
+        """`grace` is that of the flags, `rules` the word for those of the document, or nothing for the project's own."""
         told.row('Kubernetes', self.text(), self.why(), 'your words' if self.named else 'list' if self.known else 'guess')
-        told.say('Kubernetes %s (%s)%s: grace %s, calls wait %s, fastRenew %s%s' % (
-            self.text(), self.why(), '' if self.named else '; --kubernetes says another', duration(settings['gracePeriodMillis']),
-            duration(settings['callTimeoutMillis']), 'on' if settings['fastRenew'] else 'off', self.unverified()))
+        taken = ['grace %s' % duration(grace), 'calls wait %s' % duration(settings['callTimeoutMillis']),
+                 'fastRenew %s' % ('on' if settings['fastRenew'] else 'off'), *(['rules %s' % rules] if rules else [])]
+        unverified = self.unverified() and '; the last %s are%s' % ('three' if rules else 'two', self.unverified())
+        told.say('Kubernetes %s (%s)%s: %s%s' % (self.text(), self.why(), '' if self.named else '; --kubernetes says another', ', '.join(taken), unverified))
         if self.mixed:
             told.say('the kubelets have several versions, and a list does not tell that of the control plane: the newest was taken')
         if self.number >= NEW:

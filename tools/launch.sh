@@ -4,6 +4,7 @@
 #     name            the command's name
 #     program         the program's file
 #     lens            the file of kube_lens, which can say why a document is refused; may be empty, or of a file that isn't there
+#     auditor         the file of kube_replay, which can say why a trace is refused; may be empty, or of a file that isn't there
 #     version         the file with its version
 #     called          how the command is called
 #     examples pages  the folders of the examples and of the pages
@@ -235,6 +236,20 @@ join_document() {
     room=''
 }
 
+# Of `explain`, whether standard input is a trace, which `audit` then answers, where it is as new as the sources. What a pipe gives is put into a file
+# for this. Of an input with more bytes than these, the bytes behind make no difference.
+is_trace_to_explain() {
+    [ "$#:$1" = 1:explain ] && is_current "$auditor" || return 1
+    if [ -p /dev/stdin ] && room=$(mktemp -d 2>/dev/null); then
+        attend head -c 16777217 >"$room/whole" 2>/dev/null
+        [ "$status" -eq 0 ] || end_with 3
+        exec <"$room/whole"
+        rm -rf "$room"
+        room=''
+    fi
+    [ -f /dev/stdin ] && [ "$(head -c 6 </dev/stdin 2>/dev/null | tr -d '\0')" = 'trace ' ]
+}
+
 # Sees to it that a document, or what is given for a trace, can be read once more after a refusal: from its file, or from a copy of what a pipe gives.
 keep_document() {
     case "$1" in
@@ -253,12 +268,27 @@ keep_document() {
     fi
 }
 
+# Of a taint that is refused as too soon, and is one of the first of its term, one for each zone of it: by buckets that are full at first it isn't.
+explain_spacing() {
+    verdict=$({ "$program" audit <"$explained"; } 2>/dev/null)
+    case "$verdict" in 'refused 43 /'*) ;; *) return 0 ;; esac
+    awk -v at="${verdict##*/}" '
+        NR == at { actor = $2 }
+        $3 == "lead" && NR > at && $2 == actor { exit }
+        $3 == "lead" { term[$2]++; zones[$2] = taints[$2] = 0 }
+        $3 == "zone" && !(($2, term[$2], $4) in seen) { seen[$2, term[$2], $4]; zones[$2]++ }
+        $3 == "taint" && NR < at { taints[$2]++ }
+        END { exit !(taints[actor] < zones[actor]) }' <"$explained" 2>/dev/null || return 0
+    say "line ${verdict##*/} is one of the first taints of its term: by \"bucket\":\"full\", as with \"rules\":\"1.20\", that is lawful"
+}
+
 # Says why a document is refused, where kube_lens is as new as the sources: what `explain` says behind the line of the refusal. Of a document that
 # is given for a trace it says that it is none.
 explain_refusal() {
     [ "$status" -eq 1 ] && [ -n "$explained" ] || return 0
     if [ "$1" = audit ]; then
         [ "$(head -c 1 <"$explained" 2>/dev/null)" != '{' ] || say "this is JSON, as a document is; audit reads a trace, as $called replay writes it"
+        explain_spacing
         return 0
     fi
     is_current "$lens" || return 0

@@ -16,6 +16,7 @@ class Trace:
         fields = dict(word.split('=') for word in head.split()[2:])
         self.millis, self.end, self.premise = int(fields['beat']), int(fields['end']), fields['premise']
         self.turns, self.unknown, self.taints, self.evictions, self.signs = [], [], [], [], []
+        self.first_taints, self.tainted = [], set()
         for line in file:
             beat, actor, *words = line.split()
             self.take(int(beat), actor, words)
@@ -32,8 +33,16 @@ class Trace:
             self.unknown.append((beat, words[1]))
         if accepted and words[0] == 'taint':
             self.taints.append((beat, words[1]))
+        if accepted and words[0] in ('taint', 'swap', 'untaint'):
+            self.take_taint(beat, *words[:2])
         if accepted and words[0] == 'evict':
             self.evictions.append((beat, words[1]))
+
+    def take_taint(self, beat, word, node):
+        """A node that is tainted already can be tainted anew, which moves no eviction."""
+        if word == 'taint' and node not in self.tainted:
+            self.first_taints.append((beat, node))
+        (self.tainted.discard if word == 'untaint' else self.tainted.add)(node)
 
     def seconds(self, beats):
         return beats * self.millis / 1000
@@ -135,7 +144,7 @@ def pod_lives(trace, told):
     for beat, pod in trace.evictions:
         gone.setdefault(pod, beat)
     lives = []
-    taints, marks, strokes, signs = map(by_node, (trace.taints, trace.unknown, told.strokes, trace.signs))
+    taints, marks, strokes, signs = map(by_node, (trace.first_taints, trace.unknown, told.strokes, trace.signs))
     for pod, node in told.pods.items():
         evicted = gone.get(pod)
         tainted = last(taints.get(node, ()), evicted)

@@ -63,11 +63,10 @@ def instants_verdicts(case, program, elector, why_later):
 
 
 class Crash:
-    """The documents of a recorded crash of `a`, whose rivals start when it leads: by the project's own rules, or with waits and the settings of
-    upstream's rules."""
+    """The documents of a recorded crash of `a`, whose rivals start when it leads, without waits or with them."""
 
-    def __init__(self, case, more, rules=()):
-        self.case, self.more, self.rules, self.beat = case, more, dict(rules), min(case["one_way_ms"], 1000)
+    def __init__(self, case, more):
+        self.case, self.more, self.beat = case, more, min(case["one_way_ms"], 1000)
         self.crash = LEADS + case["crash_ms"] // self.beat
         self.names = ["abc"[at] for at in range(case["candidates"] + 1)]
 
@@ -79,7 +78,7 @@ class Crash:
         if waits is None:
             return document({**settings, **self.more}, (), events, [{"name": it, "up": it == "a"} for it in self.names])
         controllers = [{"name": it, "up": it == "a", "waits": waits} for it in self.names]
-        return document({**settings, **self.more, **self.rules}, (), events, controllers, version=4)
+        return document({**settings, **self.more}, (), events, controllers, version=4)
 
     def gap(self, trace):
         """For how many ms nobody leads."""

@@ -3,9 +3,6 @@ by upstream's."""
 from .documents import LEADS, document
 
 MOST_DELAY = 6000
-# Upstream's rules of elections, as keys of a document of version 4.
-RULES_OF_1_20 = {"retries": "grid", "respect": "own"}
-RULES_OF_0_36 = {"retries": "ticks", "respect": "record"}
 
 
 class Elector:
@@ -14,7 +11,6 @@ class Elector:
     Whether they were right the trace tells: it has to have the writes and the end that were foreseen."""
 
     more_settings = {}
-    version = 1
 
     def __init__(self, case):
         self.case = case
@@ -91,7 +87,7 @@ class Elector:
         settings = {"beatMillis": 1, "leaseDurationSeconds": self.lease, "renewDeadlineMillis": self.renew, "retryPeriodMillis": self.retry,
                     "callTimeoutMillis": self.case["timeout_ms"], "restartMillis": 86_400_000, "endBeat": self.last, **self.more_settings}
         events = sorted((it for it in self.events if it["beat"] <= self.last), key=lambda it: it["beat"])
-        return document(settings, controllers=[{"name": "me"}], events=events, version=self.version)
+        return document(settings, controllers=[{"name": "me"}], events=events)
 
     def is_as_foreseen(self, trace):
         def beats(*words):
@@ -115,9 +111,6 @@ class FastElector(Elector):
 class GridElector(Elector):
     """One of 1.20: after a failure on the grid of retry periods from the first failure since the last success."""
 
-    more_settings = RULES_OF_1_20
-    version = 4
-
     def after_failure(self, began):
         if self.grid is None:
             self.grid = self.now
@@ -126,9 +119,6 @@ class GridElector(Elector):
 
 class TicksElector(FastElector):
     """One of 0.36: on the grid from when the first attempt since the last success began, and at once where a point of the grid was passed."""
-
-    more_settings = {**FastElector.more_settings, **RULES_OF_0_36}
-    version = 4
 
     def after_failure(self, began):
         if self.grid is None:

@@ -3,8 +3,6 @@ from .documents import CALM, WELL, document, node, pod, put, removed_node, stamp
 from .program import evictions
 from .tally import EXACT, NEAR, differs, unnamed
 
-# Upstream's rule of evictions, as a key of a document of version 4.
-RULES_OF_1_20 = {"evictFrom": "seen"}
 BEFORE = 100  # beats of a second before the story of a case begins
 LATE_POD = differs("late pod", "its whole toleration from its coming there, from timeAdded here")
 STAYS = differs("first eviction time", "an eviction that is scheduled stays so there when the taints change")
@@ -20,20 +18,18 @@ def beat_of(event):
     return BEFORE + event["at_ms"] // 1000
 
 
-def document_of(case, objects, events, rules):
-    """The document of a case; `rules` are keys of version 4 that say upstream's rules, none for the own ones."""
-    settings = dict(CALM, beatMillis=1000, endBeat=BEFORE + case["end_ms"] // 1000, **rules)
-    return document(settings, objects, events, version=4 if rules else 1)
+def document_of(case, objects, events):
+    return document(dict(CALM, beatMillis=1000, endBeat=BEFORE + case["end_ms"] // 1000), objects, events)
 
 
-def taint_manager(cases, program, **rules):
-    return [it for verdicts in program.each(lambda case: manager_verdicts(case, program, rules), cases) for it in verdicts]
+def taint_manager(cases, program):
+    return [it for verdicts in program.each(lambda case: manager_verdicts(case, program), cases) for it in verdicts]
 
 
-def manager_verdicts(case, program, rules):
+def manager_verdicts(case, program):
     events = [put(beat_of(it), tainted_node(it)) for it in case["events"]]
     pods = [pod(it["name"], "n", it["tolerations"] or []) for it in case["pods"]]
-    gone = evictions(program.replay(document_of(case, [WELL, node("n"), *pods], events, rules)))
+    gone = evictions(program.replay(document_of(case, [WELL, node("n"), *pods], events)))
     return [time_verdict(case, it["deleted_ms"], millis(gone.get(it["name"]))) for it in case["pods"]]
 
 
@@ -52,11 +48,11 @@ def time_verdict(case, there, here):
     return STAYS if has_changed else unnamed("another time of an eviction, though no taint changed")
 
 
-def taint_more(cases, program, **rules):
-    return [it for verdicts in program.each(lambda case: more_verdicts(case, program, rules), cases) for it in verdicts]
+def taint_more(cases, program):
+    return [it for verdicts in program.each(lambda case: more_verdicts(case, program), cases) for it in verdicts]
 
 
-def more_verdicts(case, program, rules):
+def more_verdicts(case, program):
     tolerations = {it["name"]: it["tolerations"] for it in case["pods"]}
     events = []
     for it in case["events"]:
@@ -66,7 +62,7 @@ def more_verdicts(case, program, rules):
             events.append(removed_node(beat_of(it), "n"))
         else:
             events.append(put(beat_of(it), tainted_node(it)))
-    gone = evictions(program.replay(document_of(case, [WELL, node("n")], events, rules)))
+    gone = evictions(program.replay(document_of(case, [WELL, node("n")], events)))
     return [late_verdict(case, it["name"], it["deleted_ms"], millis(gone.get(it["name"]))) for it in case["pods"]]
 
 

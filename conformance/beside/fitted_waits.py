@@ -48,8 +48,8 @@ def fitted(crash, renewed):
     return None
 
 
-def verdict(case, program, more, rules):
-    crash = Crash(case, more, rules)
+def verdict(case, program, more):
+    crash = Crash(case, more)
     trace = program.replay(crash.document())
     renewed = [at for at, actor, deed in trace if actor == "a_1" and deed[1:2] == ["election"] and at <= crash.crash + 1][-1]
     waits = fitted(crash, renewed)
@@ -59,5 +59,5 @@ def verdict(case, program, more, rules):
     return EXACT if apart == 0 else NEAR if apart <= crash.beat else UNFITTED
 
 
-def election_failover(cases, program, more, rules):
-    return list(program.each(lambda case: verdict(case, program, more, rules), cases))
+def election_failover(cases, program, more):
+    return list(program.each(lambda case: verdict(case, program, more), cases))

@@ -15,13 +15,13 @@ OWN = left("nothing stored, or its own Lease")
 FAST = left("begun by an Update without a Get: in the other sets")
 
 
-def takeover_of(own_seconds, stored, program, more, version):
+def takeover_of(own_seconds, stored, program):
     """By a document that has the Lease at first."""
     spec = {"holderIdentity": stored["holder"], "leaseDurationSeconds": stored["duration"], "leaseTransitions": stored["transitions"]}
     held = lease("kube-system", "kube-controller-manager", **{key: it for key, it in spec.items() if it is not None})
     settings = {"beatMillis": 1, "endBeat": max(own_seconds, stored["duration"] or 0) * 1000 + 100, "leaseDurationSeconds": own_seconds,
-                "renewDeadlineMillis": own_seconds * 1000 - 500, "retryPeriodMillis": RETRY_MILLIS, **more}
-    trace = program.replay(document(settings, [held], controllers=[{"name": "me"}], version=version))
+                "renewDeadlineMillis": own_seconds * 1000 - 500, "retryPeriodMillis": RETRY_MILLIS}
+    trace = program.replay(document(settings, [held], controllers=[{"name": "me"}]))
     written = next(((beat, deed) for beat, _, deed in trace if deed[:2] == ["update", "election"]), None)
     if written is None:
         return Takeover(None, None)
@@ -29,11 +29,10 @@ def takeover_of(own_seconds, stored, program, more, version):
 
 
 class Sequence:
-    """A recorded sequence of foreign writes and attempts; `seen` is when the stored Lease was first shown to the candidate. `more` are settings."""
+    """A recorded sequence of foreign writes and attempts; `seen` is when the stored Lease was first shown to the candidate."""
 
-    def __init__(self, case, program, more, version):
-        self.own, self.steps = case["lease_seconds"], case["steps"]
-        self.program, self.more, self.version = program, more, version
+    def __init__(self, case, program):
+        self.own, self.steps, self.program = case["lease_seconds"], case["steps"], program
         self.stored, self.seen = None, None
 
     def verdicts(self):
@@ -59,7 +58,7 @@ class Sequence:
             return OWN
         if self.seen is None:
             self.seen = result["got_us"]
-        here = takeover_of(self.own, self.stored, self.program, self.more, self.version)
+        here = takeover_of(self.own, self.stored, self.program)
         return self.compared(here, result)
 
     def compared(self, here, result):
@@ -76,5 +75,5 @@ class Sequence:
         return WRAPS if self.stored["transitions"] == 2**31 - 1 else unnamed("other transitions")
 
 
-def election_steps(cases, program, more=(), version=1):
-    return [it for verdicts in program.each(lambda case: list(Sequence(case, program, dict(more), version).verdicts()), cases) for it in verdicts]
+def election_steps(cases, program):
+    return [it for verdicts in program.each(lambda case: list(Sequence(case, program).verdicts()), cases) for it in verdicts]

@@ -12,6 +12,7 @@ SWAPPED_LATER = differs("one pass later", "swapped here, a pass later there")
 SAME_TAINT = differs("queued once", "the same taint with another time")
 TOKENS_HERE = differs("queued once", "tainted here, more than a pass later there")
 TOKENS_THERE = differs("bucket at first", "tainted there, not yet here")
+ORDER = differs("order of names", "another node of those queued at one instant")
 IN_THE_MODE = differs("swap into the mode", "a taint stands there while all zones are down")
 BESIDE_A_MARK = differs("probe", "taints, in a pass in which a mark differs too")
 CREATED = differs("first sight", "marked there, not yet here: probed from its creation there")
@@ -173,3 +174,8 @@ def why_state(here, there, did):
 def health(cases, program):
     judged = program.each(lambda case: Comparison(case, program).run(), cases)
     return [it for verdicts in judged for it in verdicts]
+
+
+def health_by_rules(cases, program):
+    """What differs in the taints alone is then another node of a queue: the order of those queued at one instant is a map's there."""
+    return [ORDER if it in (SAME_TAINT, TOKENS_HERE, TOKENS_THERE) else it for it in health(cases, program)]

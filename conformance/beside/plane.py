@@ -2,13 +2,13 @@
 from collections import defaultdict, namedtuple
 
 from .acts import last_act
+from .alignment import aligned
 from .program import is_accepted
 from .scenario_document import ScenarioDocument, with_late_reply
 from .scenarios import Scenario
 
 # Seconds; None where an event is on one side alone.
 Pair = namedtuple("Pair", "what observed foretold")
-ALONE_SECONDS = 50  # what it costs to leave an event without its like
 # In these the rival's attempts are fitted to its real takeover, so that what follows it can be compared.
 FITTED = ("c2", "c3", "c4", "c6", "d2", "e", "f", "f2", "h", "h2", "n3", "ec4", "ec6r", "eh", "eh10",
           "er18_1", "er18_3", "er18b_2", "er18l_1", "er23_1")
@@ -66,26 +66,6 @@ def ends(scenario, events):
     own = [it for it in scenario.of("kcm-exit") if it["rc"] == 255 and not any(it["who"] == who and at <= it["at"] for who, at in killed)]
     exits = [last_act(scenario, f"kcm-{it['who']}") if it in late else it["at"] for it in own if scenario.name not in LOOKED_LATE]
     return exits, [second for second, actor, deed in events if deed[0] == "end" and not actor.startswith("kubelet")]
-
-
-def aligned(there, here):
-    """Both rows of instants in order, each paired with one of the other or left alone, at the least cost in seconds."""
-    best = {(0, 0): (0, [])}
-    for at in range(len(there) + 1):
-        for to in range(len(here) + 1):
-            ways = []
-            if at and to:
-                cost, found = best[at - 1, to - 1]
-                ways.append((cost + abs(there[at - 1] - here[to - 1]), found + [(there[at - 1], here[to - 1])]))
-            if at:
-                cost, found = best[at - 1, to]
-                ways.append((cost + ALONE_SECONDS, found + [(there[at - 1], None)]))
-            if to:
-                cost, found = best[at, to - 1]
-                ways.append((cost + ALONE_SECONDS, found + [(None, here[to - 1])]))
-            if ways:
-                best[at, to] = min(ways, key=lambda it: it[0])
-    return best[len(there), len(here)][1]
 
 
 def pairs(scenario, program):

@@ -49,23 +49,23 @@ def scenarios(found):
 def differences(found):
     rows = []
     for name, it in found.items():
-        for words, pair, causes in grouped(name, [one for one in it or [] if is_over(one)]):
+        for words, pair, causes in grouped_by([one for one in it or [] if is_over(one)], lambda one, name=name: rows_of(name, one)):
             both = None not in (pair.observed, pair.foretold)
             rows.append((name, words, at(pair.observed), at(pair.foretold), f"{pair.observed - pair.foretold:+.2f}" if both else "", ", ".join(causes)))
     return table(("Scenario", "Event", "Observed", "Foretold", "Difference", "Rows of the profile"), rows)
 
 
-def grouped(name, over):
+def grouped_by(over, causes_of):
     """Evictions of one node that are foretold for one instant, with the same causes, are one line, which has the first one's times."""
     groups = []
     for pair in over:
-        key = key_of_group(name, pair)
+        key = key_of_group(pair, causes_of(pair))
         if groups and groups[-1][0] == key:
             groups[-1][1].append(pair)
         else:
             groups.append((key, [pair]))
     for _, group in groups:
-        yield words_of(group), group[0], rows_of(name, group[0])
+        yield words_of(group), group[0], causes_of(group[0])
 
 
 def words_of(group):
@@ -74,10 +74,10 @@ def words_of(group):
     return group[0].what + "".join(", " + it.what.split()[1] for it in group[1:])
 
 
-def key_of_group(name, pair):
+def key_of_group(pair, causes):
     if not pair.what.startswith("evict"):
         return object()
-    return pair.what.split("-")[0], pair.observed is None, pair.foretold, *rows_of(name, pair)
+    return pair.what.split("-")[0], pair.observed is None, pair.foretold, *causes
 
 
 def takeovers(pairs, scenario):

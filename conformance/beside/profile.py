@@ -30,8 +30,9 @@ def items_of(lines):
 
 
 def listed_in(lines):
-    """The names in the list of contents at the top of a group of rules."""
-    return [found[1] for found in (re.match(r"- \[([^]]+)\]\(#[^)]+\): ", line) for line in lines) if found]
+    """The names in the table of contents at the top of a group of rules, which tells of each what differs by the own rules, and by upstream's."""
+    rows = [found for found in (re.match(r"\| \[([^]]+)\]\(#[^)]+\) \| (.+) \| (.+) \|$", line) for line in lines) if found]
+    return [found[1] for found in rows]
 
 
 class Profile:
@@ -43,12 +44,12 @@ class Profile:
             self.take(group, parts_of("\n".join(lines), 3))
 
     def take(self, group, rules):
-        """The rules of a group, whose first part, without a heading, lists their names."""
+        """The rules of a group, whose first part, without a heading, lists their names in a table."""
         names = [name for name, _ in rules[1:]]
         for name, lines in rules:
             self.take_rule(name, items_of(lines))
         if listed_in(rules[0][1]) != names:
-            self.found.append(f"docs/profile.md: the list at the top of '{group}' isn't of its rules, in their order")
+            self.found.append(f"docs/profile.md: the table at the top of '{group}' isn't of its rules, in their order")
 
     def take_rule(self, name, items):
         for position, (label, text) in enumerate(items):
@@ -72,7 +73,7 @@ class Profile:
         return any(letters in it.replace(" ", "").split(",") for it in planes)
 
     def faults(self):
-        """Rules without a name, or that don't say how they are known, and lists of contents that aren't of their rules."""
+        """Rules without a name, or that don't say how they are known, and tables of contents that aren't of their rules."""
         yield from self.found
         for rule, cell in self.known.items():
             words = [it.strip().split(":")[0] for it in cell.split(";")]

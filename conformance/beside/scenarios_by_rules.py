@@ -1,36 +1,74 @@
-"""Scenarios of a real control plane by upstream's rules, as far as a document of version 4 says them, beside the same by the own rules."""
+"""Scenarios of a real control plane by upstream's rules, in documents of version 4, beside the same by the own rules.
+
+What a candidate of there drew is random, and how long each call took can't be foretold, so both are said as they were recorded; who leads and from
+when on follows from them. A pod that is deleted already and hasn't gone is deleted again there, and here it is gone: its first delete alone is
+compared."""
 import json
 import os
 from collections import defaultdict
 
-from . import evictions
-from .causes import is_over
-from .elector import RULES_OF_1_20
-from .plane import FITTED, Pair, aligned, by_key, ends, foretold, is_pod_of_wave
-from .plane_tables import at
+from . import plane
+from .alignment import aligned
+from .causes import Rule, fits, is_over
+from .plane import Pair, by_key, ends, foretold, is_pod_of_wave
+from .plane_tables import at, grouped_by
 from .recorded import TOP
-from .scenario_document import ScenarioDocument
+from .recorded_elections import user_of, with_elections
+from .scenario_document import ScenarioDocument, with_late_reply
 from .tables import table
+from .upstream_rules import RULES_OF_0_36, RULES_OF_1_20
 
-NAMES = ("n1", "n3", "n5")
-# 20 requests a second and 30 at once, of which a delete takes one, and a pod that is set not ready two.
-REQUESTS_OF_1_20 = {"evictBurst": 30, "evictRate": 20_000, "readyMillis": 100, "readyBurst": 15}
-RULES = {**RULES_OF_1_20, "firstSyncMillis": 700, **evictions.RULES_OF_1_20, **REQUESTS_OF_1_20}
+NAMES = (*plane.NAMES, *plane.NEW_NAMES)
+# Looks at nodes come some ms later each time there: 5.002 to 5.010 s after each other in these logs.
+BETWEEN_LOOKS = {"monitorPeriodMillis": 5004}
+NEAR_SECONDS, FAR_SECONDS = 0.5, 2
+WAVES = ("n1", "n3")
 # What was done in n5, with the waits of its candidates and the two stalls: an example.
 EXAMPLES = {"n5": "store-stalls"}
+WHY = [
+    Rule("egz4", "lead", "any", ["emptied lease"]),
+    Rule("er18_3", "lead", "there", ["emptied lease"]),
+    Rule("er18_1 er18_3 er18b_2 er18l_1 er23_1", "end", "later", ["releasing"]),
+    # The API server stood still for some seconds before.
+    Rule("er18b_2", "lead", "any", ["store"]),
+    Rule("er23_1", "lead", "later", ["store"]),
+    Rule("d2", "(taint|evict) n2.*", "later", ["store"]),
+    # The election's calls alone were held, which no document says.
+    Rule("h", ".*", "any", ["messages"]),
+    Rule("e e2", "(taint|evict).*", "any", ["order of names"], 360),
+    Rule("n1", "evict n1-(none|slow)", "sooner", ["order of names"]),
+    # A phase of the looks, which slide by another span each time.
+    Rule("e", "unknown n3", "later", ["passes slide"]),
+    Rule("f2", "(taint|untaint|evict).*", "any", ["passes slide"]),
+    Rule("n7", "(unknown|taint) n1", "sooner", ["passes slide"]),
+    Rule("d d4 e e2", "taint n[26]", "there", ["passes slide"]),
+    Rule("c3", "taint", "here", ["one update"]),
+    Rule("f", "evict n1-s120", "later", ["due time"]),
+]
 
 
 def document_of(scenario):
+    rules = RULES_OF_0_36 if scenario.is_elector() else {**RULES_OF_1_20, **BETWEEN_LOOKS}
     if scenario.name in EXAMPLES:
         with open(os.path.join(os.path.dirname(TOP), "examples", EXAMPLES[scenario.name], "document.json"), encoding="utf-8") as file:
-            return json.load(file)
-    made = ScenarioDocument(scenario, scenario.name in FITTED).made()
-    return dict(made, version=4, settings={**made["settings"], **RULES})
+            made = json.load(file)
+        return dict(made, settings={**made["settings"], **rules})
+    made = ScenarioDocument(scenario, False).made()
+    return with_elections(dict(made, version=4, settings={**made["settings"], **rules}), scenario)
 
 
 def by_rules(scenario, program):
+    """The events that the document foretells, by the processes of the scenario."""
     made = document_of(scenario)
-    return [(beat * made["settings"]["beatMillis"] / 1000, actor, deed) for beat, actor, deed in program.replay(made)]
+    trace = program.replay(made)
+    if scenario.of("proxy"):
+        trace = program.replay(with_late_reply(made, scenario, trace))
+    millis = made["settings"]["beatMillis"]
+    return [(beat * millis / 1000, actor if is_other(actor) else user_of(actor) + "_1", deed) for beat, actor, deed in trace]
+
+
+def is_other(actor):
+    return actor == "script" or actor.startswith("kubelet")
 
 
 def kind_of(key):
@@ -48,6 +86,18 @@ def by_kind(events):
     return defaultdict(list, {kind: sorted(seconds) for kind, seconds in found.items()})
 
 
+def first_deletes(events):
+    """The events without deletes of a pod that is deleted already, and how many these are."""
+    gone, first = set(), []
+    for second, actor, deed in events:
+        pod = deed[1] if deed[0] == "evict" and deed[-1].startswith("v=") else None
+        if pod not in gone:
+            first.append((second, actor, deed))
+        if pod:
+            gone.add(pod)
+    return first, len(events) - len(first)
+
+
 def rows_of_kind(there, here):
     """A wave is compared one by one in its order, all else as it fits best."""
     if len(there) == len(here):
@@ -61,21 +111,25 @@ class Compared:
     def __init__(self, scenario, program):
         self.name = scenario.name
         told = {"own": foretold(scenario, program), "upstream's": by_rules(scenario, program)}
-        self.there = by_kind((second, actor, text.split()) for second, actor, text in scenario.observed())
+        observed, self.again = first_deletes([(second, actor, text.split()) for second, actor, text in scenario.observed()])
+        self.there = by_kind(observed)
         self.here = {rules: by_kind(events) for rules, events in told.items()}
-        self.there["end"], self.here["own"]["end"] = ends(scenario, told["own"])
-        self.here["upstream's"]["end"] = ends(scenario, told["upstream's"])[1]
+        for rules, events in told.items():
+            self.there["end"], self.here[rules]["end"] = ends(scenario, events)
         if not self.there["end"]:
             for found in self.here.values():
                 found["end"] = []  # nobody waited for an exit
 
     def pairs(self, rules):
         kinds = {**self.there, **self.here[rules]}
-        return [Pair(kind, *both) for kind in kinds for both in rows_of_kind(self.there[kind], self.here[rules][kind])]
+        found = [Pair(kind, *both) for kind in kinds for both in rows_of_kind(self.there[kind], self.here[rules][kind])]
+        return sorted(found, key=lambda it: it.foretold if it.observed is None else it.observed)
 
     def tally(self, rules):
-        over = [is_over(it) for it in self.pairs(rules)]
-        return over.count(False), over.count(True)
+        """How many events are within half a second, within two, and further off or on one side alone."""
+        gaps = [gap_of(it) for it in self.pairs(rules)]
+        near, far = (sum(it <= most for it in gaps) for most in (NEAR_SECONDS, FAR_SECONDS))
+        return len(gaps), near, far - near, len(gaps) - far
 
     def rows(self):
         """Kinds of the scenario's own events: those that both rules foretell, in the order in which they were seen."""
@@ -85,10 +139,58 @@ class Compared:
                 yield self.name, kind, len(seen), *(it for each in (seen, *told) for it in (at(each[0]), at(each[-1]) if each[1:] else ""))
 
 
-def tables(scenario_of, program):
-    found = [Compared(scenario_of(name), program) for name in NAMES]
-    tallies = table(("Scenario", "Within 0.5 s by own rules", "Over", "Within 0.5 s by these", "Over"),
-                    [(it.name, *it.tally("own"), *it.tally("upstream's")) for it in found])
-    events = table(("Scenario", "Event", "Number", "First, observed", "Last", "First by own rules", "Last", "First by these", "Last"),
-                   [row for it in found for row in it.rows()])
-    return {"scenarios by rules": tallies, "events by rules": events}
+def gap_of(pair):
+    return float("inf") if None in (pair.observed, pair.foretold) else abs(pair.observed - pair.foretold)
+
+
+def causes_of(name, pair):
+    """The rules of the profile by which an event differs under upstream's rules, none where no rule fits."""
+    return next((rule.rows for rule in WHY if fits(rule, name, pair)), [])
+
+
+def tallies(found):
+    rows = [(it.name, *it.tally("own"), *it.tally("upstream's"), it.again) for it in found]
+    for words, some in (("all", found), (f"all but {' and '.join(WAVES)}", [it for it in found if it.name not in WAVES])):
+        own, upstream = ([sum(numbers) for numbers in zip(*(it.tally(rules) for it in some))] for rules in ("own", "upstream's"))
+        rows.append((words, *own, *upstream, sum(it.again for it in some)))
+    return table(("Scenario", "Events, own rules", "Within 0.5 s", "Within 2 s", "Over", "Events, upstream's", "Within 0.5 s", "Within 2 s", "Over",
+                  "Deleted again there"), rows)
+
+
+def differences(found):
+    rows = []
+    for it in found:
+        over = [pair for pair in it.pairs("upstream's") if is_over(pair)]
+        for words, pair, causes in grouped_by(over, lambda one, name=it.name: causes_of(name, one)):
+            rows.append((it.name, words, at(pair.observed), at(pair.foretold), signed(pair), ", ".join(causes)))
+    return table(("Scenario", "Event", "Observed", "Foretold", "Difference", "Rows of the profile"), rows)
+
+
+def signed(pair):
+    return "" if None in (pair.observed, pair.foretold) else f"{pair.observed - pair.foretold:+.2f}"
+
+
+def faults(found, profile):
+    for it in found:
+        for pair in it.pairs("upstream's"):
+            causes = causes_of(it.name, pair) if is_over(pair) else [None]
+            if not causes or any(row and not profile.names_scenario(row, it.name) for row in causes):
+                yield f"scenario {it.name}, by upstream's rules: no rule of docs/profile.md known by 'plane: {it.name}' for: {pair.what} ({', '.join(causes)})"
+
+
+def told(found):
+    """The sum of the events, and of those of a new leader."""
+    count, near, far, over = (sum(numbers) for numbers in zip(*(it.tally("upstream's") for it in found)))
+    leads = [gap_of(pair) for it in found for pair in it.pairs("upstream's") if pair.what.startswith("lead")]
+    return f"{count} events, {near} within 0.5 s, {far} within 2, {over} over; {sum(it <= NEAR_SECONDS for it in leads)} of {len(leads)} leads within 0.5 s"
+
+
+def compared(scenario_of, program):
+    return list(program.each(lambda name: Compared(scenario_of(name), program), NAMES))
+
+
+def tables(found):
+    waves = [it for it in found if it.name in (*WAVES, "n5")]
+    events = table(("Scenario", "Event", "Number", "First, observed", "Last", "First by own rules", "Last", "First by upstream's", "Last"),
+                   [row for it in waves for row in it.rows()])
+    return {"scenarios by rules": tallies(found), "events by rules": events, "scenario differences by rules": differences(found)}

@@ -45,9 +45,10 @@ class StoredNodes:
             self.nodes[deed[1]] = ready, reason, taints
 
     def tainted(self, deed, taints, second):
+        """A swap keeps the taint that is there, and what comes from a queue stamps it anew; of both the other one goes."""
         key = KEYS[deed[2]]
         kept = tuple(it for it in taints if it[0] == key)
-        return kept or (taints if deed[0] == "taint" else ()) + ((key, second),)
+        return kept if deed[0] == "swap" and kept else ((key, second),)
 
 
 def by_beat(events, trace, last):

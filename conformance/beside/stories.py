@@ -1,6 +1,7 @@
 """Whole runs of the node lifecycle controller: what happened when, from the lead on."""
 from collections import namedtuple
 
+from .alignment import aligned
 from .documents import NOT_READY, UNREACHABLE, document, lease, node, pod, put, stamp
 from .program import is_accepted
 from .tally import EXACT, NEAR, differs, unnamed
@@ -31,11 +32,8 @@ def is_up(story, number, second):
     return dies is None or second <= dies or returns is not None and second >= returns
 
 
-def document_of(story, has_failover, rules):
-    """
-    Upstream's first pass is 0.1 s after its lead, so the leader leads at 4.1 s here. The script renews the nodes' Leases. `rules` are keys of version 4
-    that say upstream's rules, none for the own ones.
-    """
+def document_of(story, has_failover):
+    """Upstream's first pass is 0.1 s after its lead, so the leader leads at 4.1 s here. The script renews the nodes' Leases."""
     tolerations = [{"key": key, "operator": "Exists", "value": "", "effect": "NoExecute", "seconds": story.tolerated}
                    for key in (NOT_READY, UNREACHABLE)]
     objects, events = [], [{"beat": 37, "type": "start", "process": "a"}]
@@ -52,16 +50,18 @@ def document_of(story, has_failover, rules):
     if has_failover:
         events += [{"beat": 1000, "type": "crash", "process": "a"}, {"beat": 2103, "type": "start", "process": "b"}]
     events.sort(key=lambda it: it["beat"])
-    controllers = [{"name": "a", "up": False}, {"name": "b", "up": False}]
-    return document({"endBeat": story.end * 10, "beatMillis": 100, **rules}, objects, events, controllers, 4 if rules else 1)
+    return document({"endBeat": story.end * 10, "beatMillis": 100}, objects, events, [{"name": "a", "up": False}, {"name": "b", "up": False}])
 
 
 def happened_here(trace):
     """Instants in ms, by the words of what happened."""
     found = [(beat * 100, "lead") for beat, _, deed in trace if deed[0] == "lead"]
+    tainted = set()
     for beat, _, deed in trace:
         if deed[0] in MARKS and is_accepted(deed):
-            found.append((beat * 100, f"{MARKS[deed[0]]} {deed[1]}"))
+            word = "stamped anew" if deed[0] == "taint" and deed[1] in tainted else MARKS[deed[0]]
+            found.append((beat * 100, f"{word} {deed[1]}"))
+            tainted = tainted - {deed[1]} if deed[0] == "untaint" else tainted | {deed[1]} if deed[0] == "taint" else tainted
         elif deed[0] == "evict":
             found.append((beat * 100, "evict " + deed[1].split("/")[1]))
     return found
@@ -92,12 +92,15 @@ def changes(old, new):
         yield "untaint"
 
 
-def matched(lines, program, name, **rules):
+def matched(lines, program, name):
     """Each event there with the next one here of the same words, or without one; then those that are here alone."""
     has_failover = sum(it["what"] == "lead" for it in lines) > 1
-    rest = happened_here(program.replay(document_of(STORIES[name], has_failover, rules)))
+    return paired(happened_there(lines), happened_here(program.replay(document_of(STORIES[name], has_failover))))
+
+
+def paired(events, rest):
     pairs = []
-    for there, what in happened_there(lines):
+    for there, what in events:
         at = next((at for at, it in enumerate(rest) if it[1] == what), None)
         pairs.append((what, None if at is None else rest.pop(at)[0], there))
     return pairs + [(what, here, None) for here, what in rest]
@@ -114,6 +117,45 @@ def verdict_of(what, here, there):
     if abs(here - there) <= 100 or word == "lead":
         return NEAR
     return WHY_LATER.get(word, unnamed(f"{word} at another instant"))
+
+
+RACE = differs("queued once", "a look and a taint of one instant, whose order is a race there")
+TAKES = ("taint", "stamped anew")
+
+
+def is_take(what):
+    return what.startswith(TAKES)
+
+
+def queue_of(what, story):
+    return int(what.rsplit("n", 1)[1]) % story.zones
+
+
+def takes(events, zone, story):
+    """By the second, which node of a zone's queue is tainted, or stamped anew."""
+    return {instant / 1000: what for instant, what in events if is_take(what) and queue_of(what, story) == zone}
+
+
+def take_verdicts(here, there):
+    """Which node of a queue is the next is a map's order there, where several were queued at one instant; so the instant counts."""
+    for seen, told in aligned(sorted(there), sorted(here)):
+        if None in (seen, told) or round(abs(seen - told), 3) > 0.1:
+            yield RACE
+        else:
+            yield EXACT if (seen, there[seen]) == (told, here[told]) else NEAR
+
+
+def run_by_rules(lines, program, name):
+    story, has_failover = STORIES[name], sum(it["what"] == "lead" for it in lines) > 1
+    here, there = happened_here(program.replay(document_of(story, has_failover))), happened_there(lines)
+    rest = [it for it in here if not is_take(it[1])]
+    verdicts = [verdict_of(*it) for it in paired([it for it in there if not is_take(it[1])], rest)]
+    return verdicts + [it for zone in range(story.zones) for it in take_verdicts(takes(here, zone, story), takes(there, zone, story))]
+
+
+def runs_by_rules(recorded, program):
+    judged = program.each(lambda name: run_by_rules(recorded[name], program, name), recorded)
+    return [it for verdicts in judged for it in verdicts]
 
 
 def runs(recorded, program):

@@ -1,8 +1,7 @@
 """The tables of docs/upstream.md on the recorded answers."""
 from statistics import median
 
-from . import elections, stories
-from .evictions import RULES_OF_1_20
+from . import elections
 from .recorded import NEW, SETS, cases_of
 from .tally import row_of
 
@@ -55,14 +54,3 @@ def failovers(name, program, more=()):
         rows.append((f"{lease // 1000} s", rivals, f"{2 * beat} ms", f"{seconds(min(here))} to {seconds(max(here))} s",
                      f"{seconds(min(there))} to {seconds(max(there))} s", f"{seconds(median(there))} s", f"{longer} of {len(there)}"))
     return table(("Lease", "Rivals", "Round trip", "Without a leader here", "There", "Median there", "Longer there than any here"), rows)
-
-
-def evictions(program):
-    recorded = cases_of("runs")
-    rows = []
-    for name in recorded:
-        seen = {what: here for what, here, _ in stories.matched(recorded[name], program, name, **RULES_OF_1_20)}
-        for what, here, there in stories.matched(recorded[name], program, name):
-            if what.startswith("evict"):
-                rows.append((f"`{name}`", what.split()[1], *("" if it is None else f"{seconds(it)} s" for it in (here, seen.get(what), there))))
-    return table(("Story", "Pod", "Evicted here", "Here with `evictFrom` `seen`", "There"), rows)

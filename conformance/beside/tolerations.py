@@ -1,11 +1,12 @@
 """Which toleration tolerates a taint, and until when all taints of a node are tolerated."""
 from datetime import datetime
 
-from .documents import CALM, WELL, document, listed, node, pod, stamp, taint
+from .documents import CALM, LEADS, WELL, document, listed, node, pod, stamp, taint
 from .tally import EXACT, differs, left, unnamed
 
 NEW_YEAR_2199 = datetime(2199, 1, 1)
 FIRST_ADDED = datetime(1970, 1, 2)
+LONGEST_SECONDS = 7_200
 
 
 def is_refused_by_rule(toleration):
@@ -75,6 +76,24 @@ def matching(cases, program):
     settings = dict(CALM, endBeat=5, epoch=NEW_YEAR_2199.strftime("%Y-%m-%dT%H:%M:%SZ"))
     due = {deed[1]: deed[2] for _, _, deed in program.replay(document(settings, objects)) if deed[0] == "evict"}
     return [due_time_verdict(case, due.get(f"default/p{number}")) for number, case in enumerate(cases)]
+
+
+def matching_at_sight(cases, program):
+    """As `matching`, where seconds count from when the leader first sees the pod, at its lead: so what can be due within two hours is due."""
+    objects = [WELL]
+    for number, case in enumerate(cases):
+        taints = [taint(it["key"], it["effect"], it["value"], stamp(0)) for it in case["taints"] or []]
+        objects += [node(f"n{number}", taints=taints), pod(f"p{number}", f"n{number}", case["tolerations"] or [])]
+    settings = dict(CALM, beatMillis=1000, endBeat=LONGEST_SECONDS)
+    due = {deed[1]: deed[2] for _, _, deed in program.replay(document(settings, objects)) if deed[0] == "evict"}
+    return [sight_verdict(case, due.get(f"default/p{number}")) for number, case in enumerate(cases)]
+
+
+def sight_verdict(case, here):
+    nanos = case["min_nanos"] if case["all_tolerated"] else 0
+    if nanos > (LONGEST_SECONDS - LEADS) * 1e9:
+        return left("due after two hours")
+    return EXACT if here == (None if nanos < 0 else "due=" + stamp(LEADS + nanos / 1e9)) else unnamed("another due time")
 
 
 def due_time_verdict(case, here):

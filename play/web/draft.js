@@ -1,7 +1,8 @@
 // Documents, which are never changed: each change gives another one, which shares with the old one what stays.
 
 const VERSION_OF_TIMINGS = 2, VERSION_OF_PAUSES = 3, VERSION_OF_STALLS = 4, VERSION_OF_RULES = 4, LONG_NUMBER = /[0-9]{16}/;
-const RULES = ['retries', 'respect', 'firstSyncMillis', 'evictFrom', 'evictBurst', 'evictRate', 'readyMillis', 'readyBurst'];
+const RULES = ['rules', 'retries', 'respect', 'firstSyncMillis', 'probe', 'judge', 'firstSight', 'queue', 'bucket', 'evictFrom', 'evictBurst', 'evictRate',
+  'readyMillis', 'readyBurst'];
 const OWN_TIMINGS = ['leaseDurationSeconds', 'renewDeadlineMillis', 'retryPeriodMillis', 'callTimeoutMillis'];
 
 // Numbers that a double can't hold are kept as they are written.

@@ -33,10 +33,15 @@ const SECTIONS = [
   ] },
 ];
 // Settings that are a word, by section and with how each is called.
-const CHOICES = [[1, 'ratePolicy', 'rate policy'], [2, 'retries', 'after a failed renewal'], [2, 'respect', 'whose lease duration'], [2, 'evictFrom', 'tolerations count from']];
+const CHOICES = [[1, 'ratePolicy', 'rate policy'], [2, 'rules', 'whose rules, all at once'], [2, 'retries', 'after a failed renewal'],
+  [2, 'respect', 'whose lease duration'], [2, 'probe', 'silent by'], [2, 'judge', 'nodes are judged at each'], [2, 'firstSight', 'taints at first sight'], [2, 'queue', 'a queue has a node'],
+  [2, 'bucket', 'a bucket begins'], [2, 'evictFrom', 'tolerations count from']];
 const KUBERNETES = 'default of Kubernetes';
-// What is in Kubernetes 1.20 where the project's default is another.
-const IN_1_20 = { firstSyncMillis: 700, evictBurst: 30, evictRate: 20000, readyMillis: 100, readyBurst: 15 };
+// What is in Kubernetes 1.20, which are the defaults of a document with the rules of that name.
+const UPSTREAM = '1.20';
+const IN_1_20 = { retries: 'grid', respect: 'own', firstSyncMillis: 700, probe: 'record', judge: 'pass', firstSight: 'strip', queue: 'again', bucket: 'full',
+  evictFrom: 'seen', evictBurst: 30, evictRate: 20000, readyMillis: 100, readyBurst: 15 };
+const NOT_BUILT = ['1.36'];
 
 export class Panel {
   // The host has `document`, `opened`, `known`, `preview(document, dial)`, `keep(words)`, `change(document, words)`, `showEvent(place)`.
@@ -79,7 +84,12 @@ export class Panel {
     const { known } = this.host, { minimum, maximum, description } = known.settings[key];
     const fallback = known.settings[key].default;
     return this.dial({ label: known.flags[key] || shape.label, help: description, ...shape, least: minimum, most: maximum, path: '/settings/' + key,
-      marks: this.marks(key, fallback, shape), get: document => document.settings[key] ?? fallback, set: (document, value) => withSetting(document, key, value) });
+      marks: this.marks(key, fallback, shape), get: document => document.settings[key] ?? this.usual(document, key), set: (document, value) => withSetting(document, key, value) });
+  }
+
+  // The default of a setting, by the rules of the document.
+  usual(document, key) {
+    return document.settings.rules === UPSTREAM && key in IN_1_20 ? IN_1_20[key] : this.host.known.settings[key].default;
   }
 
   // Upstream's defaults. How long a call waits has none of its own there: it is the renew deadline, in newer versions half of it.
@@ -101,11 +111,11 @@ export class Panel {
 
   // A list of words at the end of a section.
   choice(part, key, called) {
-    const { description, enum: words, default: fallback } = this.host.known.settings[key];
+    const { description, enum: all } = this.host.known.settings[key], words = all.filter(word => !NOT_BUILT.includes(word));
     const select = make('select', { onchange: event => this.host.change(withSetting(this.host.document, key, event.target.value), called) },
       ...words.map(word => make('option', { value: word }, word)));
     part.append(make('label', { className: 'row', title: description }, called + ' ', select));
-    return { key, select, fallback };
+    return { key, select };
   }
 
   // One controller: its clock, its delay, and timings of its own.
@@ -176,7 +186,7 @@ export class Panel {
     if (!isDragging && document.objects !== this.objects) this.buildPods();
     for (const dial of this.dials) if (!(isDragging && dial === this.host.dragged)) dial.sync(document);
     this.fast.checked = document.settings.fastRenew === true;
-    for (const { key, select, fallback } of this.choices) select.value = document.settings[key] || fallback;
+    for (const { key, select } of this.choices) select.value = document.settings[key] || this.usual(document, key);
     this.events.show(document);
   }
 

@@ -89,7 +89,8 @@ def holder(made):
 
 def test_flags():
     """Upstream's flags, on the line and in a manifest; the line goes first."""
-    made = document('--from-manifest', MANIFEST, '--node-eviction-rate=0.3', '--unhealthy-zone-threshold', '0.6', '--for', '1h', '--beat', '500ms')['settings']
+    words = ('--from-manifest', MANIFEST, '--node-eviction-rate=0.3', '--unhealthy-zone-threshold', '0.6', '--for', '1h', '--beat', '500ms')
+    made = document('--rules=own', *words)['settings']
     wanted = {'leaseDurationSeconds': 30, 'renewDeadlineMillis': 20_000, 'retryPeriodMillis': 4_000, 'gracePeriodMillis': 50_000, 'primaryRate': 300,
               'unhealthyPercent': 60, 'callTimeoutMillis': 20_000, 'endBeat': 7_200, 'beatMillis': 500}
     same('flags', {key: made[key] for key in wanted}, wanted)
@@ -117,7 +118,7 @@ def test_versions():
             (('--kubernetes', '1.20'), with_versions('v1.36.4'), (40_000, 10_000, False)),
             (('--kubernetes=1.36', '--leader-elect-renew-deadline=1500ms', '--leader-elect-retry-period=1s'), None, (50_000, 1_000, True)),
             (('--kubernetes=1.36', '--node-monitor-grace-period=30s', '--call-timeout=3s'), None, (30_000, 3_000, True))):
-        made = document(*words, given=given)['settings']
+        made = document('--rules=own', *words, given=given)['settings']
         same('by version %s' % (words,), tuple(made[key] for key in keys), wanted)
     has('which was taken', make().stderr, 'Kubernetes 1.31 (kubelets: v1.31.4 on 7 nodes', '--kubernetes says another', 'not verified between 1.20 and 1.36')
     has('of several', make(given=with_versions('v1.30.2', 'v1.36.4', 'v1.31.4')).stderr, 'Kubernetes 1.36 (kubelets: v1.30.2 on 1 node, v1.31.4 on 5 nodes, v1.36.4 on 1 node',
@@ -128,7 +129,7 @@ def test_versions():
 
 def test_explain():
     """A table on standard error of each value that was taken, while the document is the same."""
-    words = ('--kubernetes=1.36', '--from-manifest', MANIFEST, '--for=10m')
+    words = ('--kubernetes=1.36', '--rules=1.20', '--from-manifest', MANIFEST, '--for=10m')
     plain, told = make(*words), make(*words, '--explain')
     same('the same document', told.stdout, plain.stdout)
     same('what is said without it stays', told.stderr.startswith(plain.stderr), True)
@@ -137,12 +138,13 @@ def test_explain():
     rows = {row[0]: row[1:] for row in table}
     made = json.loads(plain.stdout)
     same('every setting', [(key, rows[key][0]) for key, value in made['settings'].items() if rows[key][0].lower() != str(value).lower()], [])
-    for what, wanted in (('gracePeriodMillis', ['50000', MANIFEST + ', line 18', 'manifest']), ('leader at first', ['cp-2', 'the Lease is held by cp-2_5c0f9a52-6a3f-4c3e-8e4d-2b1a0d9c7f11', 'list']),
+    for what, wanted in (('gracePeriodMillis', ['49999', MANIFEST + ', line 18, and -1 ms: looks come later each time', 'manifest']), ('leader at first', ['cp-2', 'the Lease is held by cp-2_5c0f9a52-6a3f-4c3e-8e4d-2b1a0d9c7f11', 'list']),
                          ('node of cp-3', ['cp-3', 'the node of this name', 'guess']), ('Kubernetes', ['1.36', '--kubernetes 1.36', 'your words']),
                          ('fastRenew', ['true', 'a leader renews without a Get', 'run: client-go 0.36.4']), ('endBeat', ['6000', '--for 10m', 'your words'])):
         same('row ' + what, rows.get(what), wanted)
     default = {line.split('   ')[0]: line for line in make('--kubernetes=1.32', '--explain').stderr.splitlines()}
-    has('how a grace is known', default['gracePeriodMillis'], '50000', 'changelog of 1.32')
+    has('how a grace is known', default['gracePeriodMillis'], '49999', 'changelog of 1.32')
+    has('how rules are known', default['rules'], '1.20', 'not verified for 1.32')
     has('how a call timeout is known', default['callTimeoutMillis'], '10000', 'not verified for 1.32')
 
 
@@ -197,7 +199,7 @@ def test_moment(program):
     plain = document()
     for names, election in ((('worker-2',), False), (('worker-1', 'cp-3'), False), (('cp-2',), True)):
         given = ahead(*names, election=election)
-        made, said = document(given=given), make(given=given).stderr
+        made, said = document('--rules=own', given=given), make('--rules=own', given=given).stderr
         same('epoch beside %s' % (names,), made['settings']['epoch'], plain['settings']['epoch'])
         told = {name: int(seconds) for name, seconds in re.findall(r'the clock of (\S+) is ahead of what most nodes agree on by (\d+)s', said)}
         same('outliers, within the ten seconds between two renewals', sorted(name for name, seconds in told.items() if abs(seconds - 300) < 10), sorted(names))
@@ -212,7 +214,7 @@ def test_moment(program):
     def behind(items):
         items['Lease', 'kube-node-lease', 'worker-3']['spec']['renewTime'] = '2026-11-28T10:54:00.000000Z'
         items['Node', '', 'worker-3']['status']['conditions'][-1]['lastHeartbeatTime'] = '2026-11-28T10:54:00Z'
-    said = make(given=changed(behind)).stderr
+    said = make('--rules=own', given=changed(behind)).stderr
     # The middle one of six, of the two in the middle the first, is 10:59:51.6.
     has('one that is behind', said, 'worker-3 was last heard of 351s before most nodes')
     same('one that is known to be silent', 'worker-4' in said, False)
@@ -248,12 +250,12 @@ def test_hosts():
 
 
 def test_stalls():
-    """A controller or a kubelet that is frozen: a document of version 3, whose events are in the order of their beats."""
-    made = document('--stall', 'cp-1@60s+45s', '--stall', 'worker-1@10s+1m30s', '--stall', 'kubelet/cp-2@20s+2s', '--stall', '@2m+1s', '--kill', 'worker-3@30s')
+    """A controller or a kubelet that is frozen: by the own rules a document of version 3, whose events are in the order of their beats."""
+    made = document('--rules=own', '--stall', 'cp-1@60s+45s', '--stall', 'worker-1@10s+1m30s', '--stall', 'kubelet/cp-2@20s+2s', '--stall', '@2m+1s', '--kill', 'worker-3@30s')
     same('stalls', [(event['beat'], event['type'], event['process'], event.get('beats')) for event in made['events']],
          [(100, 'pause', 'kubelet/worker-1', 900), (200, 'pause', 'kubelet/cp-2', 20), (300, 'crash', 'kubelet/worker-3', None),
           (600, 'pause', 'cp-1', 450), (1_200, 'pause', 'cp-2', 10)])
-    same('version', (made['version'], document()['version']), (3, 1))
+    same('version', (made['version'], document('--rules=own')['version'], document()['version']), (3, 1, 4))
     same('two of one process, with a beat between', [event['beat'] for event in document('--stall', 'cp-1@2s+1s', '--stall', 'cp-1@3.1s+1s')['events']], [20, 31])
     same('names are hidden', [event['process'] for event in document('--stall', 'cp-1@1s+1s', '--stall', 'worker-1@2s+1s', '--redact')['events']],
          ['controller-2', 'kubelet/node-4'])
@@ -285,8 +287,8 @@ def test_redacted(program):
 
 
 def test_run(program):
-    """Taken by the program; the leader leads on at once, and each pod goes when the list says."""
-    made = document('--kill', 'worker-1@60s')
+    """Taken by the program; the leader leads on at once, and by the own rules each pod goes when the list says."""
+    made = document('--rules=own', '--kill', 'worker-1@60s')
     same('check', lines(program, 'check', made), ['ok controllers=3 kubelets=7 nodes=7 leases=8 pods=14 skipped=0 events=1 premise=no'])
     trace = lines(program, 'replay', made)
     same('the holder leads on', [line.split()[1] for line in trace if ' lead ' in line], ['cp-2_1'])
@@ -297,10 +299,33 @@ def test_run(program):
     gone = {line.split()[3]: int(line.split()[0]) - taint for line in trace if ' evict ' in line and '2xk8p' in line or 'cart' in line and ' evict ' in line}
     same('30 and 300 seconds after the taint, within a second', [(pod, -10 <= beats - 10 * seconds <= 0) for (pod, beats), seconds in zip(gone.items(), (30, 300))],
          [('default/cart-5f6d8b7c9-h4t2n', True), ('default/web-7d4b9c6f5-2xk8p', True)])
-    newer = document('--kubernetes=1.36', '--leader-elect-lease-duration=18s')
+    newer = document('--rules=own', '--kubernetes=1.36', '--leader-elect-lease-duration=18s')
     same('1.36 in a document of version 1', lines(program, 'check', newer), ['ok controllers=3 kubelets=7 nodes=7 leases=8 pods=14 skipped=0 events=0 premise=yes'])
     named = lines(program, 'replay', document('--controller', 'a', '--controller', 'b'))
     same('a named controller leads on at once', [(line.split()[1], int(line.split()[0]) < 50) for line in named if ' lead ' in line], [('a_1', True)])
+
+
+def test_upstream_rules(program):
+    """By default the rules of the cluster's version, as the program takes them; looks that slide; and what is said of nodes that are tainted already."""
+    made, own = document('--kill', 'worker-1@60s'), document('--rules=own', '--kill', 'worker-1@60s')
+    same('the word for 1.20 is all that differs, but for graces', {key: value for key, value in made['settings'].items() if own['settings'].get(key) != value},
+         {'rules': '1.20', 'gracePeriodMillis': 39_999, 'startupGraceMillis': 59_999})
+    same('all else is the same', [key for key in made if made[key] != own[key]], ['version', 'settings'])
+    fine = document('--beat=1ms')['settings']
+    same('short beats', [fine[key] for key in ('monitorPeriodMillis', 'gracePeriodMillis')], [5_002, 40_000])
+    same('a grace that is no multiple', document('--node-monitor-grace-period=42s')['settings']['gracePeriodMillis'], 42_000)
+    newer = document('--kubernetes=1.36')
+    same('1.36 by its keys', [newer['settings'].get(key) for key in ('rules', 'retries', 'respect', 'queue', 'evictBurst')], [None, 'ticks', 'record', 'again', 15])
+    same('its waits', {str(each['waits']) for each in newer['controllers']}, {'[1600]'})
+    has('what it lacks', make('--kubernetes=1.36').stderr, 'but for how a leader gives its Lease back')
+    same('the rules of another version', [document('--kubernetes=1.36', '--rules=1.20')['settings']['rules'], document('--rules=1.36')['settings']['retries']], ['1.20', 'ticks'])
+    for each in (made, newer):
+        same('taken', lines(program, 'check', each)[0][:27], 'ok controllers=3 kubelets=7')
+    has('what is tainted already', make().stderr, 'worker-4 is tainted already', '--rules own counts from the taint')
+    same('by the own rules not', 'tainted already' in make('--rules=own').stderr, False)
+    trace = lines(program, 'replay', made)
+    same('marked, and tainted at the next look', [line.split()[0] for line in trace if ' unknown worker-1 ' in line or ' taint worker-1 ' in line], ['911', '961'])
+    same('no other rules', make('--rules=1.19').returncode, 2)
 
 
 def nodes(count, name='n'):
@@ -316,7 +341,7 @@ def pods(count, word):
 def test_limits():
     """What a document can't have is told, and nothing is written."""
     for count, version in ((1_000, 1), (1_001, 4), (15_000, 4)):
-        same('%d nodes' % count, document('--controller', 'a', given=nodes(count)).get('version'), version)
+        same('%d nodes' % count, document('--rules=own', '--controller', 'a', given=nodes(count)).get('version'), version)
     for given, wanted in ((nodes(15_001), '15001 Nodes'), (pods(2_000, 'x' * 80), 'say pods by sets')):
         done = make('--controller', 'a', given=given)
         same('over the limit: ' + wanted, (done.returncode, done.stdout, wanted in done.stderr), (1, '', True))
@@ -347,7 +372,7 @@ def test_sets(program):
     same('pods without an owner, or alone', sorted(single), ['batch-z1-8vwlq', 'cart-5f6d8b7c9-h4t2n', 'db-0', 'queue-6c8f7d5b4-kd9sx'])
     same('sets', sets, {'default/web-7d4b9c6f5': {'worker-1': 1, 'worker-2': 1, 'worker-4': 1}, 'kube-system/proxy-cp': {'cp-1': 1, 'cp-2': 1, 'cp-3': 1},
                         'kube-system/proxy-worker': {'worker-1': 1, 'worker-2': 1, 'worker-3': 1, 'worker-4': 1}})
-    same('versions', (made['version'], plain['version']), (4, 1))
+    same('versions', (made['version'], document('--sets', '--rules=own', *words)['version'], document('--rules=own', *words)['version']), (4, 4, 1))
     same('all else is the same', [made[key] for key in plain if key not in ('version', 'objects')], [plain[key] for key in plain if key not in ('version', 'objects')])
     same('the same trace as written out', lines(program, 'replay', made), lines(program, 'replay', cluster_sets.written_out(made)))
     same('the same trace but for names', nameless(program, made), nameless(program, plain))
@@ -395,7 +420,7 @@ def test_both_ways(program):
     text = json.dumps({'kind': 'List', 'items': [*zoned(60), *found]})
     words = ('--controller', 'a', '--controller', 'b', '--epoch', '2026-11-28T11:00:00Z', '--kill-zone', 'z1@60s', '--kill-leader', '@200s', '--for', '20m')
     sets, plain = document(*words, given=text), document('--written-out', *words, given=text)
-    same('both ways', [(made['version'], *map(len, names_of(made))) for made in (sets, plain)], [(4, 10, 40), (1, 2_400, 0)])
+    same('both ways', [(made['version'], *map(len, names_of(made))) for made in (sets, plain)], [(4, 10, 40), (4, 2_400, 0)])
     same('counted', lines(program, 'check', sets), lines(program, 'check', plain))
     same('the same trace but for names', nameless(program, sets), nameless(program, plain))
     gone = [collections.Counter(re.sub(r'-\w+$', '', line.split()[3]) for line in lines(program, 'replay', made) if ' evict ' in line) for made in (sets, plain)]
@@ -408,7 +433,7 @@ def test_many_pods():
     few, many = [json.dumps({'kind': 'List', 'items': [*json.loads(nodes(3))['items'], *[owned('p%d' % number, ('Job', 'j%d' % (number % 7)), 'n%d' % (number % 3)) for number in range(count)]]})
                  for count in (2_000, 2_001)]
     for given, words, wanted in ((few, (), (1, 2_000, 0)), (many, (), (4, 0, 7)), (few, ('--sets',), (4, 0, 7)), (many, ('--written-out',), (1, 2_001, 0))):
-        made = document('--controller', 'a', *words, given=given)
+        made = document('--rules=own', '--controller', 'a', *words, given=given)
         same('many pods %s' % (words,), (made['version'], *map(len, names_of(made))), wanted)
 
 
@@ -575,7 +600,7 @@ def main():
     test_memory(10_000, 100)
     if given.large:
         test_memory(150_000, 500)
-    for test in (test_moment, test_comparisons, test_sets, test_both_ways, test_redacted, test_store_stalls, test_run, test_rules):
+    for test in (test_moment, test_comparisons, test_sets, test_both_ways, test_redacted, test_store_stalls, test_run, test_rules, test_upstream_rules):
         test(given.program)
     with tempfile.TemporaryDirectory() as folder:
         test_manifests(folder)

@@ -133,13 +133,14 @@ class Nodes:
     ahead: int = 0
     are_posted: bool = True
     has_work: bool = False
+    has_own_judgement: bool = True
     has_own_evictions: bool = True
 
     def are_marked(self, calm):
         return self.are_posted and not self.has_work and 2 * calm.far * self.post[1] <= self.timeout
 
     def are_tainted(self, calm):
-        return self.are_marked(calm) and self.rate > 0
+        return self.are_marked(calm) and self.has_own_judgement and self.rate > 0
 
     def are_gone(self, calm):
         return self.are_tainted(calm) and self.has_own_evictions
@@ -323,7 +324,9 @@ def told_of_document(doc):
     of = lambda key, default: Fraction(settings.get(key, default))
     nodes = Nodes((passes(min(posts)), passes(max(posts))) if posts else (1, 1), of('callTimeoutMillis', 2000) / 1000,
                   of('monitorPeriodMillis', 5000) / 1000, of('gracePeriodMillis', 40000) / 1000, of('nodeLeaseDurationSeconds', 40),
-                  settings.get('primaryRate', 100), are_posted=bool(kubelets), has_work=settings.get('readyMillis', 0) > 0,
+                  settings.get('primaryRate', 100), are_posted=bool(kubelets) and settings.get('probe', 'run') == 'run',
+                  has_work=settings.get('readyMillis', 0) > 0,
+                  has_own_judgement=all(settings.get(key, own) == own for key, own in (('judge', 'tick'), ('firstSight', 'keep'), ('bucket', 'empty'))),
                   has_own_evictions=settings.get('evictFrom', 'added') == 'added' and settings.get('evictBurst', 0) == 0)
     margin = test_lens.Reference(doc)
     waited = lambda one: min(each.lease for each in everyone) if by_own else one.lease
@@ -383,7 +386,8 @@ def with_nodes(dice, doc):
             settings[key] = dice.choice(values)
     if 'primaryRate' in settings:
         settings['secondaryRate'] = 0
-    for key, values in (('evictFrom', ('added', 'seen')), ('evictBurst', (0, 1, 30)), ('evictRate', (0, 20000)), ('readyMillis', (0, 1, 100)), ('readyBurst', (0, 15))):
+    for key, values in (('evictFrom', ('added', 'seen')), ('evictBurst', (0, 1, 30)), ('evictRate', (0, 20000)), ('readyMillis', (0, 1, 100)), ('readyBurst', (0, 15)),
+                        ('probe', ('run', 'record')), ('judge', ('tick', 'pass')), ('firstSight', ('keep', 'strip')), ('bucket', ('empty', 'full'))):
         if doc['version'] == 4 and dice.random() < 0.2:
             settings[key] = dice.choice(values)
     for one in doc['controllers']:

@@ -102,11 +102,16 @@ stays
 '''
 
 
-# Where passes take time nothing of nodes is told, and of pods nothing where they are due by what is seen, or go within a limit.
+# Where passes take time, or nodes are silent by what is recorded, nothing of nodes is told; of taints nothing where nodes are judged at passes or stripped, or
+# buckets start full; and of pods nothing where they are due by what is seen, or go within a limit.
 NODES = ['node unknown at-least=35100ms at-most=49900ms', 'node tainted ahead=0 at-least=35100ms at-most=59900ms at-most-with-token=49900ms']
 NO_PODS = ['pods gone toleration=30s none', 'pods gone toleration=0s none']
 UNBOUND = [({'readyMillis': 1}, ['node unknown none', 'node tainted ahead=0 none'], NO_PODS), ({'evictFrom': 'seen'}, NODES, NO_PODS),
-           ({'evictBurst': 30}, NODES, NO_PODS),
+           ({'evictBurst': 30}, NODES, NO_PODS), ({'probe': 'record'}, ['node unknown none', 'node tainted ahead=0 none'], NO_PODS),
+           *((rules, [NODES[0], 'node tainted ahead=0 none'], NO_PODS) for rules in ({'judge': 'pass'}, {'firstSight': 'strip'}, {'bucket': 'full'},
+                                                                                    {'judge': 'pass', 'queue': 'again'})),
+           ({'probe': 'run', 'judge': 'tick', 'firstSight': 'keep', 'queue': 'once', 'bucket': 'empty'}, NODES,
+            [line for line in LINES.splitlines() if line.startswith('pods ')]),
            ({'readyBurst': 15, 'evictRate': 0, 'evictFrom': 'added', 'evictBurst': 0}, NODES, [line for line in LINES.splitlines() if line.startswith('pods ')])]
 
 

@@ -262,7 +262,9 @@ def try_playground(tried, system):
     """The page is served, with its examples and its picture, and answers as the program does."""
     status, said, _ = system.run(PLAYGROUND)
     told, _, ended = said.partition('\n')
-    wanted = ['leader-crashes', len(glob.glob(system.folder + DOC + 'examples/*/document.json')), True, True, system.read(DOC + 'examples/leader-crashes/trace.txt')]
+    first = {**(example := json.loads(read('examples/leader-crashes/document.json'))), 'version': 4, 'settings': {**example['settings'], 'rules': '1.20'}}
+    trace = system.run('kube_replay replay', json.dumps(first))[1]
+    wanted = ['leader-crashes-1.20', len(glob.glob(system.folder + DOC + 'examples/*/document.json')) + 1, True, True, trace]
     tried.same('kube_replay-playground', (status, json.loads(told or 'null'), ended), (0, wanted, '0\n'))
 
 

@@ -1,5 +1,5 @@
 -- What a tick adds something for.
-use Rattle.std.proofs.Common.{◌≡◌, ◌↔◌, ◌⊎◌, ℕ, zero, suc, ◌+◌, ◌-◌, ◌*◌, ◌<◌, ◌≤◌, ◌==◌, ◌&&◌, ◌||◌, max, nat_lt, nat_le, Bool, true, false, cond, List, [], ◌∷◌, Option, Some, None, refl, sym, ap, ◌∙◌, subst, inl, inr, ⊎_elim, arith}
+use Rattle.std.proofs.Common.{◌≡◌, ◌↔◌, ◌⊎◌, ℕ, zero, suc, ◌+◌, ◌-◌, ◌*◌, ◌<◌, ◌≤◌, ◌==◌, ◌&&◌, ◌||◌, not, max, nat_lt, nat_le, Bool, true, false, cond, List, [], ◌∷◌, Option, Some, None, refl, sym, ap, ◌∙◌, subst, inl, inr, ⊎_elim, arith}
 use Rattle.std.specs.Prelude.{if◌then◌else◌}
 use Rattle.std.specs.Int.{div_ceil}
 use Rattle.std.specs.List.{list_any}
@@ -16,20 +16,25 @@ use Rattle.kube_objects.specs.declared.pod.Due.TheVariants.{Never, At}
 use Rattle.kube_objects.specs.declared.pod.Pod.{Pod}
 use Rattle.kube_objects.specs.declared.rules.EvictRule.{EvictRule}
 use Rattle.kube_objects.specs.declared.rules.EvictRule.TheVariants as evictions
+use Rattle.kube_objects.specs.declared.rules.JudgeRule.{JudgeRule}
+use Rattle.kube_objects.specs.declared.rules.JudgeRule.TheVariants as judges
+use Rattle.kube_objects.specs.declared.rules.SightRule.{SightRule}
+use Rattle.kube_objects.specs.declared.rules.SightRule.TheVariants.{Keep, Strip}
 use Rattle.kube_objects.specs.Clocks.{local, wall}
 use Rattle.kube_objects.specs.Deletes.{no_version}
 use Rattle.kube_objects.specs.Document.{Doc, of_millis}
 use Rattle.kube_objects.specs.Elector.{led_at}
 use Rattle.kube_objects.specs.Entry.{Entry, Identity, Place, Pass, Sync, Mode, Zone, Delete}
-use Rattle.kube_objects.specs.Health.{mark_of, last_pass, pass_period, is_after_pass, is_pass_due}
+use Rattle.kube_objects.specs.Health.{mark_of, before_pass, is_known, is_pass_tick, last_pass, pass_period, is_after_pass, is_pass_due}
+use Rattle.kube_objects.specs.Judgement.{passes, queue}
 use Rattle.kube_objects.specs.Modes.{nodes, places, mode, state_in, rate_in, all_full}
 use Rattle.kube_objects.specs.Newest.{only_if, has}
 use Rattle.kube_objects.specs.Seen.{seen_node, seen_pod, is_synced, is_stale, node_names, pod_keys}
 use Rattle.kube_objects.specs.Sightings.{sighted_due}
 use Rattle.kube_objects.specs.Stored.{node_key}
-use Rattle.kube_objects.specs.Tainting.{Wants, Nothing, Wanted, Whatever, wants, has_condition, is_opposite, lacks_in, waits, Queued, queued, queued_as, first, head_of}
-use Rattle.kube_objects.specs.Tick.{add, has_settled, sync, is_stripped, mark_as, mark_seen, mark, marks, is_same_mode, set_mode, zone, set_zones, pass, clean_as, clean_seen, clean, taint_as, taint_head, taint, evict_due, evict_on, evict_seen, evict_sighted, evict_by, evict, evict_within, evicted, tick, whole_pass, add_untaint, add_swap, taint_first, add_delete, for_each, due_on_seen, due_seen as in_cache, due_by, insert_due, and_due, dues, has_room, spends}
-use Rattle.kube_objects.specs.Tokens.{Rated, rated, is_rated, base, token_size, is_grown, has_token}
+use Rattle.kube_objects.specs.Tainting.{Wants, Nothing, Wanted, Whatever, wants, wants_ready, has_condition, is_opposite, lacks_in, waits, Queued, queued, queued_as, first, head_of}
+use Rattle.kube_objects.specs.Tick.{add, has_settled, sync, is_stripped, mark_as, mark_seen, mark, marks, is_same_mode, set_mode, zone, set_zones, pass, clean_as, clean_seen, clean, cleaned, cleaned_by, judge_all, push_as, push_seen, push_first, push, tainted, tainted_by, taint_as, taint_head, taint, evict_due, evict_on, evict_seen, evict_sighted, evict_by, evict, evict_within, evicted, tick, whole_pass, add_untaint, add_swap, taint_first, add_delete, for_each, due_on_seen, due_seen as in_cache, due_by, insert_due, and_due, dues, has_room, spends}
+use Rattle.kube_objects.specs.Tokens.{Rated, rated, is_rated, base, token_size, is_full_by, is_grown, is_there, has_token}
 use Rattle.kube_objects.specs.Tolerations.{due}
 use Rattle.kube_objects.specs.Tries.{try_delete_alone}
 use Rattle.history_laws.specs.Tails.{IsTail}
@@ -37,13 +42,12 @@ use Rattle.history_laws.proofs.Plainly.{true_is, false_is, some_is, none_is}
 use Rattle.history_laws.proofs.Tailed.{tail_all, tail_trans}
 use Rattle.agenda_laws.specs.Parts.{IsStillSynced}
 use Rattle.agenda_laws.specs.Standing.{Among}
-use Rattle.agenda_laws.specs.Ticking.{is_sync_due, is_sync_at_once, sync_at, IsEarlySync, SyncsWake, synced_reading, is_unclean, is_unclean_seen, is_clean_due, CleansWake, pass_after, pass_at, PassesWake, token_after, token_at, head_at, HeadsWake, heads_at, time_of, due_on, due_seen, due_sighted, due_at_by, due_at, DeletesWake, dues_at, later, room_after, room_from, RoomsWake, room_at, IsEarlyTick, TicksWake}
+use Rattle.agenda_laws.specs.Ticking.{is_sync_due, is_sync_at_once, sync_at, IsEarlySync, SyncsWake, synced_reading, is_unclean, is_unclean_seen, is_clean_due, CleansWake, has_clean_due_by, has_clean_due, minds_passes, HadNoPass, JudgesWake, pass_after, pass_at, PassesWake, token_after, token_from, token_at, has_first, has_head_by, has_head, head_at, turn_by, HeadsWake, heads_at, queue_places_by, queue_places, time_of, due_on, due_seen, due_sighted, due_at_by, due_at, DeletesWake, dues_at, later, room_after, room_from, RoomsWake, room_at, IsEarlyTick, TicksWake}
 use Rattle.agenda_laws.specs.Times.{is_early, sooner}
 use Rattle.agenda_laws.proofs.Between.{longer, grew, each_adds, each_still, still_each, or_none, none_or, and_none, none_and, sooner_both, both_sooner}
 use Rattle.agenda_laws.proofs.Parts.{ticks_add_by_parts}
 use Rattle.agenda_laws.proofs.Times.{Waits, never}
-use Rattle.kube_objects.specs.Own.{IsOwn}
-use Rattle.kube_objects.proofs.Own.{cleaned-own, tainted-own, has_token-own}
+use Rattle.kube_objects.proofs.Tokens.{empty_grown, token_is_there}
 
 -- what adds nothing exactly where a test fails
 abbrev Needs : List Entry → List Entry → Bool → Type 0
@@ -124,10 +128,20 @@ pub grown_waits : (reads from : ℕ) (o : Option Rated) → is_grown (reads - fr
 grown_waits reads from None = (λ is. refl, λ is. refl)
 grown_waits reads from (Some x) = grown_by token_size reads from x.1 token_some (x.1 == 0) refl
 
--- ---- a further delete within the limit
-
 zero_never : (reads : ℕ) → nat_lt reads 0 ≡ false
 zero_never reads = grind (arith, nat_tests)
+
+-- the same of a bucket that may be full
+pub full_waits : (full : Bool) (reads from : ℕ) (o : Option Rated) → is_there full (reads - from) o ≡ false ↔ is_early reads (token_from full from o) ≡ true
+full_waits false reads from o = subst (λ b. b ≡ false ↔ is_early reads (token_after from o) ≡ true) (sym (empty_grown (reads - from) o)) (grown_waits reads from o)
+full_waits true reads from None = (λ is. refl, λ is. refl)
+full_waits true reads from (Some x) = by_rate (x.1 == 0)
+  where
+    by_rate : (none : Bool) → (not none && true) ≡ false ↔ is_early reads (cond none None (Some 0)) ≡ true
+    by_rate true = (λ is. refl, λ is. refl)
+    by_rate false = (λ is. absurd (true_is is), λ is. absurd (true_is (sym is ∙ zero_never reads)))
+
+-- ---- a further delete within the limit
 
 later_early : (reads : ℕ) (a b : Option ℕ) (x y : Bool) → (x ≡ false ↔ is_early reads a ≡ true) → (y ≡ false ↔ is_early reads b ≡ true) → (x && y) ≡ false ↔ is_early reads (later a b) ≡ true
 later_early reads a b x y one other = (λ is. by_left x y a b one.0 other.0 is, λ is. by_right x y a b one.1 other.1 is)
@@ -526,7 +540,7 @@ module _ (doc : Doc) (k : ℕ) (q : Identity) where
         λ early. still_within h is (subst (λ b. (Time || Room b) ≡ true) (sym is) early),
       )
 
-module _ (doc : Doc) (own : IsOwn doc) (k : ℕ) (q : Identity) where
+module _ (doc : Doc) (k : ℕ) (q : Identity) where
   -- untaints and swaps
 
   untaint_needs : (name : ℕ) (given : Version) (node : Node) (b : Bool) (h : List Entry) → Needs (if b then add_untaint k q name given node h else h) h b
@@ -542,15 +556,16 @@ module _ (doc : Doc) (own : IsOwn doc) (k : ℕ) (q : Identity) where
   clean_as_needs name given node (Wanted wanted) h = swap_needs name given node wanted (list_any (is_opposite wanted) node.taints) h
   clean_as_needs name given node Whatever h = idle h
 
-  clean_seen_needs : (name : ℕ) (stale : Bool) (o : Option (Version × Node)) (h : List Entry) → Needs (clean_seen doc k q name stale o h) h (is_unclean_seen (mode q h) stale o)
-  clean_seen_needs name true o h = idle h
-  clean_seen_needs name false None h = idle h
-  clean_seen_needs name false (Some x) h =
-      subst (λ r. Needs (clean_as doc k q name x.0 x.1 (wants (is_stripped r.first_sight k q name h || mode q h) x.1) h) h (is_unclean x.1 (wants (mode q h) x.1))) (sym own.rules)
+  clean_seen_needs : (name : ℕ) (stale : Bool) (o : Option (Version × Node)) (h : List Entry) → is_stripped doc.settings.rules.first_sight k q name h ≡ false
+      → Needs (clean_seen doc k q name stale o h) h (is_unclean_seen (mode q h) stale o)
+  clean_seen_needs name true o h kept = idle h
+  clean_seen_needs name false None h kept = idle h
+  clean_seen_needs name false (Some x) h kept =
+      subst (λ b. Needs (clean_as doc k q name x.0 x.1 (wants (b || mode q h) x.1) h) h (is_unclean x.1 (wants (mode q h) x.1))) (sym kept)
       (clean_as_needs name x.0 x.1 (wants (mode q h) x.1) h)
 
-  clean_needs : (name : ℕ) (h : List Entry) → Needs (clean doc k q name h) h (is_clean_due q h name)
-  clean_needs name h = clean_seen_needs name (is_stale q (node_key name) h) (seen_node q name h) h
+  clean_needs : (name : ℕ) (h : List Entry) → is_stripped doc.settings.rules.first_sight k q name h ≡ false → Needs (clean doc k q name h) h (is_clean_due q h name)
+  clean_needs name h kept = clean_seen_needs name (is_stale q (node_key name) h) (seen_node q name h) h kept
 
   untaint_adds : (name : ℕ) (given : Version) (node : Node) (b : Bool) (h : List Entry) → IsTail h (if b then add_untaint k q name given node h else h)
   untaint_adds name given node true h = inr (tail_all h)
@@ -572,6 +587,22 @@ module _ (doc : Doc) (own : IsOwn doc) (k : ℕ) (q : Identity) where
 
   clean_adds : (name : ℕ) (h : List Entry) → IsTail h (clean doc k q name h)
   clean_adds name h = clean_seen_adds name (is_stale q (node_key name) h) (seen_node q name h) h
+
+  -- where the tick of a pass strips nodes no pass is at this beat
+  none_stripped : (sight : SightRule) (name : ℕ) (h : List Entry) → (minds_passes judges.Tick sight ≡ true → is_pass_tick k q h ≡ false) → is_stripped sight k q name h ≡ false
+  none_stripped Keep name h none = refl
+  none_stripped Strip name h none = ap (λ b. b && not (is_known q name (before_pass q h))) (none refl)
+
+  cleaned_needs : (h : List Entry) → HadNoPass doc k q h → Needs (cleaned doc k q h) h (has_clean_due doc q h)
+  cleaned_needs h none = by_rule doc.settings.rules.judge none
+    where
+      by_rule : (rule : JudgeRule) → (minds_passes rule doc.settings.rules.first_sight ≡ true → is_pass_tick k q h ≡ false) → Needs (cleaned_by rule doc k q h) h (has_clean_due_by rule q h)
+      by_rule judges.Tick none =
+          let kept : (name : ℕ) → is_stripped doc.settings.rules.first_sight k q name h ≡ false = λ name. none_stripped doc.settings.rules.first_sight name h none in (
+            λ is. none_any (is_clean_due q h) (node_names h) (λ name at. (clean_needs name h (kept name)).0 (each_still (clean doc k q) clean_adds (node_names h) h is name at)),
+            λ is. still_each (clean doc k q) (node_names h) h (λ name at. (clean_needs name h (kept name)).1 (any_none (is_clean_due q h) (node_names h) is name at)),
+          )
+      by_rule judges.Pass none = subst (λ b. Needs (if b then judge_all doc k q (passes q h) h else h) h false) (sym (none refl)) (idle h)
 
   -- heads
 
@@ -646,38 +677,102 @@ module _ (doc : Doc) (own : IsOwn doc) (k : ℕ) (q : Identity) where
   both_wait true true reads o tells = (λ is. absurd (true_is is), tells.1)
   both_wait false true reads o tells = (λ is. tells.0 refl, λ is. refl)
 
-  taint_waits : (place : Place) (h : List Entry) → Waits (taint doc k q place h) h (is_early (local doc q.process k) (head_at doc q place h))
-  taint_waits place h =
-      let needs = taint_needs place (has_token doc q k place h) h in
-      let grown = subst (λ b. b ≡ false ↔ is_early (local doc q.process k) (token_at doc q place h) ≡ true) (sym (has_token-own doc own q k place h))
-      (grown_waits (local doc q.process k) (local doc q.process (base q place h)) (rated q place h)) in
-      let tells = both_wait (has_token doc q k place h) (has (head_of q place (node_names h) h)) (local doc q.process k) (token_at doc q place h) grown in
+  -- pushes
+
+  push_as_busy : (place : Place) (name : ℕ) (given : Version) (node : Node) (w : Wants) (h : List Entry) → Needs (push_as doc k q place name given node w h) h true
+  push_as_busy place name given node Nothing h = busy _ h
+  push_as_busy place name given node (Wanted wanted) h = busy _ h
+  push_as_busy place name given node Whatever h = busy _ h
+
+  push_seen_busy : (place : Place) (name : ℕ) (o : Option (Version × Node)) (h : List Entry) → Needs (push_seen doc k q place name o h) h true
+  push_seen_busy place name None h = busy _ h
+  push_seen_busy place name (Some x) h = push_as_busy place name x.0 x.1 (wants_ready x.1.ready) h
+
+  push_first_needs : (place : Place) (names : List ℕ) (h : List Entry) → Needs (push_first doc k q place names h) h (has_first names)
+  push_first_needs place [] h = idle h
+  push_first_needs place (name ∷ names) h = push_seen_busy place name (seen_node q name h) h
+
+  push_needs : (place : Place) (names : List ℕ) (b : Bool) (h : List Entry) → Needs (if b then push_first doc k q place names h else h) h (b && has_first names)
+  push_needs place names true h = push_first_needs place names h
+  push_needs place names false h = idle h
+
+  push_as_adds : (place : Place) (name : ℕ) (given : Version) (node : Node) (w : Wants) (h : List Entry) → IsTail h (push_as doc k q place name given node w h)
+  push_as_adds place name given node Nothing h = inr (tail_all h)
+  push_as_adds place name given node (Wanted wanted) h = inr (tail_all h)
+  push_as_adds place name given node Whatever h = inr (tail_all h)
+
+  push_seen_adds : (place : Place) (name : ℕ) (o : Option (Version × Node)) (h : List Entry) → IsTail h (push_seen doc k q place name o h)
+  push_seen_adds place name None h = inr (tail_all h)
+  push_seen_adds place name (Some x) h = push_as_adds place name x.0 x.1 (wants_ready x.1.ready) h
+
+  push_first_adds : (place : Place) (names : List ℕ) (h : List Entry) → IsTail h (push_first doc k q place names h)
+  push_first_adds place [] h = tail_all h
+  push_first_adds place (name ∷ names) h = push_seen_adds place name (seen_node q name h) h
+
+  push_if_adds : (place : Place) (names : List ℕ) (b : Bool) (h : List Entry) → IsTail h (if b then push_first doc k q place names h else h)
+  push_if_adds place names true h = push_first_adds place names h
+  push_if_adds place names false h = tail_all h
+
+  push_adds : (place : Place) (h : List Entry) → IsTail h (push doc k q place h)
+  push_adds place h = push_if_adds place (queue doc q place (passes q h)) (has_token doc q k place h) h
+
+  -- turns of either kind
+
+  turn_needs : (rule : JudgeRule) (place : Place) (h : List Entry) → Needs (turn_by rule doc k q place h) h (has_token doc q k place h && has_head_by rule doc q place h)
+  turn_needs judges.Tick place h = taint_needs place (has_token doc q k place h) h
+  turn_needs judges.Pass place h = push_needs place (queue doc q place (passes q h)) (has_token doc q k place h) h
+
+  turn_adds : (rule : JudgeRule) (place : Place) (h : List Entry) → IsTail h (turn_by rule doc k q place h)
+  turn_adds judges.Tick place h = taint_adds place h
+  turn_adds judges.Pass place h = push_adds place h
+
+  turn_waits : (place : Place) (h : List Entry) → Waits (turn_by doc.settings.rules.judge doc k q place h) h (is_early (local doc q.process k) (head_at doc q place h))
+  turn_waits place h =
+      let needs = turn_needs doc.settings.rules.judge place h in
+      let grown = subst (λ b. b ≡ false ↔ is_early (local doc q.process k) (token_at doc q place h) ≡ true) (sym (token_is_there doc q k place h))
+      (full_waits (is_full_by doc.settings.rules.bucket doc q place h) (local doc q.process k) (local doc q.process (base q place h)) (rated q place h)) in
+      let tells = both_wait (has_token doc q k place h) (has_head doc q place h) (local doc q.process k) (token_at doc q place h) grown in
       (λ is. tells.0 (needs.0 is), λ is. needs.1 (tells.1 is))
+
+  tainted_turns : (rule : JudgeRule) (h : List Entry) → tainted_by rule doc k q h ≡ for_each (turn_by rule doc k q) (queue_places_by rule q h) h
+  tainted_turns judges.Tick h = refl
+  tainted_turns judges.Pass h = refl
+
+  tainted_waits : (h : List Entry) → Waits (tainted doc k q h) h (is_early (local doc q.process k) (heads_at doc q (queue_places doc q h) h))
+  tainted_waits h = (
+    λ is. early_heads doc q (local doc q.process k) (queue_places doc q h) h (λ place at. (turn_waits place h).0 (each_still turn (turn_adds doc.settings.rules.judge) (queue_places doc q h) h (sym turns ∙ is) place at)),
+    λ is. turns ∙ still_each turn (queue_places doc q h) h (λ place at. (turn_waits place h).1 (heads_early doc q (local doc q.process k) (queue_places doc q h) h is place at)),
+  )
+    where
+      turn : Place → List Entry → List Entry
+      turn = turn_by doc.settings.rules.judge doc k q
+
+      turns : tainted doc k q h ≡ for_each turn (queue_places doc q h) h
+      turns = tainted_turns doc.settings.rules.judge h
 
   -- ---- the tick
 
   -- of a synced tick
   record Early (h : List Entry) : Type 0 where
-    clean : list_any (is_clean_due q h) (node_names h) ≡ false
-    reading : is_early (local doc q.process k) (sooner (pass_at doc q h) (heads_at doc q (places (nodes q h)) h)) ≡ true
+    clean : has_clean_due doc q h ≡ false
+    reading : is_early (local doc q.process k) (sooner (pass_at doc q h) (heads_at doc q (queue_places doc q h) h)) ≡ true
     time : (is_early (wall doc q.process k) (dues_at doc q (pod_keys h) h) || is_early (local doc q.process k) (room_at doc q h)) ≡ true
 
-  still_early : (h : List Entry) → IsStillSynced doc k q h → Early h
-  still_early h s =
+  still_early : (h : List Entry) → HadNoPass doc k q h → IsStillSynced doc k q h → Early h
+  still_early h none s =
       record {
-        clean = none_any (is_clean_due q h) (node_names h) (λ name at. (clean_needs name h).0 (each_still (clean doc k q) clean_adds (node_names h) h (sym (cleaned-own doc own k q h) ∙ s.cleans) name at));
-        reading = both_sooner (local doc q.process k) (pass_at doc q h) (heads_at doc q (places (nodes q h)) h) ((pass_waits doc k q h).0 s.passes)
-            (early_heads doc q (local doc q.process k) (places (nodes q h)) h (λ place at. (taint_waits place h).0 (each_still (taint doc k q) taint_adds (places (nodes q h)) h (sym (tainted-own doc own k q h) ∙ s.taints) place at)));
+        clean = (cleaned_needs h none).0 s.cleans;
+        reading = both_sooner (local doc q.process k) (pass_at doc q h) (heads_at doc q (queue_places doc q h) h) ((pass_waits doc k q h).0 s.passes) ((tainted_waits h).0 s.taints);
         time = (evicted_still doc k q h).0 s.evicts;
       }
 
-  early_still : (h : List Entry) → Early h → IsStillSynced doc k q h
-  early_still h s =
-      let both = sooner_both (local doc q.process k) (pass_at doc q h) (heads_at doc q (places (nodes q h)) h) s.reading in
+  early_still : (h : List Entry) → HadNoPass doc k q h → Early h → IsStillSynced doc k q h
+  early_still h none s =
+      let both = sooner_both (local doc q.process k) (pass_at doc q h) (heads_at doc q (queue_places doc q h) h) s.reading in
       record {
         passes = (pass_waits doc k q h).1 both.0;
-        cleans = cleaned-own doc own k q h ∙ still_each (clean doc k q) (node_names h) h (λ name at. (clean_needs name h).1 (any_none (is_clean_due q h) (node_names h) s.clean name at));
-        taints = tainted-own doc own k q h ∙ still_each (taint doc k q) (places (nodes q h)) h (λ place at. (taint_waits place h).1 (heads_early doc q (local doc q.process k) (places (nodes q h)) h both.1 place at));
+        cleans = (cleaned_needs h none).1 s.clean;
+        taints = (tainted_waits h).1 both.1;
         evicts = (evicted_still doc k q h).1 s.time;
       }
 
@@ -697,27 +792,27 @@ module _ (doc : Doc) (own : IsOwn doc) (k : ℕ) (q : Identity) where
   early_only_or true o other is yet = is
   early_only_or false o other is yet = absurd (false_is yet)
 
-  tick_early : (h : List Entry) → tick doc k q h ≡ h → IsEarlyTick doc k q h
-  tick_early h is =
+  tick_early : (h : List Entry) → HadNoPass doc k q h → tick doc k q h ≡ h → IsEarlyTick doc k q h
+  tick_early h none is =
       let s = (ticks_add_by_parts doc k q h).0 is in
-      let early : is_synced q h ≡ true → Early h = λ yet. still_early h (s.synced yet) in
+      let early : is_synced q h ≡ true → Early h = λ yet. still_early h none (s.synced yet) in
       record {
-        at_once = none_or (is_sync_at_once doc q h) (is_synced q h && list_any (is_clean_due q h) (node_names h)) ((sync_waits doc k q h).0 s.syncs).at_once
-            (none_and (is_synced q h) (list_any (is_clean_due q h) (node_names h)) (λ yet. (early yet).clean));
+        at_once = none_or (is_sync_at_once doc q h) (is_synced q h && has_clean_due doc q h) ((sync_waits doc k q h).0 s.syncs).at_once
+            (none_and (is_synced q h) (has_clean_due doc q h) (λ yet. (early yet).clean));
         reading = both_sooner (local doc q.process k) (sync_at doc q h) (synced_reading doc q h) ((sync_waits doc k q h).0 s.syncs).reading
-            (only_early (local doc q.process k) (is_synced q h) (sooner (pass_at doc q h) (heads_at doc q (places (nodes q h)) h)) (λ yet. (early yet).reading));
+            (only_early (local doc q.process k) (is_synced q h) (sooner (pass_at doc q h) (heads_at doc q (queue_places doc q h) h)) (λ yet. (early yet).reading));
         time = only_early_or (is_synced q h) (dues_at doc q (pod_keys h) h) (is_early (local doc q.process k) (room_at doc q h)) (λ yet. (early yet).time);
       }
 
-  early_tick : (h : List Entry) → IsEarlyTick doc k q h → tick doc k q h ≡ h
-  early_tick h s =
-      let parts = or_none (is_sync_at_once doc q h) (is_synced q h && list_any (is_clean_due q h) (node_names h)) s.at_once in
+  early_tick : (h : List Entry) → HadNoPass doc k q h → IsEarlyTick doc k q h → tick doc k q h ≡ h
+  early_tick h none s =
+      let parts = or_none (is_sync_at_once doc q h) (is_synced q h && has_clean_due doc q h) s.at_once in
       let readings = sooner_both (local doc q.process k) (sync_at doc q h) (synced_reading doc q h) s.reading in
       (ticks_add_by_parts doc k q h).1 (record {
         syncs = (sync_waits doc k q h).1 (record { at_once = parts.0; reading = readings.0 });
-        synced = λ yet. early_still h (record {
-          clean = and_none (is_synced q h) (list_any (is_clean_due q h) (node_names h)) parts.1 yet;
-          reading = early_only (local doc q.process k) (is_synced q h) (sooner (pass_at doc q h) (heads_at doc q (places (nodes q h)) h)) readings.1 yet;
+        synced = λ yet. early_still h none (record {
+          clean = and_none (is_synced q h) (has_clean_due doc q h) parts.1 yet;
+          reading = early_only (local doc q.process k) (is_synced q h) (sooner (pass_at doc q h) (heads_at doc q (queue_places doc q h) h)) readings.1 yet;
           time = early_only_or (is_synced q h) (dues_at doc q (pod_keys h) h) (is_early (local doc q.process k) (room_at doc q h)) s.time yet;
         });
       })
@@ -729,10 +824,13 @@ pub passes_wake : PassesWake
 passes_wake doc k q h = pass_waits doc k q h
 
 pub cleans_wake : CleansWake
-cleans_wake doc own k q name h = clean_needs doc own k q name h
+cleans_wake doc k q name h kept = clean_needs doc k q name h kept
+
+pub judges_wake : JudgesWake
+judges_wake doc k q h none = cleaned_needs doc k q h none
 
 pub heads_wake : HeadsWake
-heads_wake doc own k q place h = taint_waits doc own k q place h
+heads_wake doc k q place h = turn_waits doc k q place h
 
 pub deletes_wake : DeletesWake
 deletes_wake doc k q pod h = evict_waits doc k q pod h
@@ -741,4 +839,4 @@ pub rooms_wake : RoomsWake
 rooms_wake doc k q after h = rooms_wait doc k q after h
 
 pub ticks_wake : TicksWake
-ticks_wake doc own k q h = (tick_early doc own k q h, early_tick doc own k q h)
+ticks_wake doc k q h none = (tick_early doc k q h none, early_tick doc k q h none)

@@ -11,22 +11,26 @@ use Rattle.kube_objects.specs.declared.pod.Due.TheVariants.{Never, At}
 use Rattle.kube_objects.specs.declared.pod.Pod.{Pod}
 use Rattle.kube_objects.specs.declared.rules.EvictRule.{EvictRule}
 use Rattle.kube_objects.specs.declared.rules.EvictRule.TheVariants as evictions
+use Rattle.kube_objects.specs.declared.rules.JudgeRule.{JudgeRule}
+use Rattle.kube_objects.specs.declared.rules.JudgeRule.TheVariants as judges
+use Rattle.kube_objects.specs.declared.rules.SightRule.{SightRule}
+use Rattle.kube_objects.specs.declared.rules.SightRule.TheVariants.{Keep, Strip}
 use Rattle.kube_objects.specs.Clocks.{local, wall}
 use Rattle.kube_objects.specs.Document.{Doc}
 use Rattle.kube_objects.specs.Entry.{Entry, Identity, Place}
-use Rattle.kube_objects.specs.Health.{last_pass, pass_period}
+use Rattle.kube_objects.specs.Health.{last_pass, pass_period, before_pass, is_pass_tick}
 use Rattle.kube_objects.specs.InForce.{watches}
+use Rattle.kube_objects.specs.Judgement.{passes, queue}
 use Rattle.kube_objects.specs.Modes.{nodes, places, mode}
 use Rattle.kube_objects.specs.Newest.{only_if, has}
 use Rattle.kube_objects.specs.Seen.{seen_node, seen_pod, is_fresh, is_synced, is_stale, node_names, pod_keys}
 use Rattle.kube_objects.specs.Sightings.{sighted_due}
 use Rattle.kube_objects.specs.Stored.{node_key}
 use Rattle.kube_objects.specs.Tainting.{Wants, Nothing, Wanted, Whatever, wants, has_condition, is_opposite, head_of}
-use Rattle.kube_objects.specs.Tick.{settles_at, sync, pass, clean, taint, evict, has_room, spends, tick}
-use Rattle.kube_objects.specs.Tokens.{Rated, rated, base, token_size}
+use Rattle.kube_objects.specs.Tick.{settles_at, sync, pass, is_stripped, clean, cleaned, taint, push, evict, has_room, spends, tick}
+use Rattle.kube_objects.specs.Tokens.{Rated, rated, base, is_full_by, token_size}
 use Rattle.kube_objects.specs.Tolerations.{due}
 use Rattle.agenda_laws.specs.Times.{is_early, sooner}
-use Rattle.kube_objects.specs.Own.{IsOwn}
 
 -- ---- a sync: at once, or from the reading on from which the term has settled, where that takes time
 
@@ -66,14 +70,38 @@ is_unclean_seen on false (Some x) = is_unclean x.1 (wants on x.1)
 abbrev pub is_clean_due : Identity → List Entry → ℕ → Bool
 is_clean_due q h name = is_unclean_seen (mode q h) (is_stale q (node_key name) h) (seen_node q name h)
 
+-- where the tick doesn't strip the node
 abbrev pub CleansWake : Type 0
-CleansWake = (doc : Doc) → IsOwn doc → (k : ℕ) (q : Identity) (name : ℕ) (h : List Entry) → clean doc k q name h ≡ h ↔ is_clean_due q h name ≡ false
+CleansWake =
+    (doc : Doc) (k : ℕ) (q : Identity) (name : ℕ) (h : List Entry) → is_stripped doc.settings.rules.first_sight k q name h ≡ false
+    → clean doc k q name h ≡ h ↔ is_clean_due q h name ≡ false
+
+abbrev pub has_clean_due_by : JudgeRule → Identity → List Entry → Bool
+has_clean_due_by judges.Tick q h = list_any (is_clean_due q h) (node_names h)
+has_clean_due_by judges.Pass q h = false
+
+-- one of some node is due; where nodes are judged at passes alone that is at a pass's tick, which has the pass
+abbrev pub has_clean_due : Doc → Identity → List Entry → Bool
+has_clean_due doc q h = has_clean_due_by doc.settings.rules.judge q h
+
+-- whether the tick of a pass does more of nodes than another one: it judges them, or strips them
+abbrev pub minds_passes : JudgeRule → SightRule → Bool
+minds_passes judges.Tick Keep = false
+minds_passes judges.Tick Strip = true
+minds_passes judges.Pass sight = true
+
+-- where that is so the term has had no pass at this beat, as before the beat is done
+abbrev pub HadNoPass : Doc → ℕ → Identity → List Entry → Type 0
+HadNoPass doc k q h = minds_passes doc.settings.rules.judge doc.settings.rules.first_sight ≡ true → is_pass_tick k q h ≡ false
+
+abbrev pub JudgesWake : Type 0
+JudgesWake = (doc : Doc) (k : ℕ) (q : Identity) (h : List Entry) → HadNoPass doc k q h → cleaned doc k q h ≡ h ↔ has_clean_due doc q h ≡ false
 
 -- a tick, were it to have no pass, has a sync, an untaint or a swap, whatever the time
 abbrev pub is_due_at_once : Doc → Identity → List Entry → Bool
-is_due_at_once doc q h = is_sync_at_once doc q h || (is_synced q h && list_any (is_clean_due q h) (node_names h))
+is_due_at_once doc q h = is_sync_at_once doc q h || (is_synced q h && has_clean_due doc q h)
 
--- ---- from a reading: the pass, and a token of a zone in which a node waits
+-- ---- from a reading: the pass, and a token of a zone that has a node in its queue
 
 -- the first pass is due at once, and another one a period after the last
 abbrev pub pass_after : Doc → Identity → (period : ℕ) → Option ℕ → ℕ
@@ -92,22 +120,54 @@ abbrev pub token_after : ℕ → Option Rated → Option ℕ
 token_after from None = None
 token_after from (Some x) = cond (x.1 == 0) None (Some (from + div_ceil token_size x.1))
 
+-- where the bucket is full there is one at every reading
+abbrev pub token_from : (full : Bool) → ℕ → Option Rated → Option ℕ
+token_from false from o = token_after from o
+token_from true from None = None
+token_from true from (Some x) = cond (x.1 == 0) None (Some 0)
+
 -- the least reading at which a zone's token is there
 abbrev pub token_at : Doc → Identity → Place → List Entry → Option ℕ
-token_at doc q place h = token_after (local doc q.process (base q place h)) (rated q place h)
+token_at doc q place h =
+    token_from (is_full_by doc.settings.rules.bucket doc q place h) (local doc q.process (base q place h)) (rated q place h)
 
--- where a node waits in the zone
+abbrev pub has_first : List ℕ → Bool
+has_first [] = false
+has_first (name ∷ names) = true
+
+abbrev pub has_head_by : JudgeRule → Doc → Identity → Place → List Entry → Bool
+has_head_by judges.Tick doc q place h = has (head_of q place (node_names h) h)
+has_head_by judges.Pass doc q place h = has_first (queue doc q place (passes q h))
+
+-- whether somebody is in the zone's queue
+abbrev pub has_head : Doc → Identity → Place → List Entry → Bool
+has_head doc q place h = has_head_by doc.settings.rules.judge doc q place h
+
+-- where somebody is
 abbrev pub head_at : Doc → Identity → Place → List Entry → Option ℕ
-head_at doc q place h = only_if (has (head_of q place (node_names h) h)) (token_at doc q place h)
+head_at doc q place h = only_if (has_head doc q place h) (token_at doc q place h)
+
+-- the turn of a zone's first one
+abbrev pub turn_by : JudgeRule → Doc → ℕ → Identity → Place → List Entry → List Entry
+turn_by judges.Tick doc k q place h = taint doc k q place h
+turn_by judges.Pass doc k q place h = push doc k q place h
 
 abbrev pub HeadsWake : Type 0
 HeadsWake =
-    (doc : Doc) → IsOwn doc → (k : ℕ) (q : Identity) (place : Place) (h : List Entry)
-    → taint doc k q place h ≡ h ↔ is_early (local doc q.process k) (head_at doc q place h) ≡ true
+    (doc : Doc) (k : ℕ) (q : Identity) (place : Place) (h : List Entry)
+    → turn_by doc.settings.rules.judge doc k q place h ≡ h ↔ is_early (local doc q.process k) (head_at doc q place h) ≡ true
 
 abbrev pub heads_at : Doc → Identity → List Place → List Entry → Option ℕ
 heads_at doc q [] h = None
 heads_at doc q (place ∷ places) h = sooner (head_at doc q place h) (heads_at doc q places h)
+
+abbrev pub queue_places_by : JudgeRule → Identity → List Entry → List Place
+queue_places_by judges.Tick q h = places (nodes q h)
+queue_places_by judges.Pass q h = places (nodes q (before_pass q h))
+
+-- the zones that have queues: of the cache, or of the last pass
+abbrev pub queue_places : Doc → Identity → List Entry → List Place
+queue_places doc q h = queue_places_by doc.settings.rules.judge q h
 
 -- ---- from a time of day, and within a limit from a reading: the least due of the cache's pods
 
@@ -184,7 +244,7 @@ room_at doc q h = cond (doc.settings.rules.evict_burst == 0) (Some 0) (room_from
 
 -- before its first sync a term waits for that alone
 abbrev pub synced_reading : Doc → Identity → List Entry → Option ℕ
-synced_reading doc q h = only_if (is_synced q h) (sooner (pass_at doc q h) (heads_at doc q (places (nodes q h)) h))
+synced_reading doc q h = only_if (is_synced q h) (sooner (pass_at doc q h) (heads_at doc q (queue_places doc q h) h))
 
 abbrev pub term_reading : Doc → Identity → List Entry → Option ℕ
 term_reading doc q h = sooner (sync_at doc q h) (synced_reading doc q h)
@@ -199,4 +259,4 @@ pub record IsEarlyTick (doc : Doc) (k : ℕ) (q : Identity) (h : List Entry) : T
   pub time : (is_early (wall doc q.process k) (term_time doc q h) || is_early (local doc q.process k) (room_at doc q h)) ≡ true
 
 abbrev pub TicksWake : Type 0
-TicksWake = (doc : Doc) → IsOwn doc → (k : ℕ) (q : Identity) (h : List Entry) → tick doc k q h ≡ h ↔ IsEarlyTick doc k q h
+TicksWake = (doc : Doc) (k : ℕ) (q : Identity) (h : List Entry) → HadNoPass doc k q h → tick doc k q h ≡ h ↔ IsEarlyTick doc k q h

@@ -1,12 +1,11 @@
-//! When a beat adds an entry to the history: laws of every document, kubelets and a leader's ticks included; when it waits, of those
-//! that go by the project's own rules but for those of elections, of a term's first sync, of evictions and of what a pass takes. Each is the
-//! contract of a function with an empty body.
+//! When a beat adds an entry to the history: laws of every document, kubelets and a leader's ticks included; when a turn waits, of those that go
+//! by the project's own rules in all that nothing runs yet. Each is the contract of a function with an empty body.
 #![tactic(auto)]
 
 ghost use Rattle.agenda_laws.specs.Ahead.{NoTurnsAreFirst, TurnsAreAdded, TheSoonestIsNext};
 ghost use Rattle.agenda_laws.specs.Parts.{EventsAddByParts, ElectorsAddByParts, ControllersAddByParts, KubeletsAddByParts, TicksAddByParts};
 ghost use Rattle.agenda_laws.specs.Standing.{BeatsAddByParts, BeatsAddTheirs, EntriesStandWhereAdded, StandingIsTested};
-ghost use Rattle.agenda_laws.specs.Ticking.{SyncsWake, PassesWake, CleansWake, HeadsWake, DeletesWake, RoomsWake, TicksWake};
+ghost use Rattle.agenda_laws.specs.Ticking.{SyncsWake, PassesWake, CleansWake, JudgesWake, HeadsWake, DeletesWake, RoomsWake, TicksWake};
 ghost use Rattle.agenda_laws.specs.Times.{RestartsWake, ExpiriesWake, DeadlinesWake, AttemptsWake, ElectorsWake, RoundsWake, KubeletsWake};
 ghost use Rattle.agenda_laws.specs.Waking.{TurnsWake, EndsWakeToo, BeatsWake, HistoriesAreRested, QuietBeatsAreSlept, NextBeatsWake};
 
@@ -40,11 +39,12 @@ pub fn turns_wake_by_readings()
 {}
 
 /// Each part of a tick adds something at once, or exactly from a reading on, or exactly from a time of day and a reading on; nothing else of a
-/// tick depends on the beat.
+/// tick depends on the beat. What the tick of a pass does more of nodes stands beside that pass.
 pub fn ticks_wake_by_times()
     ensures syncs { SyncsWake }
     ensures passes { PassesWake }
     ensures cleans { CleansWake }
+    ensures judges { JudgesWake }
     ensures heads { HeadsWake }
     ensures deletes { DeletesWake }
     ensures rooms { RoomsWake }

@@ -12,7 +12,6 @@ use Rattle.kube_objects.specs.Document.{Doc}
 use Rattle.kube_objects.specs.Entry.{Delete, Entry, Fact, Identity, Sync, Tick, Ticks, actor_of}
 use Rattle.kube_objects.specs.Identities.{is_by}
 use Rattle.kube_objects.specs.Newest.{has}
-use Rattle.kube_objects.specs.Own.{IsOwn}
 use Rattle.kube_objects.specs.Tick as model
 use Rattle.kube_objects.specs.Tick.{add, cleaned, pass, spends, sync, tainted}
 use Rattle.kube_objects.specs.Tokens.{token_size}
@@ -84,11 +83,11 @@ module _ (doc : Doc) (k : ℕ) (q : Identity) (a : Allowed) (h : List Entry) whe
   pub allowance_passed : Stands h → Stands (pass doc k q h)
   allowance_passed s = pass_keeps doc k q Stands (λ t g is s. allowance_more doc k q t g a (passing_alone t is) s) h s
 
-  pub allowance_cleaned : IsOwn doc → Stands h → Stands (cleaned doc k q h)
-  allowance_cleaned own s = cleaned_keeps doc k q Stands (λ t g is made s. allowance_more doc k q t g a (cleaning_alone t is) s) own h s
+  pub allowance_cleaned : Stands h → Stands (cleaned doc k q h)
+  allowance_cleaned s = cleaned_keeps doc k q Stands (λ t g is made s. allowance_more doc k q t g a (cleaning_alone t is) s) h s
 
-  pub allowance_tainted : IsOwn doc → Stands h → Stands (tainted doc k q h)
-  allowance_tainted own s = tainted_keeps doc k q Stands (λ t g is made s. allowance_more doc k q t g a (heading_alone t is) s) own h s
+  pub allowance_tainted : Stands h → Stands (tainted doc k q h)
+  allowance_tainted s = tainted_keeps doc k q Stands (λ t g is made s. allowance_more doc k q t g a (heading_alone t is) s) h s
 
 -- ---- the order by beats
 
@@ -102,10 +101,10 @@ module _ (doc : Doc) (k : ℕ) (q : Identity) where
   pub synced_beats : (h : List Entry) → InOrder h → InOrder (sync doc k q h)
   synced_beats h s = sync_keeps doc k q InOrder (λ g s. more_in_order Sync g s) h s
 
-  pub acting_beats : IsOwn doc → (h : List Entry) → InOrder h → InOrder (tainted doc k q (cleaned doc k q (pass doc k q h)))
-  acting_beats own h s =
-      tainted_keeps doc k q InOrder (λ t g is made s. more_in_order t g s) own (cleaned doc k q (pass doc k q h))
-      (cleaned_keeps doc k q InOrder (λ t g is made s. more_in_order t g s) own (pass doc k q h) (pass_keeps doc k q InOrder (λ t g is s. more_in_order t g s) h s))
+  pub acting_beats : (h : List Entry) → InOrder h → InOrder (tainted doc k q (cleaned doc k q (pass doc k q h)))
+  acting_beats h s =
+      tainted_keeps doc k q InOrder (λ t g is made s. more_in_order t g s) (cleaned doc k q (pass doc k q h))
+      (cleaned_keeps doc k q InOrder (λ t g is made s. more_in_order t g s) (pass doc k q h) (pass_keeps doc k q InOrder (λ t g is s. more_in_order t g s) h s))
 
 -- without a limit it stands for every history
 pub allowance_free : (doc : Doc) (q : Identity) (h g : List Entry) (a : Allowed) → doc.settings.rules.evict_burst ≡ 0 → AllowanceStands doc q h a → AllowanceStands doc q g a

@@ -1,2 +1,5 @@
+pub mod CleanFound
 pub mod CleanWalk
 pub mod Cleans
+pub mod Keeping
+pub mod PassSeen

@@ -1,31 +1,24 @@
 -- Entries of others leave what a term stands for.
-use Rattle.std.proofs.Common.{◌≡◌, ◌∙◌, false, List, ◌∷◌, Option, None, refl, sym}
+use Rattle.std.proofs.Common.{◌≡◌, false, List, ◌∷◌, Option, None}
 use Rattle.kube_base.specs.declared.numbers.Local.{Local}
 use Rattle.kube_objects.specs.Document.{Doc}
 use Rattle.kube_objects.specs.Elector.{lead_says}
-use Rattle.kube_objects.specs.Entry.{Entry, Identity, Fact, Ticks}
-use Rattle.kube_objects.specs.Identities.{is_by}
-use Rattle.node_health.specs.Stands.{is_of_health}
-use Rattle.node_health.proofs.Frames.{SaysSame, health-same, unheard-foreign, unheard-kind}
+use Rattle.kube_objects.specs.Entry.{Entry, Identity}
+use Rattle.node_health.proofs.Frames.{health-same}
 use Rattle.term_state.specs.ClusterStands.{no_node, no_pod}
 use Rattle.term_state.proofs.Aside.{same_aside}
-use Rattle.tick_laws.proofs.Foreign.{foreign_change, foreign_reached, foreign_since}
+use Rattle.tick_laws.proofs.Foreign.{foreign_change, foreign_reached}
 use Rattle.tick_laws.proofs.Phases.{foreign_limits}
 use Rattle.watch_cache.specs.Stands.{is_tick_by}
 use Rattle.controller_core.specs.declared.term.Term.{Term}
 use Rattle.controller_core.specs.TermStands.{TermStands}
 use Rattle.controller_core.specs.FirstSync.{SettlesStand}
 use Rattle.controller_core.proofs.Allowed.{allowance_foreign}
-use Rattle.controller_core.proofs.Between.{last_stands, limits_stand}
+use Rattle.controller_core.proofs.Between.{held_stands, last_stands, limits_stand}
+use Rattle.controller_core.proofs.HeadsKept.{heads_foreign}
+use Rattle.controller_core.proofs.Starting.{others_health}
 use Rattle.controller_core.proofs.Evicting.Settled.{settled_foreign}
 use Rattle.controller_core.proofs.FirstSync.{settles_beside}
-
-others_health : (q : Identity) (h : List Entry) (e : Entry) → is_tick_by q e.actor e.fact ≡ false → SaysSame q h (e ∷ h)
-others_health q h e other = by_fact e.fact other (unheard-kind q h e) (unheard-foreign q h e)
-  where
-    by_fact : (d : Fact) → is_tick_by q e.actor d ≡ false → (is_of_health d ≡ false → SaysSame q h (e ∷ h)) → (is_by q e.actor ≡ false → SaysSame q h (e ∷ h)) → SaysSame q h (e ∷ h)
-    by_fact (Ticks t) is kind foreign = foreign is
-    by_fact d is kind foreign = kind refl
 
 -- an entry that is no tick of the term's own, and the reading from which it may sync
 pub others_with : (doc : Doc) (q : Identity) (h : List Entry) (e : Entry) (t : Term) (at : Option Local) → is_tick_by q e.actor e.fact ≡ false → SettlesStand doc q (e ∷ h) at → TermStands doc q h t
@@ -38,7 +31,8 @@ others_with doc q h e t at other settles s = record {
   reached = foreign_reached q h e other s.reached;
   health = health-same doc q h (e ∷ h) t.health (others_health q h e other) s.health;
   limits = limits_stand doc q h (e ∷ h) t.zones (foreign_limits q h e other) s.limits;
-  queues = λ place n. s.queues place n ∙ sym (foreign_since q h e other place n);
+  queues = heads_foreign doc q h e t.zones other s.queues;
+  held = held_stands q h (e ∷ h) t.held (foreign_limits q h e other).known s.held;
   last = last_stands doc q h (e ∷ h) t.last (foreign_limits q h e other).passed ((foreign_limits q h e other).period doc) s.last;
   range = s.range;
   settles = settles;

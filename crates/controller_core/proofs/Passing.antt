@@ -1,9 +1,12 @@
+pub mod Ahead
+pub mod Found
 pub mod Listed
 pub mod Looking
 pub mod Marks
 pub mod Moding
 pub mod Numbered
 pub mod Passed
+pub mod Rated
 pub mod Working
 pub mod ZoneLimits
 pub mod ZoneWalk

@@ -1,11 +1,11 @@
 -- A term stands for a history.
-use Rattle.std.specs.Prelude.{◌≡◌, ◌++◌, ℕ, true, List}
+use Rattle.std.specs.Prelude.{◌≡◌, ◌++◌, ℕ, true, false, List}
 use Rattle.history.specs.Printed.{printed}
 use Rattle.kube_objects.specs.declared.deed.Deed.{Deed}
 use Rattle.kube_objects.specs.Document.{Doc}
 use Rattle.kube_objects.specs.Entry.{Entry, Identity}
-use Rattle.kube_objects.specs.Tainting.{before_tick}
-use Rattle.kube_objects.specs.Tick.{cleaned, evicted, pass, tainted, tick}
+use Rattle.kube_objects.specs.Health.{is_pass_tick}
+use Rattle.kube_objects.specs.Tick.{evicted, tick}
 use Rattle.node_health.specs.Stands.{HealthStands}
 use Rattle.object_store.specs.Stands.{StoreStands}
 use Rattle.object_store.specs.declared.store.Store.{Store}
@@ -18,14 +18,16 @@ use Rattle.term_state.specs.ClusterStands.{ClusterStands, no_pod}
 use Rattle.term_state.specs.MidTick.{IsTold, MidTick}
 use Rattle.term_state.specs.Sights.{SettledBy}
 use Rattle.controller_core.specs.Deleting.{Deleting}
-use Rattle.controller_core.specs.QueuesStand.{QueuesStand}
+use Rattle.controller_core.specs.HeadsStand.{HeadsBegin, HeadsStand}
+use Rattle.controller_core.specs.Looking.{HeldStand}
 use Rattle.tick_laws.specs.Rows.{no_heads}
 use Rattle.tick_laws.specs.Since.{AreReached}
 use Rattle.zone_counts.specs.Settings.{AreSettings}
+use Rattle.controller_core.specs.Turning.{headed}
 use Rattle.controller_core.specs.declared.term.Term.{Term}
 
 -- one clause for each field, that the cluster has the document's rule and its rows, that the last pass was at a reading in range, and that stale
--- keys were written since the last sync
+-- keys were written since the last sync; of the queues there is one by when nodes are judged
 pub record TermStands (doc : Doc) (q : Identity) (h : List Entry) (t : Term) : Type 0 where
   pub cluster : ClusterStands q h t.cluster
   pub from : t.cluster.evict_from ≡ doc.settings.rules.evict_from
@@ -34,7 +36,8 @@ pub record TermStands (doc : Doc) (q : Identity) (h : List Entry) (t : Term) : T
   pub reached : AreReached q h
   pub health : HealthStands doc q h t.health
   pub limits : LimitsStand doc q h t.zones
-  pub queues : QueuesStand q h t.zones.queues
+  pub queues : HeadsStand doc q h t.zones
+  pub held : HeldStand q h t.held
   pub last : LastStands doc q h t.last
   pub range : IsLastInRange t.last
   pub settles : SettlesStand doc q h t.settles
@@ -48,13 +51,15 @@ pub record Ticked (doc : Doc) (k : ℕ) (q : Identity) (h : List Entry) (deeds :
 
 -- ---- within a tick
 
--- after the sync; who waits is as before the tick
+-- after the sync, with no pass yet; who waits is as before the tick
 pub record Begun (doc : Doc) (k : ℕ) (q : Identity) (before : List Deed) (h : List Entry) (t : Term) (s : Store) (o : Told) : Type 0 where
   pub running : MidTick doc q k before h t.cluster s o
   pub allowance : AllowanceStands doc q h t.allowance
   pub health : HealthStands doc q h t.health
   pub limits : LimitsStand doc q h t.zones
-  pub queues : QueuesStand q (before_tick q k h) t.zones.queues
+  pub queues : HeadsBegin doc k q h t.zones
+  pub held : HeldStand q h t.held
+  pub passed : is_pass_tick k q h ≡ false
   pub heads : no_heads q k h ≡ true
   pub last : LastStands doc q h t.last
   pub range : IsLastInRange t.last
@@ -67,7 +72,8 @@ pub record Acted (doc : Doc) (k : ℕ) (q : Identity) (before : List Deed) (h : 
   pub allowance : AllowanceStands doc q h t.allowance
   pub health : HealthStands doc q h t.health
   pub limits : LimitsStand doc q h t.zones
-  pub queues : QueuesStand q h t.zones.queues
+  pub queues : HeadsStand doc q h t.zones
+  pub held : HeldStand q h t.held
   pub last : LastStands doc q h t.last
   pub range : IsLastInRange t.last
   pub settles : SettlesStand doc q h t.settles
@@ -81,4 +87,4 @@ pub record Went (doc : Doc) (k : ℕ) (q : Identity) (before : List Deed) (h : L
 
 -- what a tick does after its sync
 abbrev pub acted : Doc → ℕ → Identity → List Entry → List Entry
-acted doc k q h = evicted doc k q (tainted doc k q (cleaned doc k q (pass doc k q h)))
+acted doc k q h = evicted doc k q (headed doc k q h)

@@ -1,31 +1,39 @@
 -- The readings for which a term waits.
-use Rattle.std.specs.Prelude.{◌≡◌, ◌⊎◌, ◌+◌, ◌-◌, ◌==◌, ◌||◌, ◌≤◌, ℕ, nat_lt, not, Bool, true, List, Option, Some, None, option_map}
+use Rattle.std.specs.Prelude.{◌≡◌, ◌⊎◌, ◌+◌, ◌-◌, ◌==◌, ◌||◌, ◌≤◌, ℕ, nat_lt, not, Bool, true, false, List, Option, Some, None, option_map}
+use Rattle.kube_objects.specs.declared.rules.JudgeRule.{JudgeRule}
+use Rattle.kube_objects.specs.declared.rules.JudgeRule.TheVariants as judges
 use Rattle.kube_objects.specs.Clocks.{local}
 use Rattle.kube_objects.specs.Document.{Doc}
 use Rattle.kube_objects.specs.Entry.{Entry, Identity, Place}
 use Rattle.kube_objects.specs.Health.{last_pass, pass_period}
-use Rattle.kube_objects.specs.Newest.{has}
-use Rattle.kube_objects.specs.Tainting.{waits}
 use Rattle.kube_objects.specs.Tick.{has_room}
-use Rattle.kube_objects.specs.Tokens.{base, has_token, is_grown, rated}
+use Rattle.kube_objects.specs.Tokens.{base, has_token, is_full_by, is_there, rated}
+use Rattle.tick_laws.specs.Judged.{is_dirty}
 use Rattle.tick_laws.specs.Room.{AreUpTo}
+use Rattle.controller_core.specs.HeadsStand.{HasHead}
 
--- the zone's token is there at a beat, and somebody waits in the zone
+abbrev pub is_cleaned_by : JudgeRule → Identity → ℕ → List Entry → Bool
+is_cleaned_by judges.Tick q name h = is_dirty q name h
+is_cleaned_by judges.Pass q name h = false
+
+-- an untaint or a swap of the node is due, whatever the time; where nodes are judged at passes alone none is
+abbrev pub is_cleaned_now : Doc → Identity → ℕ → List Entry → Bool
+is_cleaned_now doc q name h = is_cleaned_by doc.settings.rules.judge q name h
+
+-- the zone's token is there at a beat, and its queue has a head
 pub record IsHeadDue (doc : Doc) (k : ℕ) (q : Identity) (h : List Entry) (place : Place) : Type 0 where
   pub token : has_token doc q k place h ≡ true
-  pub name : ℕ
-  pub waiting : has (waits q place name h) ≡ true
+  pub head : HasHead doc q h place
 
 -- whether a zone's token is there at a reading
 abbrev pub is_token_at : Doc → Identity → Place → List Entry → ℕ → Bool
-is_token_at doc q place h at = is_grown (at - local doc q.process (base q place h)) (rated q place h)
+is_token_at doc q place h at = is_there (is_full_by doc.settings.rules.bucket doc q place h) (at - local doc q.process (base q place h)) (rated q place h)
 
--- the least reading at which the zone's token is there, and somebody waits in the zone
+-- the least reading at which the zone's token is there, and its queue has a head
 pub record IsTokenReading (doc : Doc) (q : Identity) (h : List Entry) (place : Place) (at : ℕ) : Type 0 where
   pub there : is_token_at doc q place h at ≡ true
   pub least : (earlier : ℕ) → is_token_at doc q place h earlier ≡ true → at ≤ earlier
-  pub name : ℕ
-  pub waiting : has (waits q place name h) ≡ true
+  pub head : HasHead doc q h place
 
 -- whether a reading is before another one; none is never reached
 abbrev pub is_before : ℕ → Option ℕ → Bool

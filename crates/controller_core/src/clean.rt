@@ -1,17 +1,26 @@
 // The untaints and swaps of a tick: nodes lose condition taints that they don't want.
-ghost use Rattle.std.specs.Prelude.{ℕ, List, OnOk};
+ghost use Rattle.std.specs.Prelude.{◌≡◌, ℕ, true, false, List, [], ◌∷◌, OnOk};
 ghost use Rattle.kube_objects.specs.Document.{Doc};
 ghost use Rattle.kube_objects.specs.Entry.{Entry, Identity};
-ghost use Rattle.kube_objects.specs.Own.{IsOwn};
+ghost use Rattle.kube_objects.specs.Health.{is_pass_tick};
+ghost use Rattle.kube_objects.specs.Judgement.{Passed, passes};
+ghost use Rattle.kube_objects.specs.Newest.{has};
+ghost use Rattle.kube_objects.specs.Seen.{seen_node};
 ghost use Rattle.kube_objects.specs.Tick as tick;
 ghost use Rattle.kube_objects.specs.declared.deed.Deed.{Deed};
+ghost use Rattle.kube_objects.specs.declared.rules.JudgeRule.TheVariants as judges;
+ghost use Rattle.controller_core.specs.Cleaning.{AreKept};
 ghost use Rattle.controller_core.specs.Costs.{HaveCost};
+ghost use Rattle.controller_core.specs.Looking.{LooksStand, are_looked_ahead};
 ghost use Rattle.term_state.specs.MidTick.{IsView, MidTick};
 ghost use Rattle.term_state.specs.Sights.{spent};
 
 mod attempt;
+mod strip;
 
 use crate::clean::attempt::clean_one;
+use crate::clean::strip::strip_one;
+use crate::pass::found::Found;
 use kube_base::{NoMemory, Steps};
 use object_store::Store;
 use term_state::{Cluster, Told, View};
@@ -28,7 +37,8 @@ pub(crate) fn clean<L>(
     steps: &mut Steps<L>,
 ) -> Result<(), NoMemory>
     ensures { (doc : Doc) (k : ℕ) (q : Identity) (before : List Deed) (h : List Entry)
-        → IsOwn doc → MidTick doc q k before h cluster.old store.old told.old → IsView doc k q h view.entry.now
+        → doc.settings.rules.judge ≡ judges.Tick → AreKept doc k q h
+        → MidTick doc q k before h cluster.old store.old told.old → IsView doc k q h view.entry.now
         → OnOk result (MidTick doc q k before (tick.cleaned doc k q h) cluster.new store.new told.new
         × HaveCost q k h (tick.cleaned doc k q h) (spent cluster.old steps.old) (spent cluster.new steps.new)) }
 {
@@ -36,6 +46,63 @@ pub(crate) fn clean<L>(
     while let Some(name) = next {
         clean_one(cluster, store, view, told, steps, name)?;
         next = cluster.next_unclean(Some(name));
+    }
+    Ok(())
+}
+
+/// The same at the tick of a pass: there each node that is new loses its condition taints, whatever it wants.
+pub(crate) fn clean_found<L>(
+    found: &Found,
+    cluster: &mut Cluster,
+    store: &mut Store,
+    view: &View,
+    told: &mut Told,
+    steps: &mut Steps<L>,
+) -> Result<(), NoMemory>
+    ensures { (doc : Doc) (k : ℕ) (q : Identity) (before : List Deed) (h : List Entry) (x : Passed) (xs : List Passed)
+        → doc.settings.rules.judge ≡ judges.Tick → MidTick doc q k before h cluster.old store.old told.old → IsView doc k q h view.entry.now
+        → passes q h ≡ x ∷ xs → is_pass_tick k q h ≡ true → ((n : ℕ) → has (seen_node q n h) ≡ has (seen_node q n x.before))
+        → (are_looked_ahead doc ≡ true → LooksStand doc q x found.now) → (are_looked_ahead doc ≡ false → found.now.looks.items ≡ [])
+        → OnOk result (MidTick doc q k before (tick.cleaned doc k q h) cluster.new store.new told.new
+        × HaveCost q k h (tick.cleaned doc k q h) (spent cluster.old steps.old) (spent cluster.new steps.new)) }
+{
+    if found.looks.is_empty() {
+        return clean(cluster, store, view, told, steps);
+    }
+    let mut rest = found.names.as_slice();
+    let mut looks = found.looks.as_slice();
+    while let Some((name, others)) = rest.split_first() {
+        let Some((look, more)) = looks.split_first() else {
+            return Ok(());
+        };
+        clean_by(look.fresh, *name, cluster, store, view, told, steps)?;
+        rest = others;
+        looks = more;
+    }
+    Ok(())
+}
+
+// One node, which is new or isn't.
+fn clean_by<L>(
+    fresh: bool,
+    name: u32,
+    cluster: &mut Cluster,
+    store: &mut Store,
+    view: &View,
+    told: &mut Told,
+    steps: &mut Steps<L>,
+) -> Result<(), NoMemory>
+    ensures { (doc : Doc) (k : ℕ) (q : Identity) (before : List Deed) (h : List Entry)
+        → MidTick doc q k before h cluster.old store.old told.old → IsView doc k q h view.entry.now
+        → fresh ≡ tick.is_stripped doc.settings.rules.first_sight k q name h
+        → OnOk result (MidTick doc q k before (tick.clean doc k q name h) cluster.new store.new told.new
+        × HaveCost q k h (tick.clean doc k q name h) (spent cluster.old steps.old) (spent cluster.new steps.new)) }
+{
+    if fresh {
+        return strip_one(cluster, store, view, told, steps, name);
+    }
+    if cluster.is_unclean_at(name) {
+        return clean_one(cluster, store, view, told, steps, name);
     }
     Ok(())
 }

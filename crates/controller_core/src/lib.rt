@@ -4,7 +4,9 @@
 mod acts;
 mod clean;
 mod evict;
+mod judging;
 mod pass;
+mod pushing;
 mod ready;
 mod sync;
 mod taint;

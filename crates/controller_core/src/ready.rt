@@ -7,10 +7,13 @@ ghost use Rattle.kube_objects.specs.Entry as model;
 ghost use Rattle.kube_objects.specs.Entry.{Entry, Identity};
 ghost use Rattle.kube_objects.specs.Health.{is_pass_due, last_pass};
 ghost use Rattle.taint_zones.specs.Places.{entry_place};
+ghost use Rattle.taint_zones.specs.Waiting.{IsAfter};
+ghost use Rattle.controller_core.specs.HeadsStand.{HasHead, IsNextHead};
 ghost use Rattle.controller_core.specs.Wakes.{IsHeadDue, IsLeastAwaited, IsTokenReading};
 
 use crate::Term;
 use kube_base::Local;
+use kube_objects::JudgeRule;
 use taint_zones::Place;
 
 // The earlier of two readings, where there is another.
@@ -33,14 +36,38 @@ fn earlier(least: Local, other: Option<Local>) -> Local
 impl Term {
     ghost use Rattle.controller_core.specs.TermStands.{TermStands};
 
-    // The reading at which a zone's token is there, where somebody waits in the zone.
+    // Who comes first in a zone.
+    fn head(&self, place: Place) -> Option<u32>
+        ensures some { (doc : Doc) (q : Identity) (h : List Entry) → TermStands doc q h self.now
+            → IfSome result (λ name. HasHead doc q h (entry_place place)) }
+        ensures none { (doc : Doc) (q : Identity) (h : List Entry) → TermStands doc q h self.now
+            → IfNone result (¬ HasHead doc q h (entry_place place)) }
+    {
+        match self.settings.judge {
+            JudgeRule::Tick => self.zones.queues.head(place),
+            JudgeRule::Pass => self.zones.pushes.head(place),
+        }
+    }
+
+    // The next zone after this one, or the first, that has a queue.
+    fn next_zone(&self, after: Option<Place>) -> Option<Place>
+        ensures later { IfSome result (λ next. IsAfter after next) }
+        ensures next { (doc : Doc) (q : Identity) (h : List Entry) → TermStands doc q h self.now → IsNextHead doc q h after result }
+    {
+        match self.settings.judge {
+            JudgeRule::Tick => self.zones.queues.next_zone(after),
+            JudgeRule::Pass => self.zones.pushes.next_zone(after),
+        }
+    }
+
+    // The reading at which a zone's token is there, where its queue has a head.
     fn ready(&self, place: Place) -> Option<Local>
         ensures reading { (doc : Doc) (q : Identity) (h : List Entry) → TermStands doc q h self.now
             → IfSome result (λ at. IsTokenReading doc q h (entry_place place) at.0) }
         ensures none { (doc : Doc) (q : Identity) (h : List Entry) → TermStands doc q h self.now
             → IfNone result ((at : ℕ) → ¬ IsTokenReading doc q h (entry_place place) at) }
     {
-        let Some(_) = self.zones.queues.head(place) else {
+        let Some(_) = self.head(place) else {
             return None;
         };
         match self.zones.limits.get(&place) {
@@ -49,7 +76,7 @@ impl Term {
         }
     }
 
-    // The least of this reading and of those at which a queued taint is made of somebody who waits now.
+    // The least of this reading and of those at which the head of a queue, as it is now, has its turn.
     fn first_ready(&self, given: Local) -> Local
         ensures least { result.0 ≤ given.0 }
         ensures all { (doc : Doc) (q : Identity) (h : List Entry) (place : model.Place) (at : ℕ) → TermStands doc q h self.now
@@ -58,10 +85,10 @@ impl Term {
             → (result ≡ given) ⊎ ((place : model.Place) × IsTokenReading doc q h place result.0) }
     {
         let mut least = given;
-        let mut next = self.zones.queues.next_zone(None);
+        let mut next = self.next_zone(None);
         while let Some(place) = next {
             least = earlier(least, self.ready(place));
-            next = self.zones.queues.next_zone(Some(place));
+            next = self.next_zone(Some(place));
         }
         least
     }

@@ -1,11 +1,11 @@
 // The queued taints of a tick.
-ghost use Rattle.std.specs.Prelude.{◌≤◌, ℕ, List, OnOk};
+ghost use Rattle.std.specs.Prelude.{◌≡◌, ◌≤◌, ℕ, List, OnOk};
 ghost use Rattle.kube_base.specs.Bounds.{most_local};
 ghost use Rattle.kube_objects.specs.Document.{Doc};
 ghost use Rattle.kube_objects.specs.Entry.{Entry, Identity};
-ghost use Rattle.kube_objects.specs.Own.{IsOwn};
 ghost use Rattle.kube_objects.specs.Tick as tick;
 ghost use Rattle.kube_objects.specs.declared.deed.Deed.{Deed};
+ghost use Rattle.kube_objects.specs.declared.rules.JudgeRule.TheVariants as judges;
 ghost use Rattle.term_state.specs.MidTick.{IsView};
 ghost use Rattle.term_state.specs.Sights.{spent};
 ghost use Rattle.controller_core.specs.Costs.{HaveCost};
@@ -37,7 +37,7 @@ pub(crate) fn taint<L>(
 ) -> Result<(), NoMemory>
     requires { view.now.now.0 ≤ most_local }
     ensures { (doc : Doc) (q : Identity) (k : ℕ) (before : List Deed) (h : List Entry)
-        → IsOwn doc → Heading doc q k before h zones.old cluster.old store.old told.old → IsView doc k q h view.entry.now
+        → doc.settings.rules.judge ≡ judges.Tick → Heading doc q k before h zones.old cluster.old store.old told.old → IsView doc k q h view.entry.now
         → OnOk result (Heading doc q k before (tick.tainted doc k q h) zones.new cluster.new store.new told.new
         × HaveCost q k h (tick.tainted doc k q h) (spent cluster.old steps.old) (spent cluster.new steps.new)) }
 {

@@ -7,6 +7,7 @@ ghost use Rattle.kube_objects.specs.Clocks.{local};
 ghost use Rattle.kube_objects.specs.Document.{Doc};
 ghost use Rattle.kube_objects.specs.Elector.{leads};
 ghost use Rattle.kube_objects.specs.Entry.{Entry, Identity, Leads, entry};
+ghost use Rattle.kube_objects.specs.Health.{is_pass_tick};
 ghost use Rattle.kube_objects.specs.Modes.{nodes};
 ghost use Rattle.kube_objects.specs.Tainting.{before_tick};
 ghost use Rattle.kube_objects.specs.Tick as model;
@@ -22,7 +23,7 @@ ghost use Rattle.zone_counts.specs.Settings.{AreSettings};
 use crate::pass::work::LastPass;
 use crate::sync::settles_after;
 use kube_base::{Local, NoMemory, Steps};
-use kube_objects::{Actor, Deeds, TickSettings};
+use kube_objects::{Actor, Deeds, NumberList, TickSettings};
 use leader_elector::Acting;
 use node_health::Health;
 use object_store::Store;
@@ -44,6 +45,8 @@ pub struct Term {
     pub(crate) health: Health,
     pub(crate) zones: Zones,
     pub(crate) last: Option<LastPass>,
+    // The nodes that the last pass found.
+    pub(crate) held: NumberList,
     // The reading from which it may sync, where it waits for one.
     pub(crate) settles: Option<Local>,
     // How many pods it may still evict.
@@ -64,9 +67,10 @@ impl Term {
             alloc,
             settings: *settings,
             cluster: Cluster::new(alloc, settings.evict_from),
-            health: Health::new(alloc),
+            health: Health::new(alloc, settings.probe),
             zones: Zones::new(alloc),
             last: None,
+            held: NumberList::new(alloc),
             settles: None,
             allowance: Allowance::full(settings.evict_burst, settings.evict_rate),
         }
@@ -104,7 +108,7 @@ impl Term {
         requires { view.now.now.0 ≤ most_local }
         ensures { (doc : Doc) (k : ℕ) (q : Identity) (h : List Entry) → TermStands doc q h self.old → StoreStands h store.old
             → IsView doc k q h view.entry.now → acting_identity acting.now ≡ q → AreInBeats h → AreUpTo k h → leads q h ≡ true
-            → before_tick q k h ≡ h
+            → before_tick q k h ≡ h → is_pass_tick k q h ≡ false
             → length (nodes q (model.sync doc k q h)) < 4294967296
             → IfOk result (λ deeds. Ticked doc k q h deeds self.new store.new
             × (steps.new ≤ steps.old + (1 + pods_back doc q h (model.sync doc k q h) + pods_passed doc k q (model.sync doc k q h)

@@ -9,14 +9,15 @@ ghost use Rattle.kube_objects.specs.Seen.{is_fresh};
 ghost use Rattle.kube_objects.specs.Tick.{settles_at};
 ghost use Rattle.kube_objects.specs.declared.pod.Due.TheVariants.{Never, At};
 ghost use Rattle.object_store.specs.Stands.{StoreStands};
-ghost use Rattle.tick_laws.specs.Judged.{is_dirty, term_due};
+ghost use Rattle.tick_laws.specs.Judged.{term_due};
 ghost use Rattle.tick_laws.specs.Room.{AreInBeats};
-ghost use Rattle.controller_core.specs.Wakes.{IsRoomReading};
+ghost use Rattle.controller_core.specs.Wakes.{IsRoomReading, is_cleaned_now};
 ghost use Rattle.controller_core.specs.Passing.{reading_of};
 
 use crate::Term;
 use crate::sync::{syncs, syncs_at_once};
 use kube_base::Local;
+use kube_objects::JudgeRule;
 use object_store::Store;
 
 impl Term {
@@ -44,19 +45,23 @@ impl Term {
         self.allowance.ready_at()
     }
 
-    /// Whether a tick now would have a sync, an untaint or a swap, whatever the time: a sync only where a term settles at its lead.
+    /// Whether a tick now would have a sync, an untaint or a swap, whatever the time: a sync only where a term settles at its lead, the others only
+    /// where nodes are judged at each tick.
     pub fn at_once(&self, store: &Store, watch: bool) -> bool
         ensures quiet { (doc : Doc) (q : Identity) (h : List Entry) → TermStands doc q h self.now → StoreStands h store.now
             → watch ≡ watches doc q.process h → result ≡ false
-            → (((doc.settings.rules.first_sync_millis == 0) && (watches doc q.process h && not (is_fresh q h))) ≡ false) × ((n : ℕ) → is_dirty q n h ≡ false) }
+            → (((doc.settings.rules.first_sync_millis == 0) && (watches doc q.process h && not (is_fresh q h))) ≡ false) × ((n : ℕ) → is_cleaned_now doc q n h ≡ false) }
         ensures busy { (doc : Doc) (q : Identity) (h : List Entry) → TermStands doc q h self.now → StoreStands h store.now
             → watch ≡ watches doc q.process h → result ≡ true
-            → (((doc.settings.rules.first_sync_millis == 0) && (watches doc q.process h && not (is_fresh q h))) ≡ true) ⊎ ((n : ℕ) × (is_dirty q n h ≡ true)) }
+            → (((doc.settings.rules.first_sync_millis == 0) && (watches doc q.process h && not (is_fresh q h))) ≡ true) ⊎ ((n : ℕ) × (is_cleaned_now doc q n h ≡ true)) }
     {
         if syncs_at_once(self.settings.first_sync_millis, &self.cluster, store, watch) {
             return true;
         }
-        self.cluster.is_unclean()
+        match self.settings.judge {
+            JudgeRule::Tick => self.cluster.is_unclean(),
+            JudgeRule::Pass => false,
+        }
     }
 
     /// The reading from which on a tick has a sync, where one is due and a term that leads takes time to settle. None where there is none.

@@ -9,7 +9,7 @@ use Rattle.kube_objects.specs.Clocks.{whole_second}
 use Rattle.kube_objects.specs.Document.{Doc, of_seconds}
 use Rattle.kube_objects.specs.Entry.{Identity}
 use Rattle.kube_objects.specs.Health.{hears, pass_period, is_after_pass}
-use Rattle.kube_objects.specs.Own.{IsOwn, EvictsByOwn, PassesTakeNoWork}
+use Rattle.kube_objects.specs.Own.{IsOwn, EvictsByOwn, PassesTakeNoWork, ProbesByRun}
 use Rattle.kube_objects.specs.Seen.{is_pod}
 use Rattle.kube_objects.specs.Tick.{new_taint}
 use Rattle.kube_objects.specs.Tolerations.{first_tolerating}
@@ -32,7 +32,7 @@ use Rattle.death_laws.specs.Deaths.{WatchesOver, IsPaced, MarkedAfter, DeadNodes
 
 -- ---- the mark
 
-module _ (doc : Doc) (own : IsOwn doc) (free : PassesTakeNoWork doc) (q : Identity) (name a e v : ℕ) (watches : WatchesOver doc q name a e) (told : IsLastTold doc name v e) (slow near far enough needed most : ℕ) (paced : IsPaced doc q a e slow near far enough needed most)
+module _ (doc : Doc) (own : IsOwn doc) (free : PassesTakeNoWork doc) (by_run : ProbesByRun doc) (q : Identity) (name a e v : ℕ) (watches : WatchesOver doc q name a e) (told : IsLastTold doc name v e) (slow near far enough needed most : ℕ) (paced : IsPaced doc q a e slow near far enough needed most)
     (latest : ℕ) (first : a ≤ latest) (word : v + far ≤ suc latest) (within : latest + most ≤ e) where
   abbrev hears_at : ℕ → Bool
   hears_at k = has_pass doc q k && hears q name (synced_at doc q k)
@@ -91,7 +91,7 @@ module _ (doc : Doc) (own : IsOwn doc) (free : PassesTakeNoWork doc) (q : Identi
   pub marks : MarkedAfter doc q name a e v latest near far enough needed most (IsLatestRenewal name told.x told.before)
   marks =
       let m =
-      nodes_are_marked doc own free q name last.at e (λ k low high. watches.attends k (omega (arith, low, last.least)) high) is_last slow paced.fast near far (λ j low high. paced.slowly j (omega (arith, low, last.least)) high)
+      nodes_are_marked doc own free by_run q name last.at e (λ k low high. watches.attends k (omega (arith, low, last.least)) high) is_last slow paced.fast near far (λ j low high. paced.slowly j (omega (arith, low, last.least)) high)
       (λ j low high. paced.fastly j (omega (arith, low, last.least)) high) paced.near_needed paced.far_enough paced.some enough needed most paced.is_enough paced.is_needed paced.greatest (let le = early in omega (arith, le, within)) in
       record {
         p = last.at;
@@ -108,21 +108,21 @@ module _ (doc : Doc) (own : IsOwn doc) (free : PassesTakeNoWork doc) (q : Identi
       }
 
 pub dead_nodes_are_marked : DeadNodesAreMarked
-dead_nodes_are_marked doc own free q name a e v watches told slow near far enough needed most paced latest first word within = marks doc own free q name a e v watches told slow near far enough needed most paced latest first word within
+dead_nodes_are_marked doc own free by_run q name a e v watches told slow near far enough needed most paced latest first word within = marks doc own free by_run q name a e v watches told slow near far enough needed most paced latest first word within
 
 pub deaths_are_marked : DeathsAreMarked
-deaths_are_marked doc free q name a e v watches told slow near far enough needed most paced short long s last kubelet sound one lives some alone reach latest first word within =
+deaths_are_marked doc free by_run q name a e v watches told slow near far enough needed most paced short long s last kubelet sound one lives some alone reach latest first word within =
     let soon = last_words_are_soon doc short long s last e v kubelet name sound one lives some alone reach told in
-    marks doc sound.2 free q name a e v watches told slow near far enough needed most paced latest first (omega (arith, soon, word)) within
+    marks doc sound.2 free by_run q name a e v watches told slow near far enough needed most paced latest first (omega (arith, soon, word)) within
 
 -- ---- the taint, and the pods
 
 pub dead_nodes_end : DeadNodesEnd
-dead_nodes_end doc own free q name a e v watches told slow near far enough needed most paced latest first word within place y k rate interval turn last late keeps interval_enough turn_enough few last_is end =
+dead_nodes_end doc own free by_run judges q name a e v watches told slow near far enough needed most paced latest first word within place y k rate interval turn last late keeps interval_enough turn_enough few last_is end =
     (marked, t.0, t.1, omega (arith, t.2, bound, last_is), t.3, gone)
   where
     marked : MarkedAfter doc q name a e v latest near far enough needed most (IsLatestRenewal name told.x told.before)
-    marked = marks doc own free q name a e v watches told slow near far enough needed most paced latest first word within
+    marked = marks doc own free by_run q name a e v watches told slow near far enough needed most paced latest first word within
 
     from : a ≤ marked.m
     from = omega (arith, marked.from, marked.after)
@@ -138,7 +138,7 @@ dead_nodes_end doc own free q name a e v watches told slow near far enough neede
 
     t : IsServedBy doc q place name marked.m (y + (ahead q place name (queue_at doc q marked.m) + 1) * turn)
     t =
-        taints_come_anyway doc own q place name marked.m y e (λ j low high. watches.attends j (omega (arith, low, from)) high) (omega (arith, marked.soon, late)) rate slow interval turn keeps runs interval_enough turn_enough
+        taints_come_anyway doc own judges q place name marked.m y e (λ j low high. watches.attends j (omega (arith, low, from)) high) (omega (arith, marked.soon, late)) rate slow interval turn keeps runs interval_enough turn_enough
         (omega (arith, bound, last_is, end))
 
     gone : EvictsByOwn doc → IsDated doc q.process → (seconds beats j : ℕ) → IsEnough slow (of_seconds seconds) beats → last + beats ≤ j → j ≤ e → (key : Key) → is_pod key.kind ≡ true → IsDoomed doc q t.0 seconds key (after_turn doc q.process j) → ⊥

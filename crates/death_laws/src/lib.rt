@@ -7,7 +7,7 @@ ghost use Rattle.death_laws.specs.Deaths.{DeadNodesAreMarked, DeadNodesEnd, Deat
 /// than a monitor period after its last word. So it is marked Unknown by a beat that adds the bounds of more than the grace period, is tainted by as many
 /// of a token's intervals later as nodes wait before it, and one more, unless it doesn't wait any more for another reason; and a pod that tolerates the
 /// taint for some seconds is gone, or the taint is, when these are over on the leader's clock, where evictions go by the own rules too: for every
-/// document with the project's own rules whose passes take no time.
+/// document with the project's own rules, those of probes and for its taint those of judgement too, whose passes take no time.
 pub fn dead_nodes_end()
     ensures marks { DeadNodesAreMarked }
     ensures deaths { DeathsAreMarked }

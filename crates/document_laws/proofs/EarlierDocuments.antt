@@ -1,6 +1,6 @@
--- A document whose version isn't 4 has the project's own rules of elections and of evictions, its terms sync at once, its passes take no time,
--- and its script never stops the store: the keys and the type of event that say otherwise are unknown there.
-use Rattle.std.proofs.Common.{◌≡◌, ℕ, ◌+◌, ◌==◌, ◌&&◌, ◌||◌, nat_lt, ◌++◌, Bool, true, false, List, [], ◌∷◌, codes, Option, Some, None, Result, refl, sym, ap, ◌∙◌, Ordering, Less, Equal, Greater}
+-- A document whose version isn't 4 has the project's own rules of elections, of when nodes are judged and of evictions, its terms sync at once, its
+-- passes take no time, and its script never stops the store: the keys and the type of event that say otherwise are unknown there.
+use Rattle.std.proofs.Common.{◌≡◌, ℕ, ◌+◌, ◌==◌, ◌&&◌, ◌||◌, nat_lt, ◌++◌, Bool, true, false, List, [], ◌∷◌, codes, Option, Some, None, Result, Ok, refl, sym, ap, subst, ◌∙◌, Ordering, Less, Equal, Greater}
 use Rattle.std.specs.Prelude.{option_and_then, ℤ, if◌then◌else◌}
 use Rattle.std.specs.Cmp.Lexicographic.{slice_cmp}
 use Rattle.std.specs.Ordering.{is_eq, nat_cmp, match_ordering}
@@ -13,12 +13,16 @@ use Rattle.serde_json.specs.Data.{Data, null, boolean, number, string, array, ob
 use Rattle.serde_json.specs.Find.{get, get_member, as_number, as_object, as_u64, as_i64}
 use Rattle.kube_base.specs.Names.{fixed_names}
 use Rattle.kube_objects.specs.Document.{own_waits_each}
-use Rattle.kube_objects.specs.Own.{ElectsByOwn, EvictsByOwn, SettlesAtOnce, PassesTakeNoWork, AreUnstalled}
+use Rattle.kube_objects.specs.Own.{ElectsByOwn, EvictsByOwn, JudgesByOwn, SettlesAtOnce, PassesTakeNoWork, ProbesByRun, StartsEmpty, AreUnstalled}
 use Rattle.kube_objects.specs.Rules.{own_rules, own_waits}
 use Rattle.kube_objects.specs.declared.rules.Rules.{Rules}
 use Rattle.kube_objects.specs.declared.rules.RetryRule.TheVariants as retries
 use Rattle.kube_objects.specs.declared.rules.RespectRule.TheVariants as respects
+use Rattle.kube_objects.specs.declared.rules.JudgeRule.TheVariants as judges
+use Rattle.kube_objects.specs.declared.rules.SightRule.TheVariants as sights
+use Rattle.kube_objects.specs.declared.rules.BucketRule.TheVariants as buckets
 use Rattle.kube_objects.specs.declared.rules.EvictRule.TheVariants as evictions
+use Rattle.kube_objects.specs.declared.rules.ProbeRule.TheVariants as probes
 use Rattle.kube_objects.specs.declared.script.Event.{Event}
 use Rattle.kube_objects.specs.declared.script.Proc.{Proc}
 use Rattle.kube_objects.specs.declared.script.What.{What}
@@ -112,45 +116,71 @@ required-version (Some d) other = earlier-version d other
 
 -- ---- settings
 
--- the rules of elections and of evictions are the project's own, a term syncs at once, and a pass takes no time
+-- the rules of elections, of when nodes are judged and of evictions are the project's own, a term syncs at once, nodes are silent by the run,
+-- buckets start empty, and a pass takes no time
 record GoByOwn (rules : Rules) : Type 0 where
   pub retries : rules.retries ≡ retries.After
   pub respect : rules.respect ≡ respects.Record
   pub at_once : rules.first_sync_millis ≡ 0
+  pub probe : rules.probe ≡ probes.Run
+  pub judge : rules.judge ≡ judges.Tick
+  pub sight : rules.first_sight ≡ sights.Keep
+  pub bucket : rules.bucket ≡ buckets.Empty
   pub from : rules.evict_from ≡ evictions.Added
   pub burst : rules.evict_burst ≡ 0
   pub no_work : rules.ready_millis ≡ 0
 
 -- settings without the keys of these
 record HaveNone (d : Data) : Type 0 where
+  pub rules : get (codes "rules") d ≡ None
   pub retries : get (codes "retries") d ≡ None
   pub respect : get (codes "respect") d ≡ None
   pub first_sync : get (codes "firstSyncMillis") d ≡ None
+  pub probe : get (codes "probe") d ≡ None
+  pub judge : get (codes "judge") d ≡ None
+  pub first_sight : get (codes "firstSight") d ≡ None
+  pub queue : get (codes "queue") d ≡ None
+  pub bucket : get (codes "bucket") d ≡ None
   pub evict_from : get (codes "evictFrom") d ≡ None
   pub evict_burst : get (codes "evictBurst") d ≡ None
   pub evict_rate : get (codes "evictRate") d ≡ None
   pub ready_millis : get (codes "readyMillis") d ≡ None
   pub ready_burst : get (codes "readyBurst") d ≡ None
 
-judging-own : (preset : Preset) (path : List ℕ) (d : Data) → AreOwn preset d → HaveNone d → Gets GoByOwn (judging_at own_rules path d)
+judging-own : (path : List ℕ) (d : Data) → HaveNone d → Gets GoByOwn (judging_at own_rules path d)
 unfolding judging_at
-judging-own preset path d own none =
-    rw (none.retries, none.respect, none.first_sync, own.judging.probe, own.judging.judge, own.judging.first_sight)
-    (done _ (record { retries = refl; respect = refl; at_once = refl; from = refl; burst = refl; no_work = refl }))
+judging-own path d none =
+    rw (none.retries, none.respect, none.first_sync, none.probe, none.judge, none.first_sight)
+    (done _ (record {
+      retries = refl;
+      respect = refl;
+      at_once = refl;
+      probe = refl;
+      judge = refl;
+      sight = refl;
+      bucket = refl;
+      from = refl;
+      burst = refl;
+      no_work = refl;
+    }))
 
-rules-own : (preset : Preset) (path : List ℕ) (d : Data) → AreOwn preset d → HaveNone d → Gets GoByOwn (rules_at preset path d)
+rules-own : (path : List ℕ) (d : Data) → AreOwn presets.Own d → HaveNone d → Gets GoByOwn (rules_at presets.Own path d)
 unfolding rules_at
-rules-own preset path d own none = by preset own.own own
-  where
-    by : (preset : Preset) → preset ≡ presets.Own → AreOwn preset d → Gets GoByOwn (rules_at preset path d)
-    by presets.Own e own =
-        and_then (judging-own presets.Own path d own none) (λ judging goes.
-        rw (tainting-default judging path d own.tainting none.evict_from none.evict_burst none.evict_rate)
-        (rw (ending-default judging path d own.ending none.ready_millis none.ready_burst) (done judging goes)))
-    by presets.Upstream120 e own = absurd (let none : ⊥ = cc in none)
-    by presets.Upstream136 e own = absurd (let none : ⊥ = cc in none)
+rules-own path d own none =
+    and_then (judging-own path d none) (λ judging goes.
+    rw (tainting-default judging path d none.queue none.bucket none.evict_from none.evict_burst none.evict_rate)
+    (rw (ending-default judging path d own.ending none.ready_millis none.ready_burst) (done judging goes)))
+
+preset-own : (path : List ℕ) (d : Data) → HaveNone d → preset_at path d ≡ Ok presets.Own
+preset-own path d none = rw none.rules refl
 
 -- these keys, which settings and controllers have from version 4 on
+rules-unknown : (version : Version) → is_four version ≡ false → is_key_of (tables.Settings version) (codes "rules") ≡ false
+rules-unknown versions.One earlier = refl
+rules-unknown versions.Two earlier = refl
+rules-unknown versions.Three earlier = refl
+rules-unknown versions.Four earlier = absurd (let none : ⊥ = cc in none)
+
 retries-unknown : (version : Version) → is_four version ≡ false → is_key_of (tables.Settings version) (codes "retries") ≡ false
 retries-unknown versions.One earlier = refl
 retries-unknown versions.Two earlier = refl
@@ -168,6 +198,36 @@ first_sync-unknown versions.One earlier = refl
 first_sync-unknown versions.Two earlier = refl
 first_sync-unknown versions.Three earlier = refl
 first_sync-unknown versions.Four earlier = absurd (let none : ⊥ = cc in none)
+
+probe-unknown : (version : Version) → is_four version ≡ false → is_key_of (tables.Settings version) (codes "probe") ≡ false
+probe-unknown versions.One earlier = refl
+probe-unknown versions.Two earlier = refl
+probe-unknown versions.Three earlier = refl
+probe-unknown versions.Four earlier = absurd (let none : ⊥ = cc in none)
+
+bucket-unknown : (version : Version) → is_four version ≡ false → is_key_of (tables.Settings version) (codes "bucket") ≡ false
+bucket-unknown versions.One earlier = refl
+bucket-unknown versions.Two earlier = refl
+bucket-unknown versions.Three earlier = refl
+bucket-unknown versions.Four earlier = absurd (let none : ⊥ = cc in none)
+
+judge-unknown : (version : Version) → is_four version ≡ false → is_key_of (tables.Settings version) (codes "judge") ≡ false
+judge-unknown versions.One earlier = refl
+judge-unknown versions.Two earlier = refl
+judge-unknown versions.Three earlier = refl
+judge-unknown versions.Four earlier = absurd (let none : ⊥ = cc in none)
+
+first_sight-unknown : (version : Version) → is_four version ≡ false → is_key_of (tables.Settings version) (codes "firstSight") ≡ false
+first_sight-unknown versions.One earlier = refl
+first_sight-unknown versions.Two earlier = refl
+first_sight-unknown versions.Three earlier = refl
+first_sight-unknown versions.Four earlier = absurd (let none : ⊥ = cc in none)
+
+queue-unknown : (version : Version) → is_four version ≡ false → is_key_of (tables.Settings version) (codes "queue") ≡ false
+queue-unknown versions.One earlier = refl
+queue-unknown versions.Two earlier = refl
+queue-unknown versions.Three earlier = refl
+queue-unknown versions.Four earlier = absurd (let none : ⊥ = cc in none)
 
 evict_from-unknown : (version : Version) → is_four version ≡ false → is_key_of (tables.Settings version) (codes "evictFrom") ≡ false
 evict_from-unknown versions.One earlier = refl
@@ -221,14 +281,20 @@ never false four kind o e k = k
 
 -- a version before 4
 module _ (version : Version) (earlier : is_four version ≡ false) where
-  settings-own : (path : List ℕ) (value : Data) → Gets (λ s. GoByOwn s.rules) (settings_at version path value)
+  settings-own : (path : List ℕ) (value : Data) → Gets (λ r. GoByOwn r.0.rules × (r.1 ≡ presets.Own)) (settings_at version path value)
   unfolding settings_at
   settings-own path value =
       and_then (object-known (tables.Settings version) path value) (λ d known.
       let absent : HaveNone d = record {
+        rules = get-unknown (tables.Settings version) (codes "rules") (rules-unknown version earlier) d known;
         retries = get-unknown (tables.Settings version) (codes "retries") (retries-unknown version earlier) d known;
         respect = get-unknown (tables.Settings version) (codes "respect") (respect-unknown version earlier) d known;
         first_sync = get-unknown (tables.Settings version) (codes "firstSyncMillis") (first_sync-unknown version earlier) d known;
+        probe = get-unknown (tables.Settings version) (codes "probe") (probe-unknown version earlier) d known;
+        judge = get-unknown (tables.Settings version) (codes "judge") (judge-unknown version earlier) d known;
+        first_sight = get-unknown (tables.Settings version) (codes "firstSight") (first_sight-unknown version earlier) d known;
+        queue = get-unknown (tables.Settings version) (codes "queue") (queue-unknown version earlier) d known;
+        bucket = get-unknown (tables.Settings version) (codes "bucket") (bucket-unknown version earlier) d known;
         evict_from = get-unknown (tables.Settings version) (codes "evictFrom") (evict_from-unknown version earlier) d known;
         evict_burst = get-unknown (tables.Settings version) (codes "evictBurst") (evict_burst-unknown version earlier) d known;
         evict_rate = get-unknown (tables.Settings version) (codes "evictRate") (evict_rate-unknown version earlier) d known;
@@ -241,16 +307,16 @@ module _ (version : Version) (earlier : is_four version ≡ false) where
       skip (rates_at path d) (λ rates.
       skip (flag_at false path (codes "fastRenew") d) (λ fast.
       skip (policy_at path (codes "ratePolicy") d) (λ policy.
-      skip (preset_at path d) (λ preset.
-      and_then (itself (rules_at preset path d)) (λ rules given.
+      rw (preset-own path d absent)
+      (and_then (itself (rules_at presets.Own path d)) (λ rules given.
       and_then (sound-in path timings rates (settings_of beats timings periods rates fast policy rules)) (λ s parts.
-      and_then (rules-none preset path d) (λ built none.
-      done s (rw parts.2 ((rules-own preset path d none absent).at rules given)))))))))))))
+      and_then (rules-none presets.Own path d) (λ built none.
+      done (s, presets.Own) (rw parts.2 ((rules-own path d none absent).at rules given), refl))))))))))))
 
   -- ---- controllers
 
   controller-own : (settings : Settings) (names : Texts) (path : List ℕ) (before : List Proc) (value : Data)
-      → Gets (λ r. r.0.1 ≡ own_waits) (controller_at version settings names path before value)
+      → Gets (λ r. r.0.1 ≡ own_waits) (controller_at version settings presets.Own names path before value)
   unfolding controller_at
   controller-own settings names path before value =
       and_then (object-known (tables.Controller version) path value) (λ d known.
@@ -270,19 +336,23 @@ module _ (version : Version) (earlier : is_four version ≡ false) where
   waits-push before waits p own all one = ap (λ w. w ++ own ∷ []) all ∙ ap (λ w. own_waits_each before ++ w ∷ []) one ∙ sym (map-append (λ c. own_waits) before (p ∷ []))
 
   controllers_from-own : (settings : Settings) (names : Texts) (place : ℕ) (before : List Proc) (waits : List (List ℕ)) (rest : Items) → WaitByOwn before waits
-      → Gets (λ r. WaitByOwn r.0.0 r.0.1) (controllers_from version settings names place before waits rest)
+      → Gets (λ r. WaitByOwn r.0.0 r.0.1) (controllers_from version settings presets.Own names place before waits rest)
   unfolding controllers_from
   controllers_from-own settings names place before waits no_items all = done _ all
   controllers_from-own settings names place before waits (item d rest) all =
       and_then (controller-own settings names (member_path [] (codes "/controllers/") place) before d) (λ next one.
       controllers_from-own settings next.1 (place + 1) (before ++ next.0.0 ∷ []) (waits ++ next.0.1 ∷ []) rest (waits-push before waits next.0.0 next.0.1 all one))
 
-  controllers-own : (settings : Settings) (names : Texts) (d : Data) → Gets (λ r. WaitByOwn r.0.0 r.0.1) (controllers_in version settings names d)
+  controllers-own : (settings : Settings) (names : Texts) (d : Data) → Gets (λ r. WaitByOwn r.0.0 r.0.1) (controllers_in version settings presets.Own names d)
   unfolding controllers_in
   controllers-own settings names d =
       skip (array_in 16 (codes "/controllers") d) (λ all.
       skip (not_empty (codes "/controllers") all) (λ some.
       controllers_from-own settings names 0 [] [] some refl))
+
+  controllers-by : (settings : Settings) (preset : Preset) → preset ≡ presets.Own → (names : Texts) (d : Data)
+      → Gets (λ r. WaitByOwn r.0.0 r.0.1) (controllers_in version settings preset names d)
+  controllers-by settings preset own names d = subst (λ p. Gets (λ r. WaitByOwn r.0.0 r.0.1) (controllers_in version settings p names d)) (sym own) (controllers-own settings names d)
 
   -- ---- the types of events
 
@@ -416,7 +486,8 @@ module _ (scope : Scope) (cast : Cast) (earlier : is_four scope.version ≡ fals
 
 -- the rules that run are the project's own
 abbrev IsByOwn : Document → Type 0
-IsByOwn d = ElectsByOwn (doc_of d) × SettlesAtOnce (doc_of d) × EvictsByOwn (doc_of d) × PassesTakeNoWork (doc_of d) × AreUnstalled (doc_of d).events
+IsByOwn d = ElectsByOwn (doc_of d) × SettlesAtOnce (doc_of d) × ProbesByRun (doc_of d) × JudgesByOwn (doc_of d) × StartsEmpty (doc_of d)
+    × EvictsByOwn (doc_of d) × PassesTakeNoWork (doc_of d) × AreUnstalled (doc_of d).events
 
 document-own : (value : Data) → says_four (get (codes "version") value) ≡ false → Gets IsByOwn (document_at value)
 unfolding document_at
@@ -424,11 +495,20 @@ document-own value other =
     and_then (top-same value) (λ d same.
     and_then (required-version (get (codes "version") d) (ap (λ v. says_four (get (codes "version") v)) same ∙ other)) (λ version earlier.
     and_then (of_required (settings_at version (codes "/settings")) (codes "/settings") (get (codes "settings") d) (settings-own version earlier (codes "/settings"))) (λ settings own.
-    and_then (of_required (controllers_in version settings fixed_names) (codes "/controllers") (get (codes "controllers") d) (controllers-own version earlier settings fixed_names)) (λ controllers waits.
-    skip (default_of ([], controllers.1) (kubelets_in version settings controllers.1) (get (codes "kubelets") d)) (λ kubelets.
+    and_then (of_required (controllers_in version settings.0 settings.1 fixed_names) (codes "/controllers") (get (codes "controllers") d) (controllers-by version earlier settings.0 settings.1 own.1 fixed_names)) (λ controllers waits.
+    skip (default_of ([], controllers.1) (kubelets_in version settings.0 controllers.1) (get (codes "kubelets") d)) (λ kubelets.
     skip (objects_at version kubelets.1 (numbers_of controllers.0.0) d) (λ objects.
-    and_then (events-go (scope_of version settings) (cast_of controllers.0.0 kubelets.0) earlier objects.1 d) (λ events unstalled.
-    done _ (record { retries = own.retries; waits = waits; respect = own.respect }, own.at_once, record { from = own.from; burst = own.burst }, own.no_work, unstalled))))))))
+    and_then (events-go (scope_of version settings.0) (cast_of controllers.0.0 kubelets.0) earlier objects.1 d) (λ events unstalled.
+    done _ (
+      record { retries = own.0.retries; waits = waits; respect = own.0.respect },
+      own.0.at_once,
+      own.0.probe,
+      record { judge = own.0.judge; sight = own.0.sight },
+      own.0.bucket,
+      record { from = own.0.from; burst = own.0.burst },
+      own.0.no_work,
+      unstalled,
+    ))))))))
 
 pub earlier-own : EarlierGoByOwn
 unfolding document_walk

@@ -94,8 +94,9 @@ unfolding document_at
 document-whole value =
     and_then (top-same value) (λ d same.
     and_then (scale-is (get (codes "version") d)) (λ version large.
-    and_then (of_required (settings_at version (codes "/settings")) (codes "/settings") (get (codes "settings") d) (settings-in version (codes "/settings"))) (λ settings s.
-    and_then (of_required (controllers_in version settings fixed_names) (codes "/controllers") (get (codes "controllers") d) (controllers-in settings s.timings s.outlast version fixed_names)) (λ controllers c.
+    and_then (of_required (settings_at version (codes "/settings")) (codes "/settings") (get (codes "settings") d) (settings-in version (codes "/settings"))) (λ said s.
+    let settings = said.0 in
+    and_then (of_required (controllers_in version settings said.1 fixed_names) (codes "/controllers") (get (codes "controllers") d) (controllers-in settings s.timings s.outlast version said.1 fixed_names)) (λ controllers c.
     let known = numbers_of controllers.0.0 in
     let c_held = numbers-held controllers.1 controllers.0.0 c.1.0.0.named in
     and_then (of_default {P = λ r. Grows controllers.1 r.1 × (AreProcs r.1 r.0 × (length r.0 ≤ kubelet_limit (scale_of version)))} (kubelets_in version settings controllers.1) ([], controllers.1) (get (codes "kubelets") d) (Grows-none controllers.1, (AreProcs-none controllers.1, omega arith)) (kubelets-in settings s.timings s.outlast version controllers.1)) (λ kubelets k.

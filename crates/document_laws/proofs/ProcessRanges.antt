@@ -18,6 +18,7 @@ use Rattle.manifest_laws.proofs.ReadableGrows.{all-push, IsNameNumber-grows}
 use Rattle.manifest_json.specs.Fields.{Texts, is_name, numbered}
 use Rattle.manifest_json.specs.Readable.{IsNameNumber}
 use Rattle.manifest_json.specs.Walk.{items_len, member_path}
+use Rattle.script_reader.specs.declared.choice.Preset.{Preset}
 use Rattle.script_reader.specs.declared.parts.Beats.{Beats}
 use Rattle.script_reader.specs.declared.parts.Clock.{Clock}
 use Rattle.script_reader.specs.declared.parts.Periods.{Periods}
@@ -144,7 +145,7 @@ sound-in path t r settings =
     done settings (both.0, leb-true r.secondary r.primary both.1, refl))
     (λ e. refused _)
 
-pub settings-in : (version : Version) (path : List ℕ) (value : Data) → Gets AreRead (settings_at version path value)
+pub settings-in : (version : Version) (path : List ℕ) (value : Data) → Gets (λ r. AreRead r.0) (settings_at version path value)
 unfolding settings_at
 settings-in version path value =
     skip (object_in (tables.Settings version) path value) (λ d.
@@ -160,7 +161,7 @@ settings-in version path value =
     and_then (sound-in path timings rates settings) (λ s parts.
     and_then (rules-none preset path d) (λ built none.
     let own = outlast timings parts.0 in
-    done s (subst AreRead (sym parts.2) (record {
+    done (s, preset) (subst AreRead (sym parts.2) (record {
       lawful = record {
         beat_least = b.least;
         beat_most = b.most;
@@ -334,34 +335,34 @@ if_controller-in names path earlier name clock watch ts n c t =
 
 -- the timings of settings that were read are those of a process without its own
 module _ (settings : Settings) (timings : AreTimings (timings_of settings)) (own : Outlast (timings_of settings)) where
-  controller-in : (version : Version) (names : Texts) (path : List ℕ) (earlier : List Proc) (value : Data) → Reads names (IsController earlier) (controller_at version settings names path earlier value)
+  controller-in : (version : Version) (preset : Preset) (names : Texts) (path : List ℕ) (earlier : List Proc) (value : Data) → Reads names (IsController earlier) (controller_at version settings preset names path earlier value)
   unfolding controller_at
-  controller-in version names path earlier value =
+  controller-in version preset names path earlier value =
       skip (object_in (tables.Controller version) path value) (λ d.
       and_then (named_at-reads names path (codes "name") d) (λ name n.
       and_then (clock-in path d) (λ clock c.
       skip (flag_at true path (codes "watch") d) (λ watch.
       and_then (timings-in (timings_of settings) path d timings) (λ ts t.
-      and_then (waits_at-in path d) (λ waits w.
+      and_then (waits_at-in preset path d) (λ waits w.
       and_then (if_controller-in names path earlier name clock watch ts n c t) (λ controller r.
       done ((controller.0, waits), controller.1) (r.0, (r.1, w)))))))))
 
-  controllers_from-in : (version : Version) (names : Texts) (place : ℕ) (earlier : List Proc) (waits : List (List ℕ)) (rest : Items) → AreProcs names earlier
-      → AreWaitsEach earlier waits → Reads names (IsTeam (length earlier + items_len rest)) (controllers_from version settings names place earlier waits rest)
+  controllers_from-in : (version : Version) (preset : Preset) (names : Texts) (place : ℕ) (earlier : List Proc) (waits : List (List ℕ)) (rest : Items) → AreProcs names earlier
+      → AreWaitsEach earlier waits → Reads names (IsTeam (length earlier + items_len rest)) (controllers_from version settings preset names place earlier waits rest)
   unfolding controllers_from
-  controllers_from-in version names place earlier waits no_items all each = done _ (Grows-none names, ((all, omega arith), each))
-  controllers_from-in version names place earlier waits (item d rest) all each =
-      and_then (controller-in version names (member_path [] (codes "/controllers/") place) earlier d) (λ next n.
-      weaker (controllers_from-in version next.1 (place + 1) (earlier ++ next.0.0 ∷ []) (waits ++ next.0.1 ∷ []) rest (AreProcs-push n.0 earlier next.0.0 all n.1.0) (AreWaitsEach-push earlier next.0.0 waits next.0.1 each n.1.1))
+  controllers_from-in version preset names place earlier waits no_items all each = done _ (Grows-none names, ((all, omega arith), each))
+  controllers_from-in version preset names place earlier waits (item d rest) all each =
+      and_then (controller-in version preset names (member_path [] (codes "/controllers/") place) earlier d) (λ next n.
+      weaker (controllers_from-in version preset next.1 (place + 1) (earlier ++ next.0.0 ∷ []) (waits ++ next.0.1 ∷ []) rest (AreProcs-push n.0 earlier next.0.0 all n.1.0) (AreWaitsEach-push earlier next.0.0 waits next.0.1 each n.1.1))
       (λ r h. (Grows-then n.0 h.0, ((h.1.0.0, omega (arith, h.1.0.1, length-append earlier (next.0.0 ∷ []))), h.1.1))))
 
   -- 1 to 16 controllers
-  pub controllers-in : (version : Version) (names : Texts) (d : Data) → Reads names (λ ns team. (AreProcs ns team.0 × (1 ≤ length team.0) × (length team.0 ≤ 16)) × AreWaitsEach team.0 team.1) (controllers_in version settings names d)
+  pub controllers-in : (version : Version) (preset : Preset) (names : Texts) (d : Data) → Reads names (λ ns team. (AreProcs ns team.0 × (1 ≤ length team.0) × (length team.0 ≤ 16)) × AreWaitsEach team.0 team.1) (controllers_in version settings preset names d)
   unfolding controllers_in
-  controllers-in version names d =
+  controllers-in version preset names d =
       and_then (array-few 16 (codes "/controllers") d) (λ all few.
       and_then (not_empty-some 16 (codes "/controllers") all few) (λ some h.
-      weaker (controllers_from-in version names 0 [] [] some (AreProcs-none names) AreWaitsEach-none)
+      weaker (controllers_from-in version preset names 0 [] [] some (AreProcs-none names) AreWaitsEach-none)
       (λ r k. (k.0, ((k.1.0.0, omega (arith, k.1.0.1, h.0), omega (arith, k.1.0.1, h.1)), k.1.1)))))
 
   -- ---- kubelets

@@ -98,15 +98,15 @@ module _ (doc : Doc) (own : IsOwn doc) (q : Identity) (k : ℕ) (attended : IsAt
       by_pass : (b : Bool) → has_pass doc q k ≡ b → IsTail (synced_at doc q k) (after_turn doc q.process k)
       by_pass true due =
           subst (IsTail h) (sym (turn_phases doc own q k attended ∙ ap (λ b. evicted doc k q (tainted doc k q (cleaned doc k q (if b then whole_pass doc k q h else h)))) due))
-          (keep_passed doc own k q (IsTail h) (λ t other g at. inr at) (add k q Pass h) (inr (tail_all h)))
+          (keep_passed doc k q (IsTail h) (λ t other g at. inr at) (add k q Pass h) (inr (tail_all h)))
       by_pass false none =
           subst (IsTail h) (sym (turn_phases doc own q k attended ∙ ap (λ b. evicted doc k q (tainted doc k q (cleaned doc k q (if b then whole_pass doc k q h else h)))) none))
-          (keep_later doc own k q (IsTail h) (λ t other g at. inr at) h (tail_all h))
+          (keep_later doc k q (IsTail h) (λ t other g at. inr at) h (tail_all h))
 
   -- and the history before the beat lies below it
   pub old_synced : IsTail (history doc k) (synced_at doc q k)
   old_synced =
-      keep_sync doc own k q (IsTail (history doc k)) (λ t other h at. inr at) (elector_turn doc k q.process (at_turn doc q.process k))
+      keep_sync doc k q (IsTail (history doc k)) (λ t other h at. inr at) (elector_turn doc k q.process (at_turn doc q.process k))
       (to_tick doc own q (IsTail (history doc k)) (λ x h other at. inr at) k attended (before_turn doc q.process k))
 
   pub synced_in : IsTail (synced_at doc q k) (history doc (suc k))
@@ -118,7 +118,7 @@ module _ (doc : Doc) (own : IsOwn doc) (q : Identity) (k : ℕ) (attended : IsAt
       let h = synced_at doc q k in
       tail_trans (add k q Pass h) (after_turn doc q.process k) (history doc (suc k))
       (subst (IsTail (add k q Pass h)) (sym (turn_phases doc own q k attended ∙ ap (λ b. evicted doc k q (tainted doc k q (cleaned doc k q (if b then whole_pass doc k q h else h)))) due))
-      (keep_passed doc own k q (IsTail (add k q Pass h)) (λ t other g at. inr at) (add k q Pass h) (tail_all (add k q Pass h))))
+      (keep_passed doc k q (IsTail (add k q Pass h)) (λ t other g at. inr at) (add k q Pass h) (tail_all (add k q Pass h))))
       in_history
 
 -- ---- what passes say
@@ -148,7 +148,7 @@ module _ (doc : Doc) (own : IsOwn doc) (q : Identity) (A : Type 0) (f : List Ent
   module _ (k : ℕ) (attended : IsAttended doc q k) where
     to_synced : (o : Option A) → Says o (at_turn doc q.process k) → Says o (synced_at doc q k)
     to_synced o s =
-        keep_sync doc own k q (Says o) (own_tick o k) (elector_turn doc k q.process (at_turn doc q.process k)) (to_tick doc own q (Says o) (foreign o) k attended s)
+        keep_sync doc k q (Says o) (own_tick o k) (elector_turn doc k q.process (at_turn doc q.process k)) (to_tick doc own q (Says o) (foreign o) k attended s)
 
     to_next : (o : Option A) → Says o (after_turn doc q.process k) → Says o (at_turn doc q.process (suc k))
     to_next o s = next_turn doc own q (Says o) (foreign o) k (below_processes doc q k attended) s
@@ -158,13 +158,13 @@ module _ (doc : Doc) (own : IsOwn doc) (q : Identity) (A : Type 0) (f : List Ent
         let h = synced_at doc q k in
         let o = upper (f h) (newest (λ e T. at_pass q f e.actor e.fact T) h) in
         subst (Says o) (sym (turn_phases doc own q k attended ∙ ap (λ b. evicted doc k q (tainted doc k q (cleaned doc k q (if b then whole_pass doc k q h else h)))) due))
-        (keep_passed doc own k q (Says o) (own_tick o k) (add k q Pass h) (passed k h))
+        (keep_passed doc k q (Says o) (own_tick o k) (add k q Pass h) (passed k h))
 
     after_none : (o : Option A) → has_pass doc q k ≡ false → Says o (synced_at doc q k) → Says o (after_turn doc q.process k)
     after_none o none s =
         let h = synced_at doc q k in
         subst (Says o) (sym (turn_phases doc own q k attended ∙ ap (λ b. evicted doc k q (tainted doc k q (cleaned doc k q (if b then whole_pass doc k q h else h)))) none))
-        (keep_later doc own k q (Says o) (own_tick o k) h s)
+        (keep_later doc k q (Says o) (own_tick o k) h s)
 
   -- up to the next pass they say what the last one said
   module _ (r m : ℕ) (attends : Attends doc q r m) (due : has_pass doc q r ≡ true) (none : (j : ℕ) → r < j → j < m → has_pass doc q j ≡ false) where

@@ -192,8 +192,8 @@ abbrev pub Words : ℕ → List Entry → Type 0
 Words name [] = Unit {0}
 Words name (x ∷ h) = Word name x.beat x.step x.actor x.fact h × Words name h
 
-words_keep : (doc : Doc) → IsOwn doc → (name : ℕ) → Keeps doc (λ k step h. Words name h)
-words_keep doc own name = record {
+words_keep : (doc : Doc) → (name : ℕ) → Keeps doc (λ k step h. Words name h)
+words_keep doc name = record {
   on = λ k step h s. s;
   next = λ k s. s;
   event = λ k w h scripted s. (refl, s);
@@ -216,7 +216,7 @@ words_keep doc own name = record {
     attempts = λ k p i h role up awake waits s. (tt, s);
     seeks = λ k p i call h role up awake expired late s. (tt, s);
     posts = λ k p i h role up awake none s. (tt, s);
-    ticks = λ k q h acting s. over_tick doc own k q (Words name) (λ t g over s. ((refl, tick_word name k _ g q t over), s)) h s;
+    ticks = λ k q h acting s. over_tick doc k q (Words name) (λ t g over s. ((refl, tick_word name k _ g q t over), s)) h s;
   };
 }
 
@@ -226,7 +226,7 @@ put_words doc name (x ∷ xs) h s = put_words doc name xs (script_entry 0 0 (Fir
 
 pub words : (doc : Doc) → IsOwn doc → (name k : ℕ) → Words name (history doc k)
 words doc own name k =
-    walk_history doc (λ k step h. Words name h) (words_keep doc own name) (no_release doc (λ k step h. Words name h) (ap (λ r. r.release) own.rules)) (put_words doc name doc.objects [] tt) k
+    walk_history doc (λ k step h. Words name h) (words_keep doc name) (no_release doc (λ k step h. Words name h) (ap (λ r. r.release) own.rules)) (put_words doc name doc.objects [] tt) k
 
 pub words_tail : (name : ℕ) (g h : List Entry) → IsTail g h → Words name h → Words name g
 words_tail name g [] at s = subst (Words name) (sym at) s

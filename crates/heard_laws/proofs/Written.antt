@@ -1,5 +1,5 @@
--- A tick writes nodes over what its cache has of them, with the heartbeat that is there: under the project's own rules.
-use Rattle.std.proofs.Common.{◌≡◌, ◌&&◌, ◌||◌, not, ℕ, Bool, true, false, List, [], ◌∷◌, Option, Some, None, refl, sym, subst, if◌then◌else◌}
+-- A tick writes nodes over what its cache has of them, with the heartbeat that is there.
+use Rattle.std.proofs.Common.{◌≡◌, ◌&&◌, ◌||◌, not, ℕ, Bool, true, false, List, [], ◌∷◌, Option, Some, None, refl, if◌then◌else◌}
 use Rattle.std.specs.Prelude.{if◌then◌else◌}
 use Rattle.std.specs.List.{list_any}
 use Rattle.kube_base.specs.declared.numbers.Version.{Version}
@@ -7,23 +7,23 @@ use Rattle.kube_objects.specs.declared.call.Answer.{Answer}
 use Rattle.kube_objects.specs.declared.key.Key.{Key}
 use Rattle.kube_objects.specs.declared.node.Node.{Node}
 use Rattle.kube_objects.specs.declared.node.Ready.{Ready}
+use Rattle.kube_objects.specs.declared.node.Taint.{Taint}
 use Rattle.kube_objects.specs.declared.node.ZoneState.{ZoneState}
 use Rattle.kube_objects.specs.Clocks.{wall, whole_second}
 use Rattle.kube_objects.specs.Document.{Doc}
-use Rattle.kube_objects.specs.Entry.{Entry, Identity, Place, Tick, Sync, Pass, Mark, Mode, Zone, Untaint, Swap, Head, Delete}
+use Rattle.kube_objects.specs.Entry.{Entry, Identity, Place, Tick, Sync, Pass, Mark, Mode, Zone, Untaint, Swap, Head, Delete, Skip}
 use Rattle.kube_objects.specs.Health.{ready_heartbeat, marked, is_unknown, is_silent, with_mark, is_pass_due}
 use Rattle.kube_objects.specs.InForce.{watches}
+use Rattle.kube_objects.specs.Judgement.{Passed, is_new}
 use Rattle.kube_objects.specs.Modes.{nodes, places, state_in, rate_in, all_full, mode}
 use Rattle.kube_objects.specs.Newest.{when}
-use Rattle.kube_objects.specs.Own.{IsOwn}
 use Rattle.kube_objects.specs.Seen.{seen_node, is_fresh, is_synced, is_stale, node_names, is_pod}
 use Rattle.kube_objects.specs.Stored.{node_key}
 use Rattle.kube_objects.specs.Tainting.{Wants, Nothing, Wanted, Whatever, wants, has_condition, is_opposite, waits, Queued, head_of}
-use Rattle.kube_objects.specs.Tick.{add, for_each, has_settled, is_stripped, sync, mark_as, mark_seen, mark, is_same_mode, mode_as, set_mode, zone_as, zone, set_zones, marks, whole_pass, pass, clean_as, clean_seen, clean, cleaned, taint_as, taint_head, taint, tainted, evict, add_untaint, add_swap, taint_first, phases, tick}
+use Rattle.kube_objects.specs.Tick.{add, for_each, has_settled, is_stripped, sync, mark_as, mark_seen, mark, is_same_mode, mode_as, set_mode, zone_as, zone, set_zones, marks, whole_pass, pass, clean_as, clean_seen, clean, cleaned, new_taint, crossed, judge, taint_as, taint_head, taint, push, tainted, evict, add_untaint, add_swap, taint_first, phases, tick}
 use Rattle.kube_objects.specs.Tokens.{rated, is_rated, has_token}
 use Rattle.kube_objects.specs.Tries.{try_node}
-use Rattle.kube_objects.proofs.Own.{cleaned-own, tainted-own}
-use Rattle.history_laws.proofs.Ticks.{IsPodKey, evict_step, evicted_each}
+use Rattle.history_laws.proofs.Ticks.{IsPodKey, judge_step, cleaned_each, push_step, tainted_each, evict_step, evicted_each}
 
 -- a try to write a node over what the cache has, with its heartbeat
 pub record IsOver (q : Identity) (name : ℕ) (given : Version) (written : Node) (answer : Option Answer) (h : List Entry) : Type 0 where
@@ -46,7 +46,12 @@ marked_heartbeat : (at : ℕ) (o : Option Ready) → (marked at o).heartbeat ≡
 marked_heartbeat at None = refl
 marked_heartbeat at (Some r) = refl
 
-module _ (doc : Doc) (own : IsOwn doc) (k : ℕ) (q : Identity) (P : List Entry → Type 0) (more : (t : Tick) (h : List Entry) → WritesOver q t h → P h → P (add k q t h)) where
+-- so does a swap of a pass
+crossed_heartbeat : (new : Bool) (taint : Taint) (node : Node) → ready_heartbeat (crossed new taint node).ready ≡ ready_heartbeat node.ready
+crossed_heartbeat true taint node = refl
+crossed_heartbeat false taint node = refl
+
+module _ (doc : Doc) (k : ℕ) (q : Identity) (P : List Entry → Type 0) (more : (t : Tick) (h : List Entry) → WritesOver q t h → P h → P (add k q t h)) where
   every : {A : Type 0} (f : A → List Entry → List Entry) → ((a : A) (h : List Entry) → P h → P (f a h)) → (xs : List A) (h : List Entry) → P h → P (for_each f xs h)
   every f keeps [] h p = p
   every f keeps (x ∷ xs) h p = every f keeps xs (f x h) (keeps x h p)
@@ -125,6 +130,11 @@ module _ (doc : Doc) (own : IsOwn doc) (k : ℕ) (q : Identity) (P : List Entry 
       by_stale false None is = p
       by_stale false (Some x) is = by_wants x is (wants (is_stripped doc.settings.rules.first_sight k q name h || mode q h) x.1)
 
+  over_judge : (x : Passed) (name : ℕ) (h : List Entry) → P h → P (judge doc k q x name h)
+  over_judge x name h p =
+      judge_step doc k q P x name h p (λ z is. more _ h (record { node = z.1; sees = is; tried = refl; heartbeat = refl }) p)
+      (λ y z was is wanted wants. more _ h (record { node = z.1; sees = is; tried = refl; heartbeat = crossed_heartbeat (is_new doc q name x.before) (new_taint doc k q wanted) z.1 }) p)
+
   over_taint : (place : Place) (h : List Entry) → P h → P (taint doc k q place h)
   over_taint place h p = by_token (has_token doc q k place h)
     where
@@ -141,6 +151,11 @@ module _ (doc : Doc) (own : IsOwn doc) (k : ℕ) (q : Identity) (P : List Entry 
       by_token false = p
       by_token true = by_head (head_of q place (node_names h) h)
 
+  over_push : (place : Place) (h : List Entry) → P h → P (push doc k q place h)
+  over_push place h p =
+      push_step doc k q P place h p (λ name token. more (Skip place name) h tt p)
+      (λ name x token is wanted wants. more _ h (record { node = x.1; sees = is; tried = refl; heartbeat = refl }) p)
+
   over_evict : (pod : Key) (h : List Entry) → IsPodKey pod → P h → P (evict doc k q pod h)
   over_evict pod h kind p = evict_step doc k q P pod h kind p (λ given node_given at a made. more (Delete pod given node_given at a) h kind p)
 
@@ -155,6 +170,6 @@ module _ (doc : Doc) (own : IsOwn doc) (k : ℕ) (q : Identity) (P : List Entry 
           let b = pass doc k q a in
           let c = cleaned doc k q b in
           let d = tainted doc k q c in
-          let cleans : P c = subst P (sym (cleaned-own doc own k q b)) (every (clean doc k q) over_clean (node_names b) b (over_pass a (over_sync h p))) in
-          let taints : P d = subst P (sym (tainted-own doc own k q c)) (every (taint doc k q) over_taint (places (nodes q c)) c cleans) in
+          let cleans : P c = cleaned_each doc k q P over_clean over_judge b (over_pass a (over_sync h p)) in
+          let taints : P d = tainted_each doc k q P over_taint over_push c cleans in
           evicted_each doc k q P over_evict d taints

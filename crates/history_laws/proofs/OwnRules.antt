@@ -11,14 +11,14 @@ use Rattle.history_laws.specs.Own.{OwnRulesChangeNothing}
 
 pub own_rules_change_nothing : OwnRulesChangeNothing
 own_rules_change_nothing doc own none = (
-  λ at_once no_work evicts. record {
+  λ at_once by_run judges empty no_work evicts. record {
     ticks = λ k p h. ticks_go doc k p h (never_stalled doc k none);
     settles = has_settled-own doc at_once;
     passes = pass_period-own doc no_work;
-    hears = heard-own doc own;
-    cleans = cleaned-own doc own;
-    taints = tainted-own doc own;
-    tokens = has_token-own doc own;
+    hears = heard-own doc by_run;
+    cleans = cleaned-own doc judges;
+    taints = tainted-own doc judges;
+    tokens = has_token-own doc empty;
     evicts = evict-own doc evicts;
     evictions = evicted-own doc evicts;
   },

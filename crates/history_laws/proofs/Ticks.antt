@@ -16,7 +16,7 @@ use Rattle.kube_objects.specs.declared.pod.Pod.{Pod}
 use Rattle.kube_objects.specs.declared.rules.EvictRule.{EvictRule}
 use Rattle.kube_objects.specs.declared.rules.EvictRule.TheVariants.{Added, Seen}
 use Rattle.kube_objects.specs.declared.rules.JudgeRule.{JudgeRule}
-use Rattle.kube_objects.specs.declared.rules.JudgeRule.TheVariants as judges
+use Rattle.kube_objects.specs.declared.rules.JudgeRule.TheVariants as judge_rules
 use Rattle.kube_objects.specs.declared.settings.RatePolicy.{RatePolicy}
 use Rattle.kube_objects.specs.declared.settings.RatePolicy.TheVariants.{Standard, Gentle, Halt}
 use Rattle.kube_objects.specs.Clocks.{wall}
@@ -235,6 +235,91 @@ evicted_each doc k q P one h p = by_limit (doc.settings.rules.evict_burst == 0)
     by_limit true = free (pod_keys h) h (pods_only h) p
     by_limit false = within (dues doc q (pod_keys h) h) h (dues_only doc q h (pod_keys h) (pods_only h)) p
 
+-- ---- judgement at passes
+
+-- what the try of a pass for one node keeps, the look at the node keeps: an untaint, or the swap of a node that wants this taint
+pub judge_step : (doc : Doc) (k : ℕ) (q : Identity) (P : List Entry → Type 0) (x : Passed) (name : ℕ) (h : List Entry) → P h
+    → ((z : Version × Node) → seen_node q name h ≡ Some z → P (add_untaint k q name z.0 z.1 h))
+    → ((y z : Version × Node) → seen_node q name x.before ≡ Some y → seen_node q name h ≡ Some z → (wanted : ℕ) → judged q name x y.1 ≡ Wanted wanted
+    → P (add_crossed doc k q name z.0 z.1 (is_new doc q name x.before) (Wanted wanted) h)) → P (judge doc k q x name h)
+judge_step doc k q P x name h p untaints swaps = by_stale (is_stale q (node_key name) h) (seen_node q name x.before) refl (seen_node q name h) refl
+  where
+    by_crossed : (y z : Version × Node) → seen_node q name x.before ≡ Some y → seen_node q name h ≡ Some z → (w : Wants) → judged q name x y.1 ≡ w
+        → P (add_crossed doc k q name z.0 z.1 (is_new doc q name x.before) w h)
+    by_crossed y z was is (Wanted wanted) wants = swaps y z was is wanted wants
+    by_crossed y z was is Nothing wants = p
+    by_crossed y z was is Whatever wants = p
+
+    by_untaint : (z : Version × Node) → seen_node q name h ≡ Some z → (b : Bool) → P (if b then add_untaint k q name z.0 z.1 h else h)
+    by_untaint z is false = p
+    by_untaint z is true = untaints z is
+
+    by_test : (y z : Version × Node) → seen_node q name x.before ≡ Some y → seen_node q name h ≡ Some z → (b c : Bool)
+        → P (if b then add_crossed doc k q name z.0 z.1 (is_new doc q name x.before) (judged q name x y.1) h else (if c then add_untaint k q name z.0 z.1 h else h))
+    by_test y z was is true c = by_crossed y z was is (judged q name x y.1) refl
+    by_test y z was is false c = by_untaint z is c
+
+    by_stale : (b : Bool) (o : Option (Version × Node)) → seen_node q name x.before ≡ o → (r : Option (Version × Node)) → seen_node q name h ≡ r → P (judge_seen doc k q name x b o r h)
+    by_stale true o was r is = p
+    by_stale false None was r is = p
+    by_stale false (Some y) was None is = p
+    by_stale false (Some y) was (Some z) is =
+        by_test y z was is (is_crossed (judged q name x y.1) z.1) (has_condition z.1 && (is_new doc q name x.before || is_healthy (judged q name x y.1) || has_turned_on q x))
+
+-- and what the turn of a zone's first push keeps, that of the zone: it is skipped, or its node wants this taint
+pub push_step : (doc : Doc) (k : ℕ) (q : Identity) (P : List Entry → Type 0) (place : Place) (h : List Entry) → P h
+    → ((name : ℕ) → has_token doc q k place h ≡ true → P (add k q (Skip place name) h))
+    → ((name : ℕ) (x : Version × Node) → has_token doc q k place h ≡ true → seen_node q name h ≡ Some x → (wanted : ℕ) → wants_ready x.1.ready ≡ Wanted wanted
+    → P (push_as doc k q place name x.0 x.1 (Wanted wanted) h)) → P (push doc k q place h)
+push_step doc k q P place h p skips heads = by_token (has_token doc q k place h) refl
+  where
+    by_wants : has_token doc q k place h ≡ true → (name : ℕ) (x : Version × Node) → seen_node q name h ≡ Some x → (w : Wants) → wants_ready x.1.ready ≡ w → P (push_as doc k q place name x.0 x.1 w h)
+    by_wants token name x is (Wanted wanted) wants = heads name x token is wanted wants
+    by_wants token name x is Nothing wants = skips name token
+    by_wants token name x is Whatever wants = skips name token
+
+    by_seen : has_token doc q k place h ≡ true → (name : ℕ) (o : Option (Version × Node)) → seen_node q name h ≡ o → P (push_seen doc k q place name o h)
+    by_seen token name None is = skips name token
+    by_seen token name (Some x) is = by_wants token name x is (wants_ready x.1.ready) refl
+
+    by_first : has_token doc q k place h ≡ true → (names : List ℕ) → P (push_first doc k q place names h)
+    by_first token [] = p
+    by_first token (name ∷ names) = by_seen token name (seen_node q name h) refl
+
+    by_token : (b : Bool) → has_token doc q k place h ≡ b → P (if b then push_first doc k q place (queue doc q place (passes q h)) h else h)
+    by_token false token = p
+    by_token true token = by_first token (queue doc q place (passes q h))
+
+each_of : {A : Type 0} (P : List Entry → Type 0) (f : A → List Entry → List Entry) → ((a : A) (h : List Entry) → P h → P (f a h)) → (xs : List A) (h : List Entry) → P h → P (for_each f xs h)
+each_of P f keeps [] h p = p
+each_of P f keeps (x ∷ xs) h p = each_of P f keeps xs (f x h) (keeps x h p)
+
+-- what the look at each node keeps, by either rule, the phase of untaints and swaps keeps
+pub cleaned_each : (doc : Doc) (k : ℕ) (q : Identity) (P : List Entry → Type 0) → ((name : ℕ) (h : List Entry) → P h → P (clean doc k q name h))
+    → ((x : Passed) (name : ℕ) (h : List Entry) → P h → P (judge doc k q x name h)) → (h : List Entry) → P h → P (cleaned doc k q h)
+cleaned_each doc k q P cleans judges h p = by_rule doc.settings.rules.judge
+  where
+    by_passes : (xs : List Passed) → P (judge_all doc k q xs h)
+    by_passes [] = p
+    by_passes (x ∷ xs) = each_of P (judge doc k q x) (judges x) (node_names h) h p
+
+    by_pass : (b : Bool) → P (if b then judge_all doc k q (passes q h) h else h)
+    by_pass false = p
+    by_pass true = by_passes (passes q h)
+
+    by_rule : (rule : JudgeRule) → P (cleaned_by rule doc k q h)
+    by_rule judge_rules.Tick = each_of P (clean doc k q) cleans (node_names h) h p
+    by_rule judge_rules.Pass = by_pass (is_pass_tick k q h)
+
+-- and what the look at each zone keeps, the phase of queued taints
+pub tainted_each : (doc : Doc) (k : ℕ) (q : Identity) (P : List Entry → Type 0) → ((place : Place) (h : List Entry) → P h → P (taint doc k q place h))
+    → ((place : Place) (h : List Entry) → P h → P (push doc k q place h)) → (h : List Entry) → P h → P (tainted doc k q h)
+tainted_each doc k q P taints pushes h p = by_rule doc.settings.rules.judge
+  where
+    by_rule : (rule : JudgeRule) → P (tainted_by rule doc k q h)
+    by_rule judge_rules.Tick = each_of P (taint doc k q) taints (places (nodes q h)) h p
+    by_rule judge_rules.Pass = each_of P (push doc k q) pushes (places (nodes q (before_pass q h))) h p
+
 -- ---- the walk
 
 module _ (doc : Doc) (k : ℕ) (q : Identity) (P : List Entry → Type 0) (more : (t : Tick) (h : List Entry) → MadeTick doc k q t h → P h → P (add k q t h)) where
@@ -319,44 +404,11 @@ module _ (doc : Doc) (k : ℕ) (q : Identity) (P : List Entry → Type 0) (more 
       by_stale false (Some x) is = by_wants x is (wants (is_stripped doc.settings.rules.first_sight k q name h || mode q h) x.1)
 
   walk_judge : (x : Passed) (name : ℕ) (h : List Entry) → P h → P (judge doc k q x name h)
-  walk_judge x name h p = by_stale (is_stale q (node_key name) h) (seen_node q name x.before) (seen_node q name h) refl
-    where
-      by_crossed : (z : Version × Node) → seen_node q name h ≡ Some z → (new : Bool) (w : Wants) → P (add_crossed doc k q name z.0 z.1 new w h)
-      by_crossed z is new (Wanted wanted) = more _ h (z.1, is, refl) p
-      by_crossed z is new Nothing = p
-      by_crossed z is new Whatever = p
-
-      by_untaint : (z : Version × Node) → seen_node q name h ≡ Some z → (b : Bool) → P (if b then add_untaint k q name z.0 z.1 h else h)
-      by_untaint z is false = p
-      by_untaint z is true = more _ h (z.1, is, refl) p
-
-      by_test : (z : Version × Node) → seen_node q name h ≡ Some z → (w : Wants) (b c : Bool)
-          → P (if b then add_crossed doc k q name z.0 z.1 (is_new doc q name x.before) w h else (if c then add_untaint k q name z.0 z.1 h else h))
-      by_test z is w true c = by_crossed z is (is_new doc q name x.before) w
-      by_test z is w false c = by_untaint z is c
-
-      by_stale : (b : Bool) (was o : Option (Version × Node)) → seen_node q name h ≡ o → P (judge_seen doc k q name x b was o h)
-      by_stale true was o is = p
-      by_stale false None o is = p
-      by_stale false (Some y) None is = p
-      by_stale false (Some y) (Some z) is =
-          let w = judged q name x y.1 in
-          by_test z is w (is_crossed w z.1) (has_condition z.1 && (is_new doc q name x.before || is_healthy w || has_turned_on q x))
-
-  walk_judge_all : (xs : List Passed) (h : List Entry) → P h → P (judge_all doc k q xs h)
-  walk_judge_all [] h p = p
-  walk_judge_all (x ∷ xs) h p = every (judge doc k q x) (walk_judge x) (node_names h) h p
+  walk_judge x name h p =
+      judge_step doc k q P x name h p (λ z is. more _ h (z.1, is, refl) p) (λ y z was is wanted wants. more _ h (z.1, is, refl) p)
 
   pub walk_cleaned : (h : List Entry) → P h → P (cleaned doc k q h)
-  walk_cleaned h p = by_rule doc.settings.rules.judge
-    where
-      by_pass : (b : Bool) → P (if b then judge_all doc k q (passes q h) h else h)
-      by_pass false = p
-      by_pass true = walk_judge_all (passes q h) h p
-
-      by_rule : (rule : JudgeRule) → P (cleaned_by rule doc k q h)
-      by_rule judges.Tick = every (clean doc k q) walk_clean (node_names h) h p
-      by_rule judges.Pass = by_pass (is_pass_tick k q h)
+  walk_cleaned h p = cleaned_each doc k q P walk_clean walk_judge h p
 
   walk_taint : (place : Place) (h : List Entry) → P h → P (taint doc k q place h)
   walk_taint place h p = by_token (has_token doc q k place h) refl
@@ -375,31 +427,11 @@ module _ (doc : Doc) (k : ℕ) (q : Identity) (P : List Entry → Type 0) (more 
       by_token true token = by_head token (head_of q place (node_names h) h)
 
   walk_push : (place : Place) (h : List Entry) → P h → P (push doc k q place h)
-  walk_push place h p = by_token (has_token doc q k place h) refl
-    where
-      by_wants : has_token doc q k place h ≡ true → (name : ℕ) (x : Version × Node) → seen_node q name h ≡ Some x → (w : Wants) → P (push_as doc k q place name x.0 x.1 w h)
-      by_wants token name x is (Wanted wanted) = more _ h (token, (x.1, is, refl)) p
-      by_wants token name x is Nothing = more _ h token p
-      by_wants token name x is Whatever = more _ h token p
-
-      by_seen : has_token doc q k place h ≡ true → (name : ℕ) (o : Option (Version × Node)) → seen_node q name h ≡ o → P (push_seen doc k q place name o h)
-      by_seen token name None is = more _ h token p
-      by_seen token name (Some x) is = by_wants token name x is (wants_ready x.1.ready)
-
-      by_first : has_token doc q k place h ≡ true → (names : List ℕ) → P (push_first doc k q place names h)
-      by_first token [] = p
-      by_first token (name ∷ names) = by_seen token name (seen_node q name h) refl
-
-      by_token : (b : Bool) → has_token doc q k place h ≡ b → P (if b then push_first doc k q place (queue doc q place (passes q h)) h else h)
-      by_token false token = p
-      by_token true token = by_first token (queue doc q place (passes q h))
+  walk_push place h p =
+      push_step doc k q P place h p (λ name token. more (Skip place name) h token p) (λ name x token is wanted wants. more _ h (token, (x.1, is, refl)) p)
 
   pub walk_tainted : (h : List Entry) → P h → P (tainted doc k q h)
-  walk_tainted h p = by_rule doc.settings.rules.judge
-    where
-      by_rule : (rule : JudgeRule) → P (tainted_by rule doc k q h)
-      by_rule judges.Tick = every (taint doc k q) walk_taint (places (nodes q h)) h p
-      by_rule judges.Pass = every (push doc k q) walk_push (places (nodes q (before_pass q h))) h p
+  walk_tainted h p = tainted_each doc k q P walk_taint walk_push h p
 
   walk_evict : (pod : Key) (h : List Entry) → IsPodKey pod → HasRoom doc k q h → P h → P (evict doc k q pod h)
   walk_evict pod h kind room p = evict_step doc k q P pod h kind p (λ given node_given at a made. more (Delete pod given node_given at a) h (made, room) p)

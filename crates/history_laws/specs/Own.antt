@@ -1,6 +1,7 @@
 -- In a document that goes by the project's own rules in all that nothing runs yet and whose store never stands still, each definition of a tick
--- that asks for a rule is the one that asks for none, where its terms settle at once, its passes' writes take no time and it evicts by them
--- too; where it elects by them, so is each of elections and of the lease premise. Source: profile.
+-- that asks for a rule is the one that asks for none, where its terms settle at once, nodes are silent by the run and judged at each tick,
+-- buckets start empty, its passes' writes take no time and it evicts by them too; where it elects by them, so is each of elections and of the
+-- lease premise. Source: profile.
 use Rattle.std.specs.Prelude.{◌≡◌, ℕ, ◌+◌, ◌*◌, ◌&&◌, not, nat_lt, if◌then◌else◌, Bool, true, List, ◌∷◌}
 use Rattle.kube_objects.specs.declared.call.Reply.{Reply}
 use Rattle.kube_objects.specs.declared.key.Key.{Key}
@@ -11,7 +12,7 @@ use Rattle.kube_objects.specs.Elector.{acts, in_term, moment, respected, retry_a
 use Rattle.kube_objects.specs.Entry.{Entry, Identity, Place, Call, Stops, Ends, Expires, entry}
 use Rattle.kube_objects.specs.Health.{heard, probe, pass_period}
 use Rattle.kube_objects.specs.Modes.{nodes, places}
-use Rattle.kube_objects.specs.Own.{AreUnstalled, IsOwn, ElectsByOwn, EvictsByOwn, PassesTakeNoWork, SettlesAtOnce}
+use Rattle.kube_objects.specs.Own.{AreUnstalled, IsOwn, ElectsByOwn, EvictsByOwn, JudgesByOwn, PassesTakeNoWork, ProbesByRun, SettlesAtOnce, StartsEmpty}
 use Rattle.kube_objects.specs.Pauses.{is_paused}
 use Rattle.kube_objects.specs.Process.{alive, is_late, release_begun}
 use Rattle.kube_objects.specs.Seen.{node_names, pod_keys, is_stale, seen_pod}
@@ -64,4 +65,5 @@ pub record PromisesAsBefore (doc : Doc) : Type 0 where
 
 abbrev pub OwnRulesChangeNothing : Type 0
 OwnRulesChangeNothing = (doc : Doc) → IsOwn doc → AreUnstalled doc.events
-    → (SettlesAtOnce doc → PassesTakeNoWork doc → EvictsByOwn doc → TicksAsBefore doc) × (ElectsByOwn doc → ElectsAsBefore doc × PromisesAsBefore doc)
+    → (SettlesAtOnce doc → ProbesByRun doc → JudgesByOwn doc → StartsEmpty doc → PassesTakeNoWork doc → EvictsByOwn doc → TicksAsBefore doc)
+    × (ElectsByOwn doc → ElectsAsBefore doc × PromisesAsBefore doc)

@@ -1,7 +1,9 @@
 pub mod CallFrames
 pub mod Clocks
 pub mod KeyOrder
-pub mod OwnCalls
-pub mod Pauses
 pub mod Own
+pub mod OwnCalls
+pub mod Passes
+pub mod Pauses
 pub mod Stalls
+pub mod Tokens

@@ -9,13 +9,13 @@ use Rattle.kube_objects.specs.Elector.{acts, leads_on, in_term, led_at, moment, 
 use Rattle.kube_objects.specs.Entry.{Entry, Identity, Place, Call, CallKind, Ends, Expires, entry}
 use Rattle.kube_objects.specs.Health.{heard, probe, pass_period, pass_work}
 use Rattle.kube_objects.specs.Newest.{or_else}
-use Rattle.kube_objects.specs.Own.{IsOwn, ElectsByOwn, EvictsByOwn, PassesTakeNoWork, SettlesAtOnce}
+use Rattle.kube_objects.specs.Own.{IsOwn, ElectsByOwn, EvictsByOwn, JudgesByOwn, PassesTakeNoWork, ProbesByRun, SettlesAtOnce, StartsEmpty}
 use Rattle.kube_objects.specs.Pauses.{is_paused}
 use Rattle.kube_objects.specs.Process.{release_begun, is_release_over, is_late}
 use Rattle.kube_objects.specs.Retries.{wait_after}
 use Rattle.kube_objects.specs.Rules.{own_waits}
 use Rattle.kube_objects.specs.Seen.{node_names, pod_keys, is_stale, seen_pod}
-use Rattle.kube_objects.specs.Tick.{for_each, clean, cleaned, cleaned_by, taint, tainted, tainted_by, evict, evict_by, evict_seen, evict_within, evicted, dues, has_settled}
+use Rattle.kube_objects.specs.Tick.{for_each, clean, cleaned, cleaned_by, taint, tainted, tainted_by, evict, evict_by, evict_seen, evict_within, evicted, dues, has_settled, is_stripped}
 use Rattle.kube_objects.specs.Modes.{nodes, places}
 use Rattle.kube_objects.specs.Tokens.{has_token, token_by, is_grown, grown, rated}
 use Rattle.kube_objects.specs.Turns.{end_as, expire_as}
@@ -46,19 +46,25 @@ module _ (doc : Doc) (own : IsOwn doc) where
   pub end_term-own : (k : ℕ) (q : Identity) (h : List Entry) → end_as doc.settings.rules.release doc k q h ≡ entry k 4 q Ends ∷ h
   end_term-own k q h = ap (λ r. end_as r.release doc k q h) own.rules
 
-  -- ---- the tick
+-- ---- the tick
 
+module _ (doc : Doc) (own : ProbesByRun doc) where
   pub heard-own : (q : Identity) (name : ℕ) (h : List Entry) → heard doc.settings.rules.probe q name h ≡ probe q name h
-  heard-own q name h = ap (λ r. heard r.probe q name h) own.rules
+  heard-own q name h = ap (λ r. heard r q name h) own
 
+module _ (doc : Doc) (own : StartsEmpty doc) where
+  pub has_token-own : (q : Identity) (k : ℕ) (place : Place) (h : List Entry) → has_token doc q k place h ≡ is_grown (grown doc q k place h) (rated q place h)
+  has_token-own q k place h = ap (λ r. token_by r doc q k place h) own
+
+module _ (doc : Doc) (own : JudgesByOwn doc) where
   pub cleaned-own : (k : ℕ) (q : Identity) (h : List Entry) → cleaned doc k q h ≡ for_each (clean doc k q) (node_names h) h
-  cleaned-own k q h = ap (λ r. cleaned_by r.judge doc k q h) own.rules
+  cleaned-own k q h = ap (λ r. cleaned_by r doc k q h) own.judge
 
   pub tainted-own : (k : ℕ) (q : Identity) (h : List Entry) → tainted doc k q h ≡ for_each (taint doc k q) (places (nodes q h)) h
-  tainted-own k q h = ap (λ r. tainted_by r.judge doc k q h) own.rules
+  tainted-own k q h = ap (λ r. tainted_by r doc k q h) own.judge
 
-  pub has_token-own : (q : Identity) (k : ℕ) (place : Place) (h : List Entry) → has_token doc q k place h ≡ is_grown (grown doc q k place h) (rated q place h)
-  has_token-own q k place h = ap (λ r. token_by r.bucket doc q k place h) own.rules
+  pub stripped-own : (k : ℕ) (q : Identity) (name : ℕ) (h : List Entry) → is_stripped doc.settings.rules.first_sight k q name h ≡ false
+  stripped-own k q name h = ap (λ r. is_stripped r k q name h) own.sight
 
 module _ (doc : Doc) (own : EvictsByOwn doc) where
   pub evict-own : (k : ℕ) (q : Identity) (pod : Key) (h : List Entry) → evict doc k q pod h ≡ evict_seen doc k q pod (is_stale q pod h) (seen_pod q pod h) h

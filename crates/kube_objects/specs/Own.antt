@@ -1,10 +1,15 @@
 -- A document that goes by the project's own rules in all that nothing runs yet, as every one of versions 1 to 3 does; and one that goes by
--- them in its elections too, in a term's first sync, in its evictions, or in what a pass takes. Source: profile.
+-- them in its elections too, in a term's first sync, in when nodes are silent and when it judges them, in how zones' buckets start, in its
+-- evictions, or in what a pass takes. Source: profile.
 use Rattle.std.specs.Prelude.{◌≡◌, List, [], ◌∷◌, None}
 use Rattle.kube_objects.specs.declared.rules.Rules.{Rules}
 use Rattle.kube_objects.specs.declared.rules.RetryRule.TheVariants as retries
 use Rattle.kube_objects.specs.declared.rules.RespectRule.TheVariants as respects
+use Rattle.kube_objects.specs.declared.rules.JudgeRule.TheVariants as judges
+use Rattle.kube_objects.specs.declared.rules.SightRule.TheVariants as sights
+use Rattle.kube_objects.specs.declared.rules.BucketRule.TheVariants as buckets
 use Rattle.kube_objects.specs.declared.rules.EvictRule.TheVariants as evictions
+use Rattle.kube_objects.specs.declared.rules.ProbeRule.TheVariants as probes
 use Rattle.kube_objects.specs.declared.script.Event.{Event}
 use Rattle.kube_objects.specs.Document.{Doc, own_waits_each}
 use Rattle.kube_objects.specs.Rules.{own_rules}
@@ -15,13 +20,19 @@ abbrev pub AreUnstalled : List Event → Type 0
 AreUnstalled [] = Unit {0}
 AreUnstalled (e ∷ es) = (stall_of e.what ≡ None) × AreUnstalled es
 
--- the own rules, but for those that run: the ones of elections, how long a term waits with its first sync, the ones of evictions, and how
--- long a pass takes for the pods that it sets not ready
+-- the own rules, but for those that run: the ones of elections, how long a term waits with its first sync, from when a node counts as silent,
+-- when nodes are judged, what a term does with one that it first sees and how often a queue holds it, how a zone's bucket starts, the ones of
+-- evictions, and how long a pass takes for the pods that it sets not ready
 abbrev pub own_but_built : Rules → Rules
 own_but_built rules = record own_rules {
   retries = rules.retries;
   respect = rules.respect;
   first_sync_millis = rules.first_sync_millis;
+  probe = rules.probe;
+  judge = rules.judge;
+  first_sight = rules.first_sight;
+  queue = rules.queue;
+  bucket = rules.bucket;
   evict_from = rules.evict_from;
   evict_burst = rules.evict_burst;
   evict_rate = rules.evict_rate;
@@ -41,6 +52,19 @@ pub record ElectsByOwn (doc : Doc) : Type 0 where
 -- no term waits with its first sync
 abbrev pub SettlesAtOnce : Doc → Type 0
 SettlesAtOnce doc = doc.settings.rules.first_sync_millis ≡ 0
+
+-- a node's silence counts from when it was last heard of in the run
+abbrev pub ProbesByRun : Doc → Type 0
+ProbesByRun doc = doc.settings.rules.probe ≡ probes.Run
+
+-- nodes are judged at each tick, and keep their condition taints as they are first seen
+pub record JudgesByOwn (doc : Doc) : Type 0 where
+  pub judge : doc.settings.rules.judge ≡ judges.Tick
+  pub sight : doc.settings.rules.first_sight ≡ sights.Keep
+
+-- a zone's bucket starts empty
+abbrev pub StartsEmpty : Doc → Type 0
+StartsEmpty doc = doc.settings.rules.bucket ≡ buckets.Empty
 
 -- the writes of a pass take no time
 abbrev pub PassesTakeNoWork : Doc → Type 0

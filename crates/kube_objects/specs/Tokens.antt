@@ -98,6 +98,11 @@ abbrev pub is_full : Doc → Identity → Place → List Entry → Bool
 is_full doc q place [] = false
 is_full doc q place (e ∷ h) = fills doc q place e.beat e.actor e.fact h (is_full doc q place h)
 
+-- by the rule: one that starts empty is never said to be full
+abbrev pub is_full_by : BucketRule → Doc → Identity → Place → List Entry → Bool
+is_full_by Empty doc q place h = false
+is_full_by Full doc q place h = is_full doc q place h
+
 abbrev pub token_by : BucketRule → Doc → Identity → ℕ → Place → List Entry → Bool
 token_by Empty doc q k place h = is_grown (grown doc q k place h) (rated q place h)
 token_by Full doc q k place h = is_there (is_full doc q place h) (grown doc q k place h) (rated q place h)

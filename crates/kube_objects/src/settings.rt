@@ -1,5 +1,5 @@
 // The settings of a document.
-use crate::{EvictRule, Rules};
+use crate::{BucketRule, EvictRule, JudgeRule, ProbeRule, QueueRule, Rules, SightRule};
 use kube_base::{Beat, Wall};
 
 /// How fast nodes are tainted in zones that are disrupted.
@@ -41,6 +41,8 @@ pub struct Settings {
 pub struct TickSettings {
     /// How long after its lead a term waits with its first sync.
     pub first_sync_millis: u32,
+    /// From when a node counts as silent.
+    pub probe: ProbeRule,
     pub monitor_period_millis: u32,
     pub grace_period_millis: u32,
     pub startup_grace_millis: u32,
@@ -50,6 +52,11 @@ pub struct TickSettings {
     pub large_zone: u32,
     pub unhealthy_percent: u32,
     pub rate_policy: RatePolicy,
+    pub judge: JudgeRule,
+    pub first_sight: SightRule,
+    pub queue: QueueRule,
+    /// Whether a zone's bucket starts empty or full.
+    pub bucket: BucketRule,
     pub evict_from: EvictRule,
     /// How many pods a term may evict at once. 0 is no limit.
     pub evict_burst: u32,

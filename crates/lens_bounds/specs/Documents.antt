@@ -1,7 +1,15 @@
 -- What a document's processes and events let messages and clocks do. Source: profile.
 use Rattle.std.specs.Prelude.{ℕ, ◌*◌, ◌==◌, ◌&&◌, min, max, nat_lt, not, Bool, true, false, List, [], ◌∷◌, length}
+use Rattle.kube_objects.specs.declared.rules.BucketRule.{BucketRule}
+use Rattle.kube_objects.specs.declared.rules.BucketRule.TheVariants as buckets
 use Rattle.kube_objects.specs.declared.rules.EvictRule.{EvictRule}
 use Rattle.kube_objects.specs.declared.rules.EvictRule.TheVariants.{Added, Seen}
+use Rattle.kube_objects.specs.declared.rules.JudgeRule.{JudgeRule}
+use Rattle.kube_objects.specs.declared.rules.JudgeRule.TheVariants as judges
+use Rattle.kube_objects.specs.declared.rules.ProbeRule.{ProbeRule}
+use Rattle.kube_objects.specs.declared.rules.ProbeRule.TheVariants as probes
+use Rattle.kube_objects.specs.declared.rules.SightRule.{SightRule}
+use Rattle.kube_objects.specs.declared.rules.SightRule.TheVariants as sights
 use Rattle.kube_objects.specs.declared.script.Event.{Event}
 use Rattle.kube_objects.specs.declared.script.Proc.{Proc}
 use Rattle.kube_objects.specs.declared.script.What.{What}
@@ -103,12 +111,31 @@ abbrev pub is_added : EvictRule → Bool
 is_added Added = true
 is_added Seen = false
 
+abbrev pub is_run : ProbeRule → Bool
+is_run probes.Run = true
+is_run probes.Record = false
+
+abbrev pub is_tick : JudgeRule → Bool
+is_tick judges.Tick = true
+is_tick judges.Pass = false
+
+abbrev pub is_keep : SightRule → Bool
+is_keep sights.Keep = true
+is_keep sights.Strip = false
+
+abbrev pub is_empty : BucketRule → Bool
+is_empty buckets.Empty = true
+is_empty buckets.Full = false
+
 -- for nodes the delays of kubelets count too
 abbrev pub outage_with : Doc → Reach → Reach → Outage
 outage_with doc own posts = record {
   calm = calm_with doc (with_far posts.far own);
   kubelets = nat_lt 0 (length doc.kubelets);
   passes_take_no_work = doc.settings.rules.ready_millis == 0;
+  probes_by_run = is_run doc.settings.rules.probe;
+  judges_by_own = is_tick doc.settings.rules.judge && is_keep doc.settings.rules.first_sight;
+  starts_empty = is_empty doc.settings.rules.bucket;
   evicts_by_own = is_added doc.settings.rules.evict_from && doc.settings.rules.evict_burst == 0;
   posts_slow = beat_micros doc * posts.least;
   posts_fast = beat_micros doc * posts.greatest;

@@ -85,9 +85,9 @@ abbrev pub marked_if : Outage → Bool → Option Marked
 marked_if o true = Some (record { least = since_death o (unknown_least o); most = unknown_most o * o.calm.beat_millis })
 marked_if o false = None
 
--- and passes take no time
+-- and passes take no time, and nodes are silent by the run
 abbrev pub marks : Outage → Bool
-marks o = (o.kubelets && posts o) && o.passes_take_no_work
+marks o = ((o.kubelets && posts o) && o.passes_take_no_work) && o.probes_by_run
 
 -- from the death of a node's kubelet until the node is marked Unknown
 unfoldable pub until_unknown : Outage → Option Marked
@@ -104,9 +104,9 @@ abbrev pub tainted_if : Outage → Bool → ℕ → ℕ → Option Tainted
 tainted_if o true least most = Some (tainted_after o least most)
 tainted_if o false least most = None
 
--- until it is tainted
+-- until it is tainted, where nodes are judged at each tick and buckets start empty
 abbrev pub taints : Outage → Bool
-taints o = marks o && not (o.rate == 0)
+taints o = ((marks o && o.judges_by_own) && o.starts_empty) && not (o.rate == 0)
 
 unfoldable pub until_tainted : Outage → Option Tainted
 until_tainted o = tainted_if o (taints o) 0 0

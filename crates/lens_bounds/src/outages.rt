@@ -15,6 +15,12 @@ pub struct Outage {
     pub kubelets: bool,
     /// Whether a pass takes no time for the pods of the nodes that it marks.
     pub passes_take_no_work: bool,
+    /// Whether a node's silence counts from when it was last heard of in the run.
+    pub probes_by_run: bool,
+    /// Whether nodes are judged at each tick, and keep their condition taints as they are first seen.
+    pub judges_by_own: bool,
+    /// Whether a zone's bucket starts empty.
+    pub starts_empty: bool,
     /// Whether pods are due by the times of their nodes' taints, and go without a limit.
     pub evicts_by_own: bool,
     /// How far the slowest clock of a kubelet goes in a beat, in units of 10^-12 s.
@@ -169,7 +175,7 @@ fn posts(o: Outage) -> bool
 fn marks(o: Outage) -> bool
     ensures { result ≡ spec.marks o }
 {
-    o.kubelets && posts(o) && o.passes_take_no_work
+    o.kubelets && posts(o) && o.passes_take_no_work && o.probes_by_run
 }
 
 /// So many beats in milliseconds.
@@ -193,7 +199,7 @@ fn since_death(o: Outage, beats: u128) -> Since
 }
 
 /// From the death of a node's kubelet until the node is marked Unknown, at least and at most, while a leader attends to its nodes. None where
-/// the kubelets' replies come too late, there is no kubelet, or passes take time. Takes no memory.
+/// the kubelets' replies come too late, there is no kubelet, passes take time, or nodes are silent by what a term has recorded. Takes no memory.
 #[tactic(auto, unfolding(crate::specs::Outages::until_unknown))]
 pub fn until_unknown(o: Outage) -> Option<Marked>
     requires { IsOutage o }
@@ -209,8 +215,8 @@ pub fn until_unknown(o: Outage) -> Option<Marked>
     }
 }
 
-/// Until it is tainted, where its zone has this rate all the while, and so many nodes of it wait before. None also where the rate is 0. Takes
-/// no memory.
+/// Until it is tainted, where its zone has this rate all the while, and so many nodes of it wait before. None also where the rate is 0, nodes
+/// are judged at passes alone or stripped at first sight, or a zone's bucket starts full. Takes no memory.
 #[tactic(auto, unfolding(crate::specs::Outages::until_tainted))]
 pub fn until_tainted(o: Outage) -> Option<Tainted>
     requires { IsOutage o }
@@ -239,7 +245,7 @@ fn tainted_by(o: Outage, least: u128, most: u128) -> Option<Tainted>
     requires most { most ≤ 20000000000000000000000000000 }
     ensures { result ≡ spec.tainted_if o (spec.taints o) least most }
 {
-    if marks(o) && o.rate != 0 {
+    if marks(o) && o.judges_by_own && o.starts_empty && o.rate != 0 {
         Some(tainted_after(o, least, most))
     } else {
         None

@@ -9,7 +9,9 @@ ghost use Rattle.lens_bounds.specs.Outages.{IsOutage};
 
 use crate::calm::{Calm, Waits};
 use crate::outages::Outage;
-use kube_objects::{EvictRule, NumberList, Proc, Rules, What};
+use kube_objects::{
+    BucketRule, EvictRule, JudgeRule, NumberList, ProbeRule, Proc, Rules, SightRule, What,
+};
 use script_reader::Document;
 
 /// What messages and clocks of some processes may do.
@@ -222,6 +224,13 @@ pub fn outage_of(document: &Document) -> Outage
     )
 }
 
+/// Whether nodes are judged at each tick, and keep their condition taints as they are first seen.
+fn judges_by_own(rules: Rules) -> bool
+    ensures { result ≡ (spec.is_tick rules.judge && spec.is_keep rules.first_sight) }
+{
+    matches!(rules.judge, JudgeRule::Tick) && matches!(rules.first_sight, SightRule::Keep)
+}
+
 /// Whether pods are due by the times of their nodes' taints, and go without a limit.
 fn evicts_by_own(rules: Rules) -> bool
     ensures { result ≡ (spec.is_added rules.evict_from && rules.evict_burst == 0) }
@@ -243,6 +252,9 @@ fn outage_with(document: &Document, own: Reach, posts: Reach) -> Outage
         calm: calm_with(document, both),
         kubelets: !document.kubelets.as_slice().is_empty(),
         passes_take_no_work: document.settings.rules.ready_millis == 0,
+        probes_by_run: matches!(document.settings.rules.probe, ProbeRule::Run),
+        judges_by_own: judges_by_own(document.settings.rules),
+        starts_empty: matches!(document.settings.rules.bucket, BucketRule::Empty),
         evicts_by_own: evicts_by_own(document.settings.rules),
         posts_slow: micros * u64::from(posts.least),
         posts_fast: micros * u64::from(posts.greatest),

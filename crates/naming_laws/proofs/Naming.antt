@@ -40,7 +40,6 @@ use Rattle.manifest_json.specs.Fields.{Texts}
 use Rattle.manifest_json.specs.Readable.{IsNameNumber, IsReadableHolder, IsReadableItem}
 use Rattle.script_reader.specs.Lawful.{IsLawfulDoc, IsWellNamed}
 use Rattle.script_reader.specs.Walk.{numbers_of}
-use Rattle.script_reader.proofs.OwnDocuments.{own-document}
 use Rattle.naming_laws.specs.Items.{IsWritableItem}
 use Rattle.naming_laws.specs.Laws.{DeedsAreWritable, ItemsAreWellFormed, ItemsAreWritable}
 use Rattle.naming_laws.specs.WellFormed.{IsIncarnation, IsWellFormedItem}
@@ -347,7 +346,7 @@ module _ (names : Texts) (doc : Doc) (fixed : HoldsFixed names) (lawful : IsLawf
       let before : StartsAreOfMembers n h = walk_tick doc k q (λ g. StartsAreOfMembers n g → StartsAreOfMembers n h) (λ t g made s good. s good.1) h (λ good. good) good in
       let well = s le before in
       record {
-        fit = keeps_tick names known fixed doc (own-document doc lawful) k q (early q.process k le) h well.fit;
+        fit = keeps_tick names known fixed doc k q (early q.process k le) h well.fit;
         actors = walk_tick doc k q (ActorsAre n) (λ t g made are. (controller_within q.process ticking.role, tt, are)) h well.actors;
       }
 

@@ -1,9 +1,10 @@
 -- Taints of which no two have the same key and effect stay so: where some are taken away, where times are given to them, and where a
--- condition taint is added that isn't there.
-use Rattle.std.proofs.Common.{◌≡◌, ℕ, ◌==◌, ◌&&◌, ◌||◌, not, Bool, true, false, cond, List, [], ◌∷◌, ◌++◌, filter, Some, refl, sym, ap, ◌∙◌, subst}
+-- condition taint is added that isn't there, or put in its place.
+use Rattle.std.proofs.Common.{◌≡◌, ℕ, ◌==◌, ◌&&◌, ◌||◌, not, Bool, true, false, cond, List, [], ◌∷◌, ◌++◌, map, filter, if◌then◌else◌, Some, refl, sym, ap, ◌∙◌, subst}
 use Rattle.std.proofs.lemmas.Bool.{eqb-true, eq-eqb}
 use Rattle.std.proofs.lemmas.List.Folds.{list_any-append}
 use Rattle.std.specs.List.{list_any}
+use Rattle.std.specs.Prelude.{if◌then◌else◌}
 use Rattle.kube_objects.specs.declared.node.Effect.{Effect}
 use Rattle.kube_objects.specs.declared.node.Effect.TheVariants.{NoSchedule, PreferNoSchedule, NoExecute}
 use Rattle.kube_objects.specs.declared.node.Taint.{Taint}
@@ -75,7 +76,27 @@ filtered test less earlier (t ∷ ts) fewer differ =
 pub differ_filter : (test : Taint → Bool) (ts : List Taint) → taints_differ [] ts ≡ true → taints_differ [] (filter test ts) ≡ true
 differ_filter test ts differ = filtered test [] [] ts (λ t none. none) differ
 
--- ---- a condition taint is added
+-- ---- some are changed, each with its key and effect
+
+module _ (f : Taint → Taint) (alike : (s t : Taint) → same_taint (f s) (f t) ≡ same_taint s t) where
+  mapped_any : (s : Taint) (ts : List Taint) → list_any (same_taint (f s)) (map f ts) ≡ list_any (same_taint s) ts
+  mapped_any s [] = refl
+  mapped_any s (t ∷ ts) = ap (λ b. b || list_any (same_taint (f s)) (map f ts)) (alike s t) ∙ ap (λ b. same_taint s t || b) (mapped_any s ts)
+
+  mapped_push : (ts : List Taint) (t : Taint) → map f (ts ++ t ∷ []) ≡ map f ts ++ f t ∷ []
+  mapped_push [] t = refl
+  mapped_push (s ∷ ts) t = ap (λ xs. f s ∷ xs) (mapped_push ts t)
+
+  pub differ_mapped : (earlier ts : List Taint) → taints_differ earlier ts ≡ true → taints_differ (map f earlier) (map f ts) ≡ true
+  differ_mapped earlier [] differ = refl
+  differ_mapped earlier (t ∷ ts) differ =
+      let first = and_left (not (list_any (same_taint t) earlier)) (taints_differ (earlier ++ t ∷ []) ts) differ in
+      let rest = and_right (not (list_any (same_taint t) earlier)) (taints_differ (earlier ++ t ∷ []) ts) differ in
+      and_both (not (list_any (same_taint (f t)) (map f earlier))) (taints_differ (map f earlier ++ f t ∷ []) (map f ts))
+      (ap not (mapped_any t earlier) ∙ first)
+      (subst (λ xs. taints_differ xs (map f ts) ≡ true) (mapped_push earlier t) (differ_mapped (earlier ++ t ∷ []) ts rest))
+
+-- ---- a condition taint is added, or put in its place
 
 module _ (doc : Doc) (k : ℕ) (q : Identity) (wanted : ℕ) (key : is_condition_key wanted ≡ true) where
   abbrev new : Taint
@@ -109,12 +130,62 @@ module _ (doc : Doc) (k : ℕ) (q : Identity) (wanted : ℕ) (key : is_condition
   pub differ_added : (ts : List Taint) → list_any (is_wanted wanted) ts ≡ false → taints_differ [] ts ≡ true → taints_differ [] (ts ++ new ∷ []) ≡ true
   differ_added ts none differ = taints_differ-push [] ts new differ (none_like ts none)
 
+  -- in place of the wanted one
+  abbrev pub replaced : Taint → Taint
+  replaced other = if is_wanted wanted other then new else other
+
+  replaced_key : (s : Taint) → (replaced s).key ≡ s.key
+  replaced_key s = by_test (is_wanted wanted s) refl
+    where
+      by_test : (b : Bool) → is_wanted wanted s ≡ b → (if b then new else s).key ≡ s.key
+      by_test true is = sym (eqb-true s.key wanted (and_right (is_condition s) (s.key == wanted) is))
+      by_test false is = refl
+
+  replaced_rank : (s : Taint) → effect_rank (replaced s).effect ≡ effect_rank s.effect
+  replaced_rank s = by_test (is_wanted wanted s) refl
+    where
+      by_effect : (e : Effect) → is_no_execute e ≡ true → 2 ≡ effect_rank e
+      by_effect NoSchedule is = absurd (false_is is)
+      by_effect PreferNoSchedule is = absurd (false_is is)
+      by_effect NoExecute is = refl
+
+      by_test : (b : Bool) → is_wanted wanted s ≡ b → effect_rank (if b then new else s).effect ≡ effect_rank s.effect
+      by_test true is = by_effect s.effect (and_left (is_no_execute s.effect) (is_condition_key s.key) (and_left (is_condition s) (s.key == wanted) is))
+      by_test false is = refl
+
+  replaced_like : (s t : Taint) → same_taint (replaced s) (replaced t) ≡ same_taint s t
+  replaced_like s t =
+      ap (λ k. (k == (replaced t).key) && (effect_rank (replaced s).effect == effect_rank (replaced t).effect)) (replaced_key s)
+      ∙ ap (λ k. (s.key == k) && (effect_rank (replaced s).effect == effect_rank (replaced t).effect)) (replaced_key t)
+      ∙ ap (λ r. (s.key == t.key) && (r == effect_rank (replaced t).effect)) (replaced_rank s)
+      ∙ ap (λ r. (s.key == t.key) && (effect_rank s.effect == r)) (replaced_rank t)
+
+  pub differ_replaced : (ts : List Taint) → taints_differ [] ts ≡ true → taints_differ [] (map replaced ts) ≡ true
+  differ_replaced ts differ = differ_mapped replaced replaced_like [] ts differ
+
+  -- where the wanted one isn't there nothing is replaced
+  pub none_replaced : (ts : List Taint) → list_any (is_wanted wanted) ts ≡ false → map replaced ts ≡ ts
+  none_replaced [] none = refl
+  none_replaced (t ∷ ts) none =
+      ap (λ b. (if b then new else t) ∷ map replaced ts) (or_left (is_wanted wanted t) (list_any (is_wanted wanted) ts) none)
+      ∙ ap (λ xs. t ∷ xs) (none_replaced ts (or_right (is_wanted wanted t) (list_any (is_wanted wanted) ts) none))
+
 -- where no taint is a condition taint, none is the wanted one
 pub none_wanted : (wanted : ℕ) (ts : List Taint) → list_any is_condition ts ≡ false → list_any (is_wanted wanted) ts ≡ false
 none_wanted wanted [] none = refl
 none_wanted wanted (t ∷ ts) none =
     or_none (is_wanted wanted t) (list_any (is_wanted wanted) ts) (ap (λ b. b && (t.key == wanted)) (or_left (is_condition t) (list_any is_condition ts) none))
     (none_wanted wanted ts (or_right (is_condition t) (list_any is_condition ts) none))
+
+-- without condition taints there is none
+pub none_left : (ts : List Taint) → list_any is_condition (filter (λ taint. not (is_condition taint)) ts) ≡ false
+none_left [] = refl
+none_left (t ∷ ts) = by_test (is_condition t) refl (none_left ts)
+  where
+    by_test : (b : Bool) → is_condition t ≡ b → list_any is_condition (filter (λ taint. not (is_condition taint)) ts) ≡ false
+        → list_any is_condition (cond (not b) (t ∷ filter (λ taint. not (is_condition taint)) ts) (filter (λ taint. not (is_condition taint)) ts)) ≡ false
+    by_test true is rest = rest
+    by_test false is rest = or_none (is_condition t) (list_any is_condition (filter (λ taint. not (is_condition taint)) ts)) is rest
 
 -- what isn't there isn't there among fewer
 pub none_filtered : (p test : Taint → Bool) (ts : List Taint) → list_any p ts ≡ false → list_any p (filter test ts) ≡ false
@@ -136,19 +207,11 @@ stamp_like at s t = by_both (is_no_execute s.effect && not (has s.added)) (is_no
     by_both false true = refl
     by_both false false = refl
 
-stamp_any : (at : ℕ) (s : Taint) (ts : List Taint) → list_any (same_taint (stamp_taint at s)) (stamp_all at ts) ≡ list_any (same_taint s) ts
-stamp_any at s [] = refl
-stamp_any at s (t ∷ ts) = ap (λ b. b || list_any (same_taint (stamp_taint at s)) (stamp_all at ts)) (stamp_like at s t) ∙ ap (λ b. same_taint s t || b) (stamp_any at s ts)
-
-stamp_push : (at : ℕ) (ts : List Taint) (t : Taint) → stamp_all at (ts ++ t ∷ []) ≡ stamp_all at ts ++ stamp_taint at t ∷ []
-stamp_push at [] t = refl
-stamp_push at (s ∷ ts) t = ap (λ xs. stamp_taint at s ∷ xs) (stamp_push at ts t)
+stamp_map : (at : ℕ) (ts : List Taint) → stamp_all at ts ≡ map (stamp_taint at) ts
+stamp_map at [] = refl
+stamp_map at (t ∷ ts) = ap (λ xs. stamp_taint at t ∷ xs) (stamp_map at ts)
 
 pub differ_stamped : (at : ℕ) (earlier ts : List Taint) → taints_differ earlier ts ≡ true → taints_differ (stamp_all at earlier) (stamp_all at ts) ≡ true
-differ_stamped at earlier [] differ = refl
-differ_stamped at earlier (t ∷ ts) differ =
-    let first = and_left (not (list_any (same_taint t) earlier)) (taints_differ (earlier ++ t ∷ []) ts) differ in
-    let rest = and_right (not (list_any (same_taint t) earlier)) (taints_differ (earlier ++ t ∷ []) ts) differ in
-    and_both (not (list_any (same_taint (stamp_taint at t)) (stamp_all at earlier))) (taints_differ (stamp_all at earlier ++ stamp_taint at t ∷ []) (stamp_all at ts))
-    (ap not (stamp_any at t earlier) ∙ first)
-    (subst (λ xs. taints_differ xs (stamp_all at ts) ≡ true) (stamp_push at earlier t) (differ_stamped at (earlier ++ t ∷ []) ts rest))
+differ_stamped at earlier ts differ =
+    subst (λ es. taints_differ es (stamp_all at ts) ≡ true) (sym (stamp_map at earlier))
+    (subst (λ xs. taints_differ (map (stamp_taint at) earlier) xs ≡ true) (sym (stamp_map at ts)) (differ_mapped (stamp_taint at) (stamp_like at) earlier ts differ))

@@ -1,5 +1,5 @@
 -- A tick of a controller keeps a history of which all can be written.
-use Rattle.std.proofs.Common.{◌≡◌, ℕ, ◌≤◌, ◌==◌, ◌&&◌, ◌||◌, not, Bool, true, false, cond, List, [], ◌∷◌, filter, Option, Some, None, refl, sym, subst, arith}
+use Rattle.std.proofs.Common.{◌≡◌, ℕ, ◌≤◌, ◌==◌, ◌&&◌, ◌||◌, not, Bool, true, false, cond, List, [], ◌∷◌, ◌++◌, map, filter, Option, Some, None, refl, sym, subst, arith}
 use Rattle.std.specs.Prelude.{if◌then◌else◌}
 use Rattle.std.proofs.lemmas.Bool.{eqb-true, leb-true}
 use Rattle.std.specs.List.{AllByRecursion, list_any}
@@ -26,17 +26,16 @@ use Rattle.kube_objects.specs.Answers.{as_kind, answer_update}
 use Rattle.kube_objects.specs.Clocks.{wall, whole_second}
 use Rattle.kube_objects.specs.Deletes.{delete_at_node, delete_over, delete_alone_over}
 use Rattle.kube_objects.specs.Document.{Doc}
-use Rattle.kube_objects.specs.Entry.{Entry, Identity, Place, Ticks, Tick, Sync, Pass, Mark, Mode, Zone, Untaint, Swap, Head, Delete, actor_of}
+use Rattle.kube_objects.specs.Entry.{Entry, Identity, Place, Ticks, Tick, Sync, Pass, Mark, Mode, Zone, Untaint, Swap, Head, Delete, Skip, actor_of}
 use Rattle.kube_objects.specs.Health.{is_pass_due, is_unknown, is_silent, marked, with_mark}
 use Rattle.kube_objects.specs.InForce.{watches}
+use Rattle.kube_objects.specs.Judgement.{Passed, has_marked, judged_by, is_new}
 use Rattle.kube_objects.specs.Modes.{is_in, and_node, nodes_among, nodes, place_of, place_cmp, places, state_in, rate_in, all_full, mode}
 use Rattle.kube_objects.specs.Newest.{when, only_if}
-use Rattle.kube_objects.specs.Own.{IsOwn}
-use Rattle.kube_objects.proofs.Own.{cleaned-own, tainted-own}
 use Rattle.kube_objects.specs.Seen.{seen, pod_in, seen_node, seen_pod, is_fresh, is_synced, is_stale, node_names, is_pod}
 use Rattle.kube_objects.specs.Stored.{Held, node_key, stored, next_version, node_write, try_write, tick_write}
 use Rattle.kube_objects.specs.Tainting.{Wants, Nothing, Wanted, Whatever, wants_by, wants_ready, wants, is_condition, has_condition, is_wanted, is_opposite, wanted_key, lacks, lacks_in, waits, Queued, head_of}
-use Rattle.kube_objects.specs.Tick.{add, for_each, has_settled, is_stripped, sync, mark_as, mark_seen, mark, is_same_mode, mode_as, set_mode, zone_as, zone, set_zones, marks, pass, new_taint, with_taints, untainted, and_taint, swapped, clean_as, clean_seen, clean, cleaned, tainted_with, taint_as, taint_head, taint, tainted, evict, tick, whole_pass, add_untaint, add_swap, taint_first, phases}
+use Rattle.kube_objects.specs.Tick.{add, for_each, has_settled, is_stripped, sync, mark_as, mark_seen, mark, is_same_mode, mode_as, set_mode, zone_as, zone, set_zones, marks, pass, new_taint, with_taints, untainted, and_taint, swapped, clean_as, clean_seen, clean, cleaned, retainted, crossed, judge, tainted_with, taint_as, taint_head, taint, restamped, push, tainted, evict, tick, whole_pass, add_untaint, add_swap, taint_first, phases}
 use Rattle.kube_objects.specs.Tokens.{rated, is_rated, has_token}
 use Rattle.kube_objects.specs.Tries.{as_answer, tried, try_node, try_delete, try_delete_alone}
 use Rattle.kube_objects.specs.Wire.{loses_requests}
@@ -44,16 +43,16 @@ use Rattle.kube_objects.specs.Writable.{answers_write, is_condition_key}
 use Rattle.history.specs.Printed.{map_answer, tick_act}
 use Rattle.history_laws.proofs.Counting.{only_test, only_value}
 use Rattle.history_laws.proofs.Plainly.{some_is, none_is, false_is, and_both, not_true}
-use Rattle.history_laws.proofs.Ticks.{IsPodKey, IsDelete, IsSightedDelete, IsDeleteBy, evict_step, evicted_each}
+use Rattle.history_laws.proofs.Ticks.{IsPodKey, IsDelete, IsSightedDelete, IsDeleteBy, judge_step, cleaned_each, push_step, tainted_each, evict_step, evicted_each}
 use Rattle.manifest_json.specs.Fields.{Texts}
 use Rattle.manifest_json.specs.Readable.{IsHeld, IsFilled, IsNameNumber, IsWholeSecond, IsReadableTaint, IsReadableReady, taints_differ}
 use Rattle.naming_laws.specs.WellFormed.{IsWellFormedNode}
 use Rattle.naming_laws.proofs.Answered.{second_whole}
 use Rattle.naming_laws.proofs.Fits.{IsFitWrite, IsTold, IsFitFact, AreFit, IsFitFound, seen_fit, node_seen_fit}
-use Rattle.naming_laws.proofs.Lists.{all_append, all_filter, all_once}
+use Rattle.naming_laws.proofs.Lists.{all_append, all_filter, all_map, all_once}
 use Rattle.naming_laws.proofs.Readings.{space_held}
 use Rattle.naming_laws.proofs.Requests.{IsEarly}
-use Rattle.naming_laws.proofs.Taints.{differ_filter, differ_added, none_wanted, none_filtered}
+use Rattle.naming_laws.proofs.Taints.{differ_filter, differ_added, replaced, differ_replaced, none_replaced, none_wanted, none_left, none_filtered}
 use Rattle.naming_laws.proofs.Texts.{HoldsFixed}
 
 -- ---- answers of tries
@@ -124,6 +123,14 @@ by_ready (Some r) = by_status r.status
     by_status ready.False = refl
     by_status ready.Unknown = refl
 
+judged_fit : (marked : Bool) (o : Option Ready) (wanted : ℕ) → judged_by marked o ≡ Wanted wanted → is_condition_key wanted ≡ true
+judged_fit marked o wanted is = subst (λ w. IsWantedKey (wanted_key w)) is (by_old marked o)
+  where
+    by_old : (marked : Bool) (o : Option Ready) → IsWantedKey (wanted_key (judged_by marked o))
+    by_old marked (Some r) = by_ready (Some r)
+    by_old true None = refl
+    by_old false None = tt
+
 wanted_fit : (on : Bool) (node : Node) → IsWantedKey (wanted_key (wants on node))
 wanted_fit true node = tt
 wanted_fit false node = by_ready node.ready
@@ -143,7 +150,7 @@ bare_fit on place (Some y) x wanted at is =
 
 -- ---- the tick
 
-module _ (names : Texts) (known : List ℕ) (fixed : HoldsFixed names) (doc : Doc) (own : IsOwn doc) (k : ℕ) (q : Identity) (early : IsEarly doc q.process k) where
+module _ (names : Texts) (known : List ℕ) (fixed : HoldsFixed names) (doc : Doc) (k : ℕ) (q : Identity) (early : IsEarly doc q.process k) where
   abbrev Fit : List Entry → Type 0
   Fit h = AreFit names known h
 
@@ -205,6 +212,48 @@ module _ (names : Texts) (known : List ℕ) (fixed : HoldsFixed names) (doc : Do
         differ_added doc k q wanted key others (none_filtered (is_wanted wanted) (λ other. not (is_opposite wanted other)) node.taints is) apart,
       )
 
+  retainted_fit : (wanted : ℕ) (node : Node) → is_condition_key wanted ≡ true → IsWellFormedNode names node → IsWellFormedNode names (retainted (new_taint doc k q wanted) node)
+  retainted_fit wanted node key fit =
+      let bare = untainted_fit node fit in
+      taints_fit node _ fit (all_append (IsReadableTaint names) (untainted node).taints (new_taint doc k q wanted ∷ []) bare.taints (new_fit wanted key, tt))
+      (differ_added doc k q wanted key (untainted node).taints (none_wanted wanted (untainted node).taints (none_left node.taints)) bare.differ)
+
+  restamped_fit : (wanted : ℕ) (node : Node) → is_condition_key wanted ≡ true → IsWellFormedNode names node → IsWellFormedNode names (restamped (new_taint doc k q wanted) node)
+  restamped_fit wanted node key fit =
+      let both = by_there (list_any (is_wanted wanted) node.taints) refl in
+      taints_fit node _ fit both.0 both.1
+    where
+      others : List Taint
+      others = filter (λ other. not (is_opposite wanted other)) node.taints
+
+      replace : Taint → Taint
+      replace other = replaced doc k q wanted key other
+
+      left : AllByRecursion (IsReadableTaint names) others
+      left = all_filter (IsReadableTaint names) (λ other. not (is_opposite wanted other)) node.taints fit.taints
+
+      apart : taints_differ [] others ≡ true
+      apart = differ_filter (λ other. not (is_opposite wanted other)) node.taints fit.differ
+
+      by_one : (t : Taint) → IsReadableTaint names t → (b : Bool) → IsReadableTaint names (if b then new_taint doc k q wanted else t)
+      by_one t old true = new_fit wanted key
+      by_one t old false = old
+
+      all : AllByRecursion (IsReadableTaint names) (map replace others)
+      all = all_map (IsReadableTaint names) replace others (λ t old. by_one t old (is_wanted wanted t)) left
+
+      AreGood : List Taint → Type 0
+      AreGood taints = AllByRecursion (IsReadableTaint names) taints × (taints_differ [] taints ≡ true)
+
+      by_there : (b : Bool) → list_any (is_wanted wanted) node.taints ≡ b → AreGood (and_taint b (new_taint doc k q wanted) (map replace others))
+      by_there true is = (all, differ_replaced doc k q wanted key others apart)
+      by_there false is =
+          let none = none_filtered (is_wanted wanted) (λ other. not (is_opposite wanted other)) node.taints is in
+          let same = none_replaced doc k q wanted key others none in (
+            all_append (IsReadableTaint names) (map replace others) (new_taint doc k q wanted ∷ []) all (new_fit wanted key, tt),
+            subst (λ ts. taints_differ [] (ts ++ new_taint doc k q wanted ∷ []) ≡ true) (sym same) (differ_added doc k q wanted key others none apart),
+          )
+
   tainted_fit : (wanted : ℕ) (node : Node) → is_condition_key wanted ≡ true → has_condition node ≡ false → IsWellFormedNode names node
       → IsWellFormedNode names (tainted_with (new_taint doc k q wanted) node)
   tainted_fit wanted node key none fit =
@@ -244,23 +293,44 @@ module _ (names : Texts) (known : List ℕ) (fixed : HoldsFixed names) (doc : Do
     carries = tt;
   }
 
-  swap_fact : (name wanted : ℕ) (given : Version) (node : Node) (h : List Entry) → is_condition_key wanted ≡ true → IsFitFound names known name node
-      → IsFitFact names known (actor_of q) (Ticks (Swap name wanted given (swapped (new_taint doc k q wanted) node) (try_node q name given h)))
-  swap_fact name wanted given node h key found = let held = condition_held wanted key in record {
+  swap_as : (name wanted : ℕ) (given : Version) (node written : Node) (h : List Entry) → is_condition_key wanted ≡ true → IsFitFound names known name node → IsWellFormedNode names written
+      → IsFitFact names known (actor_of q) (Ticks (Swap name wanted given written (try_node q name given h)))
+  swap_as name wanted given node written h key found fit = let held = condition_held wanted key in record {
     told = told_by (λ a. act.Swapped name wanted a) (λ a is. (record { form = and_both (is_condition_key wanted) (answers_write a) key is; held = (found.held.0, (held.0, tt)); timely = tt }, refl))
         (try_node q name given h) (node_tried q name given h);
-    wrote = wrote_by name (swapped (new_taint doc k q wanted) node) found.held (swapped_fit wanted node key found.fit) (try_node q name given h);
+    wrote = wrote_by name written found.held fit (try_node q name given h);
+    carries = tt;
+  }
+
+  swap_fact : (name wanted : ℕ) (given : Version) (node : Node) (h : List Entry) → is_condition_key wanted ≡ true → IsFitFound names known name node
+      → IsFitFact names known (actor_of q) (Ticks (Swap name wanted given (swapped (new_taint doc k q wanted) node) (try_node q name given h)))
+  swap_fact name wanted given node h key found = swap_as name wanted given node (swapped (new_taint doc k q wanted) node) h key found (swapped_fit wanted node key found.fit)
+
+  -- a swap of a pass, of a node that may be new
+  crossed_fact : (new : Bool) (name wanted : ℕ) (given : Version) (node : Node) (h : List Entry) → is_condition_key wanted ≡ true → IsFitFound names known name node
+      → IsFitFact names known (actor_of q) (Ticks (Swap name wanted given (crossed new (new_taint doc k q wanted) node) (try_node q name given h)))
+  crossed_fact false name wanted given node h key found = swap_fact name wanted given node h key found
+  crossed_fact true name wanted given node h key found = swap_as name wanted given node (retainted (new_taint doc k q wanted) node) h key found (retainted_fit wanted node key found.fit)
+
+  head_as : (place : Place) (name wanted : ℕ) (given : Version) (node written : Node) (h : List Entry) → is_condition_key wanted ≡ true → IsFitFound names known name node → IsWellFormedNode names written
+      → IsFitFact names known (actor_of q) (Ticks (Head place name wanted given written (try_node q name given h)))
+  head_as place name wanted given node written h key found fit = let held = condition_held wanted key in record {
+    told = told_by (λ a. act.Tainted name wanted a) (λ a is. (record { form = and_both (is_condition_key wanted) (answers_write a) key is; held = (found.held.0, (held.0, tt)); timely = tt }, refl))
+        (try_node q name given h) (node_tried q name given h);
+    wrote = wrote_by name written found.held fit (try_node q name given h);
     carries = tt;
   }
 
   head_fact : (place : Place) (name wanted : ℕ) (given : Version) (node : Node) (h : List Entry) → is_condition_key wanted ≡ true → has_condition node ≡ false → IsFitFound names known name node
       → IsFitFact names known (actor_of q) (Ticks (Head place name wanted given (tainted_with (new_taint doc k q wanted) node) (try_node q name given h)))
-  head_fact place name wanted given node h key none found = let held = condition_held wanted key in record {
-    told = told_by (λ a. act.Tainted name wanted a) (λ a is. (record { form = and_both (is_condition_key wanted) (answers_write a) key is; held = (found.held.0, (held.0, tt)); timely = tt }, refl))
-        (try_node q name given h) (node_tried q name given h);
-    wrote = wrote_by name (tainted_with (new_taint doc k q wanted) node) found.held (tainted_fit wanted node key none found.fit) (try_node q name given h);
-    carries = tt;
-  }
+  head_fact place name wanted given node h key none found =
+      head_as place name wanted given node (tainted_with (new_taint doc k q wanted) node) h key found (tainted_fit wanted node key none found.fit)
+
+  -- a push, of a node that may have condition taints
+  pushed_fact : (place : Place) (name wanted : ℕ) (given : Version) (node : Node) (h : List Entry) → is_condition_key wanted ≡ true → IsFitFound names known name node
+      → IsFitFact names known (actor_of q) (Ticks (Head place name wanted given (restamped (new_taint doc k q wanted) node) (try_node q name given h)))
+  pushed_fact place name wanted given node h key found =
+      head_as place name wanted given node (restamped (new_taint doc k q wanted) node) h key found (restamped_fit wanted node key found.fit)
 
   delete_wrote : (pod : Key) (o : Option Answer) → IsFitWrite names known (try_write (pod, None) o)
   delete_wrote pod None = tt
@@ -415,6 +485,11 @@ module _ (names : Texts) (known : List ℕ) (fixed : HoldsFixed names) (doc : Do
       by_stale false None is = fit
       by_stale false (Some x) is = by_wants x (node_seen_fit names known q h fit name x is) (wants (is_stripped doc.settings.rules.first_sight k q name h || mode q h) x.1) (wanted_fit (is_stripped doc.settings.rules.first_sight k q name h || mode q h) x.1)
 
+  keeps_judge : (x : Passed) (name : ℕ) (h : List Entry) → Fit h → Fit (judge doc k q x name h)
+  keeps_judge x name h fit =
+      judge_step doc k q (AreFit names known) x name h fit (λ z is. (untaint_fact name z.0 z.1 h (node_seen_fit names known q h fit name z is), fit))
+      (λ y z was is wanted wants. (crossed_fact (is_new doc q name x.before) name wanted z.0 z.1 h (judged_fit (has_marked q name x) y.1.ready wanted wants) (node_seen_fit names known q h fit name z is), fit))
+
   keeps_taint : (place : Place) (h : List Entry) → Fit h → Fit (taint doc k q place h)
   keeps_taint place h fit = by_token (has_token doc q k place h)
     where
@@ -432,6 +507,11 @@ module _ (names : Texts) (known : List ℕ) (fixed : HoldsFixed names) (doc : Do
       by_token false = fit
       by_token true = by_head (head_of q place (node_names h) h)
 
+  keeps_push : (place : Place) (h : List Entry) → Fit h → Fit (push doc k q place h)
+  keeps_push place h fit =
+      push_step doc k q (AreFit names known) place h fit (λ name token. silent (Skip place name) h tt tt fit)
+      (λ name x token is wanted wants. (pushed_fact place name wanted x.0 x.1 h (subst (λ w. IsWantedKey (wanted_key w)) wants (by_ready x.1.ready)) (node_seen_fit names known q h fit name x is), fit))
+
   keeps_evict : (pod : Key) (h : List Entry) → IsPodKey pod → Fit h → Fit (evict doc k q pod h)
   keeps_evict pod h kind fit =
       evict_step doc k q (AreFit names known) pod h kind fit (λ given node_given at a made. (delete_fits doc.settings.rules.evict_from pod given node_given at a h fit made, fit))
@@ -447,6 +527,6 @@ module _ (names : Texts) (known : List ℕ) (fixed : HoldsFixed names) (doc : Do
           let d = cleaned doc k q b in
           let e = tainted doc k q d in
           let fit_b : Fit b = keeps_pass a (keeps_sync h fit) in
-          let fit_d : Fit d = subst Fit (sym (cleaned-own doc own k q b)) (every (clean doc k q) keeps_clean (node_names b) b fit_b) in
-          let fit_e : Fit e = subst Fit (sym (tainted-own doc own k q d)) (every (taint doc k q) keeps_taint (places (nodes q d)) d fit_d) in
+          let fit_d : Fit d = cleaned_each doc k q (AreFit names known) keeps_clean keeps_judge b fit_b in
+          let fit_e : Fit e = tainted_each doc k q (AreFit names known) keeps_taint keeps_push d fit_d in
           evicted_each doc k q (AreFit names known) keeps_evict e fit_e

@@ -2,5 +2,7 @@
 pub mod Frames
 pub mod Looks
 pub mod Nodes
+pub mod Records
 pub mod Searches
+pub mod Seeing
 pub mod Verdicts

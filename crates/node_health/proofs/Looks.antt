@@ -1,23 +1,21 @@
 -- What a pass, and the end of the all-Full mode, make of a node's part.
-use Rattle.std.proofs.Common.{rules, ◌≡◌, ◌∙◌, ◌==◌, ◌&&◌, ◌||◌, ℕ, ◌+◌, not, Bool, true, false, cond, nat_lt, List, [], ◌∷◌, Option, Some, None, option_map, refl, sym, ap, subst, arith}
+use Rattle.std.proofs.Common.{rules, ◌≡◌, ◌∙◌, ◌&&◌, ◌||◌, ℕ, not, Bool, true, false, cond, List, [], ◌∷◌, Option, Some, None, option_map, refl, sym, ap, arith}
 use Rattle.std.proofs.lemmas.Bool.Decides.{nat_tests}
 use Rattle.kube_base.specs.declared.numbers.Wall.{Wall}
 use Rattle.kube_objects.specs.declared.node.Node.{Node}
 use Rattle.kube_objects.specs.declared.node.Ready.{Ready}
-use Rattle.kube_objects.specs.Clocks.{local, wall, whole_second}
+use Rattle.kube_objects.specs.Clocks.{local}
 use Rattle.kube_objects.specs.Document.{Doc}
 use Rattle.kube_objects.specs.Entry.{Entry, Identity, Fact, Ticks, Pass, Mode, actor_of}
-use Rattle.kube_objects.specs.Health.{at_pass, grace_of, hears, heartbeat, is_found, is_known, is_later, is_news, is_probe, is_silent, is_unknown, keeps, kept_heartbeat, kept_renewal, last_pass, mark_of, marked, node_heartbeat, pass_says, probe, ready_heartbeat, renewal, with_mark}
+use Rattle.kube_objects.specs.Health.{at_pass, grace_of, hears, heartbeat, is_found, is_known, is_later, is_news, is_probe, is_unknown, keeps, kept_heartbeat, kept_renewal, last_pass, marked, pass_says, probe, renewal, with_mark}
 use Rattle.kube_objects.specs.Identities.{is_by}
 use Rattle.kube_objects.specs.Newest.{has, join, newest, only_if, or_else, or_zero, when}
 use Rattle.kube_objects.specs.Tick.{add}
-use Rattle.kube_objects.proofs.Own.{heard-own}
 use Rattle.node_health.specs.declared.grace.Grace.{Grace}
-use Rattle.node_health.specs.declared.health.Health.{Health}
 use Rattle.node_health.specs.declared.known.Known.{Known}
 use Rattle.node_health.specs.declared.verdict.Verdict.TheVariants.{Keep, MarkUnknown}
-use Rattle.node_health.specs.Kept.{after_look, at_reading, grace_for, is_listed, judged, kept, newer, probe_after, reason_for, verdict_of}
-use Rattle.node_health.specs.Stands.{HealthStands, IsGraceOf, IsLook, NodeStands, PassStands, and_looked, passed}
+use Rattle.node_health.specs.Kept.{after_look, at_reading, grace_for, judged, newer, probe_after, reason_for, verdict_of}
+use Rattle.node_health.specs.Stands.{IsGraceOf, NodeStands}
 
 pub mine : (q : Identity) → is_by q (actor_of q) ≡ true
 mine q = grind (arith, nat_tests)
@@ -64,7 +62,7 @@ keeps-newer : (at : Option Wall) (before : Option (Option Wall)) → newer at (j
 keeps-newer None before = refl
 keeps-newer (Some at) before = refl
 
-local-cond : (doc : Doc) (p k before : ℕ) (b : Bool) → local doc p (cond b k before) ≡ cond b (local doc p k) (local doc p before)
+pub local-cond : (doc : Doc) (p k before : ℕ) (b : Bool) → local doc p (cond b k before) ≡ cond b (local doc p k) (local doc p before)
 local-cond doc p k before true = refl
 local-cond doc p k before false = refl
 
@@ -78,7 +76,7 @@ hears-unknown q h doc name s =
     ap (λ b. not b || is_news (heartbeat q name h) (kept_heartbeat q name h) || is_later (renewal q name h) (kept_renewal q name h)) (sym s.known)
 
 -- the reading of the probe after the pass
-probe-looked : (doc : Doc) (k : ℕ) (q : Identity) (h : List Entry) (name : ℕ) (x : Option Known) (at renewed : Option Wall) (now : ℕ)
+pub probe-looked : (doc : Doc) (k : ℕ) (q : Identity) (h : List Entry) (name : ℕ) (x : Option Known) (at renewed : Option Wall) (now : ℕ)
     → NodeStands doc q h name x → heartbeat q name h ≡ at → renewal q name h ≡ renewed → now ≡ local doc q.process k
     → probe_after x at renewed now ≡ local doc q.process (probe q name (add k q Pass h))
 probe-looked doc k q h name None at renewed now s shown lease reading =
@@ -116,71 +114,22 @@ node-missed doc k q h name missed =
       probe = tt;
     }
 
--- ---- the looks of a pass
-
-pub pass-looked : (doc : Doc) (k : ℕ) (q : Identity) (h : List Entry) (looked : ℕ → Bool) (old new : Health) (node : ℕ) (seen : Node) (renewed : Option Wall) (now : ℕ) (grace : Grace)
-    → PassStands doc k q h looked old → looked node ≡ false → IsLook doc k q h node seen renewed now grace
-    → ((other : ℕ) → kept new other ≡ cond (node == other) (Some (after_look (kept old node) (ready_heartbeat seen.ready) renewed now)) (kept old other))
-    → PassStands doc k q h (and_looked node looked) new
-pass-looked doc k q h looked old new node seen renewed now grace s fresh look keeps name =
-    subst (NodeStands doc q (passed k q (and_looked node looked name) h) name) (sym (keeps name)) (by_test (node == name) refl)
-  where
-    here : NodeStands doc q h node (kept old node)
-    here = subst (λ b. NodeStands doc q (passed k q b h) node (kept old node)) fresh (s node)
-
-    now_here : NodeStands doc q (add k q Pass h) node (Some (after_look (kept old node) (ready_heartbeat seen.ready) renewed now))
-    now_here = node-looked doc k q h node (kept old node) (ready_heartbeat seen.ready) renewed now here (ap has look.shown) (ap node_heartbeat look.shown) look.lease look.reading
-
-    by_test : (b : Bool) → (node == name) ≡ b → NodeStands doc q (passed k q (b || looked name) h) name (cond b (Some (after_look (kept old node) (ready_heartbeat seen.ready) renewed now)) (kept old name))
-    by_test true is =
-        let same : node ≡ name = grind (arith, nat_tests, is) in
-        subst (λ n. NodeStands doc q (add k q Pass h) n (Some (after_look (kept old node) (ready_heartbeat seen.ready) renewed now))) same now_here
-    by_test false is = s name
-
-pub pass-forgotten : (doc : Doc) (k : ℕ) (q : Identity) (h : List Entry) (names : List ℕ) (old new : Health)
-    → PassStands doc k q h (is_listed names) old → ((node : ℕ) → is_found q node h ≡ is_listed names node)
-    → ((node : ℕ) → kept new node ≡ cond (is_listed names node) (kept old node) None) → HealthStands doc q (add k q Pass h) new
-pass-forgotten doc k q h names old new s found keeps name =
-    subst (NodeStands doc q (add k q Pass h) name) (sym (keeps name)) (by_test (is_listed names name) refl)
-  where
-    by_test : (b : Bool) → is_listed names name ≡ b → NodeStands doc q (add k q Pass h) name (cond b (kept old name) None)
-    by_test true is = subst (λ b. NodeStands doc q (passed k q b h) name (kept old name)) is (s name)
-    by_test false is = node-missed doc k q h name (found name ∙ is)
-
 -- ---- the verdict
 
 reason-marked : (at : ℕ) (r : Option Ready) → reason_for r ≡ (marked at r).reason
 reason-marked at None = refl
 reason-marked at (Some r) = refl
 
-grace-is : (doc : Doc) (grace : Grace) (r : Option Ready) → IsGraceOf doc grace → grace_for grace r ≡ grace_of doc r
+pub grace-is : (doc : Doc) (grace : Grace) (r : Option Ready) → IsGraceOf doc grace → grace_for grace r ≡ grace_of doc r
 grace-is doc grace None is = is.startup
 grace-is doc grace (Some r) is = is.grace
 
-judged-mark : (at : ℕ) (node : Node) (silent : Bool) → judged node.ready silent ≡ verdict_of (when (not (is_unknown node.ready) && silent) (with_mark at node))
+pub judged-mark : (at : ℕ) (node : Node) (silent : Bool) → judged node.ready silent ≡ verdict_of (when (not (is_unknown node.ready) && silent) (with_mark at node))
 judged-mark at node silent = by_test (not (is_unknown node.ready) && silent)
   where
     by_test : (b : Bool) → cond b (MarkUnknown (reason_for node.ready)) Keep ≡ verdict_of (when b (with_mark at node))
     by_test true = ap MarkUnknown (reason-marked at node.ready)
     by_test false = refl
-
-pub look-marks : (doc : Doc) (k : ℕ) (q : Identity) (h : List Entry) (looked : ℕ → Bool) (old : Health) (node : ℕ) (seen : Node) (renewed : Option Wall) (now : ℕ) (grace : Grace)
-    → PassStands doc k q h looked old → looked node ≡ false → IsLook doc k q h node seen renewed now grace
-    → judged seen.ready (nat_lt ((after_look (kept old node) (ready_heartbeat seen.ready) renewed now).probe.0 + grace_for grace seen.ready) now)
-    ≡ verdict_of (mark_of doc q k node seen (add k q Pass h))
-look-marks doc k q h looked old node seen renewed now grace s fresh look =
-    ap (judged seen.ready) silent_is ∙ judged-mark (whole_second (wall doc q.process k)) seen (is_silent doc q k node seen.ready (add k q Pass h))
-  where
-    here : NodeStands doc q h node (kept old node)
-    here = subst (λ b. NodeStands doc q (passed k q b h) node (kept old node)) fresh (s node)
-
-    probe_is : probe_after (kept old node) (ready_heartbeat seen.ready) renewed now ≡ local doc q.process (probe q node (add k q Pass h))
-    probe_is = probe-looked doc k q h node (kept old node) (ready_heartbeat seen.ready) renewed now here (ap node_heartbeat look.shown) look.lease look.reading
-
-    silent_is : nat_lt (probe_after (kept old node) (ready_heartbeat seen.ready) renewed now + grace_for grace seen.ready) now ≡ is_silent doc q k node seen.ready (add k q Pass h)
-    silent_is =
-        (λ i. nat_lt (probe_is i + grace-is doc grace seen.ready look.graces i) (look.reading i))
-        ∙ ap (λ at. nat_lt (local doc q.process at + grace_of doc seen.ready) (local doc q.process k)) (sym (heard-own doc look.graces.own q node (add k q Pass h)))
 
 -- ---- the end of the all-Full mode
 

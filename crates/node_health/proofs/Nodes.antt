@@ -106,3 +106,11 @@ each-heard names now node old new is named = is ∙ by_test (is_listed names nod
 pub heard-named : (names : List ℕ) (now node : ℕ) (old new : Option Known) → new ≡ heard names now node old → (is_listed names node ≡ false → old ≡ None)
     → is_listed names node ≡ false → new ≡ None
 heard-named names now node old new is named absent = is ∙ ap (λ b. cond b (option_map (at_reading now) old) old) absent ∙ named absent
+
+-- of what isn't kept nothing is kept afterwards, whichever are heard of
+pub these-named : (listed : List ℕ) (now node : ℕ) (old new : Option Known) → new ≡ heard listed now node old → old ≡ None → new ≡ None
+these-named listed now node old new is none = is ∙ ap (heard listed now node) none ∙ by_test (is_listed listed node)
+  where
+    by_test : (b : Bool) → cond b (option_map (at_reading now) None) None ≡ None
+    by_test true = refl
+    by_test false = refl

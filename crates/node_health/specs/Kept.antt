@@ -1,12 +1,13 @@
 -- What is kept of the nodes, and what a look makes of it. Source: the monitor of node health of the node lifecycle controller
 -- of Kubernetes; profile.
-use Rattle.std.specs.Prelude.{ℕ, ◌==◌, ◌&&◌, ◌||◌, not, Bool, cond, List, Option, Some, None}
+use Rattle.std.specs.Prelude.{ℕ, ◌==◌, ◌&&◌, ◌||◌, not, Bool, false, cond, List, Option, Some, None}
 use Rattle.std.specs.List.{list_any}
 use Rattle.key_map.specs.Values.{value_at}
 use Rattle.kube_base.specs.declared.fixed.TheConstants.{NODE_STATUS_UNKNOWN, NODE_STATUS_NEVER_UPDATED}
 use Rattle.kube_base.specs.declared.numbers.Wall.{Wall}
 use Rattle.kube_objects.specs.declared.node.Node.{Node}
 use Rattle.kube_objects.specs.declared.node.Ready.{Ready}
+use Rattle.kube_objects.specs.declared.rules.ProbeRule.{ProbeRule}
 use Rattle.kube_objects.specs.Health.{is_later, is_news, is_unknown}
 use Rattle.kube_objects.specs.Stored.{node_key}
 use Rattle.node_health.specs.declared.grace.Grace.{Grace}
@@ -22,6 +23,10 @@ known_at nodes node = value_at nodes.map (node_key node)
 
 abbrev pub kept : Health → ℕ → Option Known
 kept health node = known_at health.nodes node
+
+-- from when it counts a node as silent
+abbrev pub rule_of : Health → ProbeRule
+rule_of health = health.rule
 
 abbrev pub heartbeat_in : Option Known → Option Wall
 heartbeat_in None = None
@@ -49,6 +54,8 @@ after_look x heartbeat renewed now = record {
   heartbeat = newer heartbeat (heartbeat_in x);
   renewal = newer renewed (renewal_in x);
   probe = record { 0 = probe_after x heartbeat renewed now };
+  has_ready = false;
+  has_lease = false;
 }
 
 -- ---- the verdict

@@ -92,4 +92,12 @@ impl KnownNodes {
     {
         reset_listed(&mut self.map, self.names.as_slice(), now);
     }
+
+    /// Each known node of these is heard of at this reading. Takes no memory.
+    pub(crate) fn reset_these(&mut self, listed: &[u32], now: Local)
+        ensures { (node : ℕ) → known_at self.new node
+            ≡ (if is_listed listed.now node then option_map (at_reading now.0) (known_at self.old node) else known_at self.old node) }
+    {
+        reset_listed(&mut self.map, listed, now);
+    }
 }

@@ -1,5 +1,5 @@
 // Nodes with other taints.
-ghost use Rattle.std.specs.Prelude.{◌≡◌, ◌++◌, ◌∷◌, [], not, filter, take, IfOk, Some};
+ghost use Rattle.std.specs.Prelude.{◌≡◌, ◌++◌, ◌∷◌, [], not, filter, map, take, IfOk, Some, if◌then◌else◌};
 ghost use Rattle.std.specs.List.{list_any};
 ghost use Rattle.kube_objects.specs.Tainting.{is_condition, is_opposite, is_wanted};
 ghost use Rattle.kube_objects.specs.Tick as tick;
@@ -22,9 +22,26 @@ pub fn new_taint(key: u32, second: Wall) -> Taint
 }
 
 /// The node without its condition taints.
-#[tactic(auto, using(std::proofs::lemmas::List::Elements::filter_more))]
 pub fn without_condition(node: &Node) -> Result<Node, NoMemory>
     ensures { IfOk result (λ written. written ≡ tick.untainted node.now) }
+{
+    let taints = other_taints(node)?;
+    Ok(with_taints(node, taints))
+}
+
+/// The node without its condition taints, and with this one at the end.
+pub fn with_only(node: &Node, taint: Taint) -> Result<Node, NoMemory>
+    ensures { IfOk result (λ written. written ≡ tick.retainted taint node.now) }
+{
+    let mut taints = other_taints(node)?;
+    taints.push(taint)?;
+    Ok(with_taints(node, taints))
+}
+
+// The taints that are no condition taints.
+#[tactic(auto, using(std::proofs::lemmas::List::Elements::filter_more))]
+fn other_taints(node: &Node) -> Result<Taints, NoMemory>
+    ensures { IfOk result (λ taints. taints ≡ filter (λ taint. not (is_condition taint)) node.now.taints) }
 {
     let mut taints = ListOf::new(node.taints.allocator());
     for taint in node.taints.as_slice() {
@@ -32,7 +49,7 @@ pub fn without_condition(node: &Node) -> Result<Node, NoMemory>
             taints.push(*taint)?;
         }
     }
-    Ok(with_taints(node, taints))
+    Ok(taints)
 }
 
 /// The node without the condition taint that isn't the given one. The given one stays as it is where the node has it;
@@ -41,6 +58,17 @@ pub fn with_swap(node: &Node, taint: Taint) -> Result<Node, NoMemory>
     ensures { IfOk result (λ written. written ≡ tick.swapped taint node.now) }
 {
     let mut taints = without_opposite(node, taint.key)?;
+    if !has_condition_key(node, taint.key) {
+        taints.push(taint)?;
+    }
+    Ok(with_taints(node, taints))
+}
+
+/// The node without the condition taint that isn't the given one, which it has anew: in its place where the node has it, else at the end.
+pub fn with_restamp(node: &Node, taint: Taint) -> Result<Node, NoMemory>
+    ensures { IfOk result (λ written. written ≡ tick.restamped taint node.now) }
+{
+    let mut taints = restamped(node, taint)?;
     if !has_condition_key(node, taint.key) {
         taints.push(taint)?;
     }
@@ -67,6 +95,29 @@ fn without_opposite(node: &Node, wanted: u32) -> Result<Taints, NoMemory>
         }
     }
     Ok(taints)
+}
+
+// The taints but for the other condition taint, with the given one in the place of those that it replaces.
+#[tactic(auto, using(std::proofs::lemmas::List::map_more))]
+fn restamped(node: &Node, taint: Taint) -> Result<Taints, NoMemory>
+    ensures { IfOk result (λ taints. taints ≡ map (λ other. if is_wanted taint.key other then taint else other)
+        (filter (λ other. not (is_opposite taint.key other)) node.now.taints)) }
+{
+    let others = without_opposite(node, taint.key)?;
+    let mut taints = ListOf::new(node.taints.allocator());
+    for other in others.as_slice() {
+        taints.push(in_place(taint, *other))?;
+    }
+    Ok(taints)
+}
+
+fn in_place(taint: Taint, other: Taint) -> Taint
+    ensures { result ≡ (if is_wanted taint.key other then taint else other) }
+{
+    if is_condition(&other) && other.key == taint.key {
+        return taint;
+    }
+    other
 }
 
 fn is_opposite(wanted: u32, taint: &Taint) -> bool

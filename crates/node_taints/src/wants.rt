@@ -2,7 +2,7 @@
 ghost use Rattle.std.specs.Prelude.{◌≡◌, Bool};
 ghost use Rattle.std.specs.List.{list_any};
 ghost use Rattle.kube_objects.specs.Tainting as tainting;
-ghost use Rattle.kube_objects.specs.Tainting.{has_condition, is_condition, is_opposite, wants_by, wants_ready, wanted_key};
+ghost use Rattle.kube_objects.specs.Tainting.{has_condition, is_condition, is_opposite, is_wanted, wants_by, wants_ready, wanted_key};
 ghost use Rattle.node_taints.specs.Wanting.{wants_of};
 
 use kube_base::{NOT_READY, UNREACHABLE};
@@ -27,7 +27,8 @@ pub fn want_of(all_full: bool, node: &Node) -> Wants
     ready_wants(node.ready)
 }
 
-fn ready_wants(ready: Option<Ready>) -> Wants
+/// What a node with this Ready wants, where the mode isn't on in which every zone is Full.
+pub fn ready_wants(ready: Option<Ready>) -> Wants
     ensures { wants_of result ≡ wants_ready ready }
 {
     match ready {
@@ -72,6 +73,16 @@ pub fn has_opposite(wanted: u32, node: &Node) -> bool
         .as_slice()
         .iter()
         .any(|taint| is_condition(taint) && taint.key != wanted)
+}
+
+/// Whether the node has the condition taint that is wanted.
+pub fn has_taint(wanted: u32, node: &Node) -> bool
+    ensures { result ≡ list_any (is_wanted wanted) node.now.taints }
+{
+    node.taints
+        .as_slice()
+        .iter()
+        .any(|taint| is_condition(taint) && taint.key == wanted)
 }
 
 /// The taint that the node wants, where it has no condition taint.

@@ -17,7 +17,7 @@ use Rattle.kube_objects.specs.Health.{at_pass, is_found, is_known, hears, is_pro
 use Rattle.kube_objects.specs.Identities.{is_by}
 use Rattle.kube_objects.specs.Keys.{key_eq}
 use Rattle.kube_objects.specs.Newest.{newest, when, only_if, join, or_else, or_zero}
-use Rattle.kube_objects.specs.Own.{IsOwn}
+use Rattle.kube_objects.specs.Own.{ProbesByRun}
 use Rattle.kube_objects.specs.Seen.{seen_node}
 use Rattle.kube_objects.specs.Stored.{Held, node_key, node_write, holds, last_write, stored, next_version}
 use Rattle.kube_objects.specs.Tick.{add, for_each, mark_as, mark_seen, mark}
@@ -131,7 +131,7 @@ mark_elsewhere x name k q given written tried h differs = by_answer tried
     by_answer (Some answer.Exists) = refl
     by_answer (Some (answer.Conflict v)) = refl
 
-module _ (doc : Doc) (own : IsOwn doc) (q : Identity) (name a m : ℕ) (held : Held) (node : Node) (posted : IsReadyKnown node.ready) (over : local doc q.process a + (grace_period doc + 1) ≤ local doc q.process m) where
+module _ (doc : Doc) (by_run : ProbesByRun doc) (q : Identity) (name a m : ℕ) (held : Held) (node : Node) (posted : IsReadyKnown node.ready) (over : local doc q.process a + (grace_period doc + 1) ≤ local doc q.process m) where
   -- the mark of another node
   others : (x : ℕ) (h : List Entry) → (x ≡ name → ⊥) → Markable q name a held node h → Markable q name a held node (mark doc m q x h)
   others x h differs s = by_seen (seen_node q x h)
@@ -163,7 +163,7 @@ module _ (doc : Doc) (own : IsOwn doc) (q : Identity) (name a m : ℕ) (held : H
   marks_it h s = by_ready node.ready refl posted
     where
       silent : (r : Ready) → is_silent doc q m name (Some r) h ≡ true
-      silent r = ap (λ n. nat_lt (local doc q.process n + grace_period doc) (local doc q.process m)) (heard-own doc own q name h ∙ s.heard.probe) ∙ lt-ltb (local doc q.process a + grace_period doc) (local doc q.process m) (omega (arith, over))
+      silent r = ap (λ n. nat_lt (local doc q.process n + grace_period doc) (local doc q.process m)) (heard-own doc by_run q name h ∙ s.heard.probe) ∙ lt-ltb (local doc q.process a + grace_period doc) (local doc q.process m) (omega (arith, over))
 
       by_ready : (o : Option Ready) → node.ready ≡ o → IsReadyKnown o → mark_of doc q m name node h ≡ Some (with_mark (whole_second (wall doc q.process m)) node)
       by_ready None is known = absurd known

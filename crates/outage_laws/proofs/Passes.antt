@@ -75,17 +75,17 @@ module _ (doc : Doc) (own : IsOwn doc) (q : Identity) (k : ℕ) (attended : IsAt
   after_pass due =
       let h = synced_at doc q k in
       ap (last_pass q) (turn_phases ∙ ap (λ b. evicted doc k q (tainted doc k q (cleaned doc k q (if b then whole_pass doc k q h else h)))) due)
-      ∙ keep_passed doc own k q (LastPass q (Some k)) (λ t other g s. own_pass q k t other g ∙ s) (add k q Pass h) (ap (λ b. upper (when b k) (last_pass q h)) (same_self q))
+      ∙ keep_passed doc k q (LastPass q (Some k)) (λ t other g s. own_pass q k t other g ∙ s) (add k q Pass h) (ap (λ b. upper (when b k) (last_pass q h)) (same_self q))
 
   after_none : (r : ℕ) → has_pass doc q k ≡ false → LastPass q (Some r) (synced_at doc q k) → LastPass q (Some r) (after_turn doc q.process k)
   after_none r none last =
       let h = synced_at doc q k in
       ap (last_pass q) (turn_phases ∙ ap (λ b. evicted doc k q (tainted doc k q (cleaned doc k q (if b then whole_pass doc k q h else h)))) none)
-      ∙ keep_later doc own k q (LastPass q (Some r)) (λ t other g s. own_pass q k t other g ∙ s) h last
+      ∙ keep_later doc k q (LastPass q (Some r)) (λ t other g s. own_pass q k t other g ∙ s) h last
 
   at_sync : (r : ℕ) → LastPass q (Some r) (at_turn doc q.process k) → LastPass q (Some r) (synced_at doc q k)
   at_sync r last =
-      keep_sync doc own k q (LastPass q (Some r)) (λ t other g s. own_pass q k t other g ∙ s) (elector_turn doc k q.process (at_turn doc q.process k))
+      keep_sync doc k q (LastPass q (Some r)) (λ t other g s. own_pass q k t other g ∙ s) (elector_turn doc k q.process (at_turn doc q.process k))
       (to_tick doc own q (LastPass q (Some r)) (λ x h other s. foreign_pass q x h other ∙ s) k attended last)
 
   on : (r : ℕ) → LastPass q (Some r) (after_turn doc q.process k) → LastPass q (Some r) (at_turn doc q.process (suc k))

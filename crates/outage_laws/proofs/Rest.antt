@@ -1,5 +1,5 @@
--- What each entry of a tick but its pass keeps, under the project's own rules.
-use Rattle.std.proofs.Common.{◌≡◌, ◌&&◌, ◌||◌, not, ℕ, Bool, true, false, List, [], ◌∷◌, Option, Some, None, refl, sym, subst, if◌then◌else◌}
+-- What each entry of a tick but its pass keeps.
+use Rattle.std.proofs.Common.{◌≡◌, ◌&&◌, ◌||◌, not, ℕ, Bool, true, false, List, [], ◌∷◌, Option, Some, None, refl, if◌then◌else◌}
 use Rattle.std.specs.Prelude.{if◌then◌else◌}
 use Rattle.std.specs.List.{list_any}
 use Rattle.kube_base.specs.declared.numbers.Version.{Version}
@@ -7,24 +7,23 @@ use Rattle.kube_objects.specs.declared.key.Key.{Key}
 use Rattle.kube_objects.specs.declared.node.Node.{Node}
 use Rattle.kube_objects.specs.declared.node.ZoneState.{ZoneState}
 use Rattle.kube_objects.specs.Document.{Doc}
-use Rattle.kube_objects.specs.Entry.{Entry, Identity, Place, Tick, Sync, Pass, Mode, Zone, Delete}
+use Rattle.kube_objects.specs.Entry.{Entry, Identity, Place, Tick, Sync, Pass, Mode, Zone, Delete, Skip}
 use Rattle.kube_objects.specs.Health.{mark_of}
 use Rattle.kube_objects.specs.InForce.{watches}
+use Rattle.kube_objects.specs.Judgement.{Passed}
 use Rattle.kube_objects.specs.Modes.{nodes, places, state_in, rate_in, all_full, mode}
-use Rattle.kube_objects.specs.Own.{IsOwn}
 use Rattle.kube_objects.specs.Seen.{seen_node, is_fresh, is_stale, node_names}
 use Rattle.kube_objects.specs.Stored.{node_key}
 use Rattle.kube_objects.specs.Tainting.{Wants, Nothing, Wanted, Whatever, wants, has_condition, is_opposite, waits, Queued, head_of}
-use Rattle.kube_objects.specs.Tick.{add, for_each, has_settled, is_stripped, sync, mark_as, mark_seen, mark, is_same_mode, mode_as, set_mode, zone_as, zone, set_zones, marks, clean_as, clean_seen, clean, cleaned, taint_as, taint_head, taint, tainted, evict, evicted, add_untaint, add_swap, taint_first}
+use Rattle.kube_objects.specs.Tick.{add, for_each, has_settled, is_stripped, sync, mark_as, mark_seen, mark, is_same_mode, mode_as, set_mode, zone_as, zone, set_zones, marks, clean_as, clean_seen, clean, cleaned, judge, taint_as, taint_head, taint, push, tainted, evict, evicted, add_untaint, add_swap, taint_first}
 use Rattle.kube_objects.specs.Tokens.{rated, is_rated, has_token}
-use Rattle.kube_objects.proofs.Own.{cleaned-own, tainted-own}
-use Rattle.history_laws.proofs.Ticks.{IsPodKey, evict_step, evicted_each}
+use Rattle.history_laws.proofs.Ticks.{IsPodKey, judge_step, cleaned_each, push_step, tainted_each, evict_step, evicted_each}
 
 abbrev pub is_pass : Tick → Bool
 is_pass Pass = true
 is_pass _ = false
 
-module _ (doc : Doc) (own : IsOwn doc) (k : ℕ) (q : Identity) (P : List Entry → Type 0) (more : (t : Tick) → is_pass t ≡ false → (h : List Entry) → P h → P (add k q t h)) where
+module _ (doc : Doc) (k : ℕ) (q : Identity) (P : List Entry → Type 0) (more : (t : Tick) → is_pass t ≡ false → (h : List Entry) → P h → P (add k q t h)) where
   every : {A : Type 0} (f : A → List Entry → List Entry) → ((a : A) (h : List Entry) → P h → P (f a h)) → (xs : List A) (h : List Entry) → P h → P (for_each f xs h)
   every f keeps [] h p = p
   every f keeps (x ∷ xs) h p = every f keeps xs (f x h) (keeps x h p)
@@ -94,6 +93,9 @@ module _ (doc : Doc) (own : IsOwn doc) (k : ℕ) (q : Identity) (P : List Entry 
       by_stale false None = p
       by_stale false (Some x) = by_wants x (wants (is_stripped doc.settings.rules.first_sight k q name h || mode q h) x.1)
 
+  keep_judge : (x : Passed) (name : ℕ) (h : List Entry) → P h → P (judge doc k q x name h)
+  keep_judge x name h p = judge_step doc k q P x name h p (λ z is. more _ refl h p) (λ y z was is wanted wants. more _ refl h p)
+
   keep_taint : (place : Place) (h : List Entry) → P h → P (taint doc k q place h)
   keep_taint place h p = by_token (has_token doc q k place h)
     where
@@ -110,6 +112,9 @@ module _ (doc : Doc) (own : IsOwn doc) (k : ℕ) (q : Identity) (P : List Entry 
       by_token false = p
       by_token true = by_head (head_of q place (node_names h) h)
 
+  keep_push : (place : Place) (h : List Entry) → P h → P (push doc k q place h)
+  keep_push place h p = push_step doc k q P place h p (λ name token. more (Skip place name) refl h p) (λ name x token is wanted wants. more _ refl h p)
+
   keep_evict : (pod : Key) (h : List Entry) → IsPodKey pod → P h → P (evict doc k q pod h)
   keep_evict pod h kind p = evict_step doc k q P pod h kind p (λ given node_given at a made. more (Delete pod given node_given at a) refl h p)
 
@@ -118,8 +123,8 @@ module _ (doc : Doc) (own : IsOwn doc) (k : ℕ) (q : Identity) (P : List Entry 
   keep_later h p =
       let a = cleaned doc k q h in
       let b = tainted doc k q a in
-      let cleans : P a = subst P (sym (cleaned-own doc own k q h)) (every (clean doc k q) keep_clean (node_names h) h p) in
-      let taints : P b = subst P (sym (tainted-own doc own k q a)) (every (taint doc k q) keep_taint (places (nodes q a)) a cleans) in
+      let cleans : P a = cleaned_each doc k q P keep_clean keep_judge h p in
+      let taints : P b = tainted_each doc k q P keep_taint keep_push a cleans in
       evicted_each doc k q P keep_evict b taints
 
   -- what follows the entry of a pass

@@ -12,7 +12,7 @@ use Rattle.kube_objects.specs.Entry.{Entry, Identity, Ticks, Tick, Sync, Pass, M
 use Rattle.kube_objects.specs.Health.{is_found, hears}
 use Rattle.kube_objects.specs.InForce.{watches}
 use Rattle.kube_objects.specs.Newest.{has}
-use Rattle.kube_objects.specs.Own.{IsOwn}
+use Rattle.kube_objects.specs.Own.{IsOwn, ProbesByRun}
 use Rattle.kube_objects.specs.Seen.{is_fresh, node_names}
 use Rattle.kube_objects.specs.Stored.{Held, node_key, stored}
 use Rattle.kube_objects.specs.Tick.{add, has_settled, marks, set_mode, set_zones, whole_pass, evicted, tainted, cleaned}
@@ -88,13 +88,13 @@ module _ (doc : Doc) (own : IsOwn doc) (q : Identity) (k : ℕ) (attended : IsAt
     with_pass due heard =
         let h = synced_at doc q k in
         let e = turn_phases doc own q k attended ∙ ap (λ b. evicted doc k q (tainted doc k q (cleaned doc k q (if b then whole_pass doc k q h else h)))) due in
-        subst (Heard q name a) (sym e) (keep_passed doc own k q InBeat one (add k q Pass h) (λ at. heard) (subst (λ g. IsTail g (history doc (suc k))) e in_history))
+        subst (Heard q name a) (sym e) (keep_passed doc k q InBeat one (add k q Pass h) (λ at. heard) (subst (λ g. IsTail g (history doc (suc k))) e in_history))
 
     without_pass : has_pass doc q k ≡ false → Heard q name a (synced_at doc q k) → Heard q name a (after_turn doc q.process k)
     without_pass missing heard =
         let h = synced_at doc q k in
         let e = turn_phases doc own q k attended ∙ ap (λ b. evicted doc k q (tainted doc k q (cleaned doc k q (if b then whole_pass doc k q h else h)))) missing in
-        subst (Heard q name a) (sym e) (keep_later doc own k q InBeat one h (λ at. heard) (subst (λ g. IsTail g (history doc (suc k))) e in_history))
+        subst (Heard q name a) (sym e) (keep_later doc k q InBeat one h (λ at. heard) (subst (λ g. IsTail g (history doc (suc k))) e in_history))
 
     -- with the entry of the pass
     at_pass : has_pass doc q k ≡ true → IsPosted (stored_node name (synced_at doc q k)) → (a < k → Heard q name a (synced_at doc q k)) → Heard q name a (add k q Pass (synced_at doc q k))
@@ -115,8 +115,8 @@ module _ (doc : Doc) (own : IsOwn doc) (q : Identity) (k : ℕ) (attended : IsAt
         by_pass false missing = ⊎_elim (λ is. absurd (false_is (sym missing ∙ subst (λ k. has_pass doc q k ≡ true) is s.pass))) (λ differs. without_pass missing (heard_sync name a (old (omega (arith, from, differs))))) (cases_eq a k)
 
     -- the mark
-    marks_now : has_pass doc q k ≡ true → a < k → IsPosted (stored_node name (synced_at doc q k)) → Heard q name a (at_turn doc q.process k) → local doc q.process a + (grace_period doc + 1) ≤ local doc q.process k → IsMarked doc q name k
-    marks_now due lt posted old over = by_held (stored (node_key name) (synced_at doc q k)) refl posted
+    marks_now : ProbesByRun doc → has_pass doc q k ≡ true → a < k → IsPosted (stored_node name (synced_at doc q k)) → Heard q name a (at_turn doc q.process k) → local doc q.process a + (grace_period doc + 1) ≤ local doc q.process k → IsMarked doc q name k
+    marks_now by_run due lt posted old over = by_held (stored (node_key name) (synced_at doc q k)) refl posted
       where
         heard : Heard q name a (add k q Pass (synced_at doc q k))
         heard = at_pass due posted (λ lt. heard_sync name a old)
@@ -127,7 +127,7 @@ module _ (doc : Doc) (own : IsOwn doc) (q : Identity) (k : ℕ) (attended : IsAt
             let b = set_mode doc k q (marks doc k q g) in
             let more = λ (t : Tick) (other : is_pass t ≡ false) (f : List Entry) (s : Stands q name k f). stands_more q name k (entry k 4 q (Ticks t)) f s in
             let done : Stands q name k (evicted doc k q (tainted doc k q (cleaned doc k q (set_zones doc k q b)))) =
-            keep_later doc own k q (Stands q name k) more (set_zones doc k q b) (keep_zones doc own k q (Stands q name k) more b (keep_mode doc own k q (Stands q name k) more (marks doc k q g) m)) in
+            keep_later doc k q (Stands q name k) more (set_zones doc k q b) (keep_zones doc k q (Stands q name k) more b (keep_mode doc k q (Stands q name k) more (marks doc k q g) m)) in
             let e = turn_phases doc own q k attended ∙ ap (λ b. evicted doc k q (tainted doc k q (cleaned doc k q (if b then whole_pass doc k q (synced_at doc q k) else synced_at doc q k)))) due in
             let all = subst (Stands q name k) (sym e) done in
             record { given = all.given; written = all.written; version = all.version; before = all.before; stands = tail_trans (entry k 4 q (Ticks (Mark name all.given all.written (Some (answer.Done all.version)))) ∷ all.before) (after_turn doc q.process k) (history doc (suc k)) all.stands in_history }
@@ -135,7 +135,7 @@ module _ (doc : Doc) (own : IsOwn doc) (q : Identity) (k : ℕ) (attended : IsAt
         by_node : (held : Held) → stored (node_key name) (synced_at doc q k) ≡ Some held → (o : Option Node) → node_in held.object ≡ o → IsPosted (versioned held.version o) → IsMarked doc q name k
         by_node held here None is known = absurd known
         by_node held here (Some node) is known =
-            finish (reach doc own q name a k held node known over (node_names (add k q Pass (synced_at doc q k))) (add k q Pass (synced_at doc q k)) (named_node name (add k q Pass (synced_at doc q k)) held here)
+            finish (reach doc by_run q name a k held node known over (node_names (add k q Pass (synced_at doc q k))) (add k q Pass (synced_at doc q k)) (named_node name (add k q Pass (synced_at doc q k)) held here)
             (record { heard = heard; mirrors = mirrors_more q (synced_at doc q k) k Pass synced.mirrors; passes = synced.passes; here = here; is = is }))
 
         by_held : (o : Option Held) → stored (node_key name) (synced_at doc q k) ≡ o → IsPosted (as_kind node_in o) → IsMarked doc q name k
@@ -156,7 +156,7 @@ heard_at doc own q name a e m attends s end posted (suc n) lt =
     (after doc own q (suc (a + n)) (attends (suc (a + n)) (omega arith) (omega (arith, lt, end))) name a e (omega arith) (omega (arith, lt, end)) s (posted (suc (a + n)) (omega arith) (omega (arith, lt))) (λ less. old))
 
 pub nodes_are_marked : NodesAreMarked
-nodes_are_marked doc own free q name a e attends s slow fast near far slowly fastly near_needed far_enough some enough needed most is need greatest within =
+nodes_are_marked doc own free by_run q name a e attends s slow fast near far slowly fastly near_needed far_enough some enough needed most is need greatest within =
     let p = passes_find doc own free q a e attends s.pass slow fast near far slowly fastly near_needed far_enough some (grace_period doc + 1) enough needed most (omega arith) is need greatest within in
     (p.0, p.3, p.4, p.1.after, λ posted. at p.0 p.1.after p.2 p.1.pass p.1.over posted)
   where
@@ -165,4 +165,4 @@ nodes_are_marked doc own free q name a e attends s slow fast near far slowly fas
     at (suc m) lt end due over posted =
         let same : a + (m - a) ≡ m = omega (arith, lt) in
         let old : Heard q name a (at_turn doc q.process (suc m)) = subst (λ k. Heard q name a (at_turn doc q.process (suc k))) same (heard_at doc own q name a e (suc m) attends s end posted (m - a) (omega (arith, lt))) in
-        marks_now doc own q (suc m) (attends (suc m) (omega (arith, lt)) end) name a e (omega (arith, lt)) end s due lt (posted (suc m) (omega (arith, lt)) (omega arith)) old over
+        marks_now doc own q (suc m) (attends (suc m) (omega (arith, lt)) end) name a e (omega (arith, lt)) end s by_run due lt (posted (suc m) (omega (arith, lt)) (omega arith)) old over

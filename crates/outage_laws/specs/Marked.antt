@@ -7,7 +7,7 @@ use Rattle.kube_objects.specs.declared.node.Ready.{Ready}
 use Rattle.kube_objects.specs.Document.{Doc, of_millis}
 use Rattle.kube_objects.specs.Entry.{Entry, Identity, Ticks, Mark, Mode, entry}
 use Rattle.kube_objects.specs.Health.{hears, is_unknown_status}
-use Rattle.kube_objects.specs.Own.{IsOwn, PassesTakeNoWork}
+use Rattle.kube_objects.specs.Own.{IsOwn, PassesTakeNoWork, ProbesByRun}
 use Rattle.history.specs.Evictions.{stored_node}
 use Rattle.history.specs.History.{history}
 use Rattle.history_laws.specs.Tails.{IsTail}
@@ -47,12 +47,12 @@ pub record IsLastHeard (doc : Doc) (q : Identity) (name a e : ℕ) : Type 0 wher
   pub silent : (k : ℕ) → a < k → k ≤ e → has_pass doc q k ≡ true → hears q name (synced_at doc q k) ≡ false
   pub mode : (k : ℕ) (before : List Entry) → a < k → k ≤ e → IsTail (entry k 4 q (Ticks (Mode false)) ∷ before) (history doc (suc k)) → ⊥
 
--- with the project's own rules, while a leader attends to its nodes: some beats after the last pass that heard of a node it marks it Unknown,
+-- with the project's own rules, that of probes too, while a leader attends to its nodes: some beats after the last pass that heard of a node it marks it Unknown,
 -- where it stays stored with a Ready that isn't Unknown until then. These beats are within the bounds of looks a monitor period apart that find
 -- more than the grace period over
 abbrev pub NodesAreMarked : Type 0
 NodesAreMarked =
-    (doc : Doc) → IsOwn doc → PassesTakeNoWork doc → (q : Identity) (name a e : ℕ) → Attends doc q a e → IsLastHeard doc q name a e
+    (doc : Doc) → IsOwn doc → PassesTakeNoWork doc → ProbesByRun doc → (q : Identity) (name a e : ℕ) → Attends doc q a e → IsLastHeard doc q name a e
     → (slow fast near far : ℕ) → RunsAtLeast doc q.process a e slow → RunsAtMost doc q.process a e fast → IsNeeded fast (monitor_period doc) near → IsEnough slow (monitor_period doc) far → 1 ≤ far
     → (enough needed most : ℕ) → IsEnough slow (grace_period doc + 1) enough → IsNeeded fast (grace_period doc + 1) needed → IsGreatest near far enough most → a + most ≤ e
     → (m : ℕ) × IsAtMost near far enough (m - a) × IsAtLeast near far needed (m - a) × (a < m) × (StaysPosted doc q name a m → IsMarked doc q name m)

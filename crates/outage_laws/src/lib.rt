@@ -21,7 +21,7 @@ pub fn passes_find()
 {}
 
 /// So a node that such a leader's passes don't hear of any more is marked Unknown, and the store accepts it, within these bounds for more than
-/// the grace period: for every document with the project's own rules whose passes take no time.
+/// the grace period: for every document with the project's own rules, that of probes too, whose passes take no time.
 pub fn nodes_are_marked()
     ensures { NodesAreMarked }
 {}

@@ -1,3 +1,4 @@
+pub mod ByKey
 pub mod Collected
 pub mod Feasible
 pub mod Judged

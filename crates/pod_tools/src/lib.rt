@@ -1,6 +1,7 @@
 //! Which pods the garbage collector would delete, and on which nodes a pod may run.
 #![tactic(auto)]
 
+mod by_key;
 mod collecting;
 mod defaults;
 mod judged;

@@ -1,16 +1,16 @@
 // Nodes on which a pod may run.
 ghost use Rattle.std.specs.Prelude.{◌≡◌, ◌≤◌, ◌++◌, length, IfOk, OnOk};
-ghost use Rattle.std.specs.List.{list_any, list_all};
-ghost use Rattle.kube_objects.specs.Tolerations.{tolerates};
+ghost use Rattle.std.specs.List.{list_all};
 ghost use Rattle.pod_tools.specs.Feasible as spec;
 ghost use Rattle.pod_tools.specs.Judged.{AreRight};
 
+use crate::by_key::ByKey;
 use crate::judged::Judgements;
 use crate::{NodeRow, PlaceInput, PodRow, defaulted};
 use kube_base::{ListOf, NoMemory};
-use kube_objects::{Effect, NumberList, Taint, Toleration, Tolerations};
+use kube_objects::{Effect, NumberList, Taint, Tolerations};
 use std::alloc::Global;
-use taint_match::tolerates;
+use std::hash::{DefaultHasher, Hasher};
 
 /// Where a pod may run: its place among the pods, how many tolerations it has with the default ones, and the places of the nodes.
 #[derive(Debug, Drop)]
@@ -30,11 +30,13 @@ pub fn place(alloc: Global, input: &PlaceInput) -> Result<Placements, NoMemory>
 {
     let mut placements = Placements::new(alloc);
     let mut judgements = Judgements::new(alloc)?;
+    let mix = mix_of(input.pods.as_slice());
     for (place, row) in input.pods.as_slice().iter().enumerate() {
         add_placement(
             alloc,
             &mut placements,
             &mut judgements,
+            mix,
             input.nodes.as_slice(),
             place as u32,
             row,
@@ -43,11 +45,23 @@ pub fn place(alloc: Global, input: &PlaceInput) -> Result<Placements, NoMemory>
     Ok(placements)
 }
 
+/// A number by which keys are spread over slots. It follows from all keys of the pods' tolerations, and is odd.
+fn mix_of(pods: &[PodRow]) -> u64 {
+    let mut hasher = DefaultHasher::new();
+    for row in pods {
+        for toleration in row.pod.tolerations.as_slice() {
+            hasher.write_u32(toleration.key);
+        }
+    }
+    hasher.finish() | 1
+}
+
 /// Adds the answer for a pod, where it names no node.
 fn add_placement(
     alloc: Global,
     placements: &mut Placements,
     judgements: &mut Judgements,
+    mix: u64,
     nodes: &[NodeRow],
     place: u32,
     row: &PodRow,
@@ -61,7 +75,7 @@ fn add_placement(
     if row.pod.node != 0 {
         return Ok(());
     }
-    let placement = placement_by(alloc, judgements, nodes, place, &row.pod.tolerations)?;
+    let placement = placement_by(alloc, judgements, mix, nodes, place, &row.pod.tolerations)?;
     placements.push(placement)
 }
 
@@ -69,6 +83,7 @@ fn add_placement(
 fn placement_by(
     alloc: Global,
     judgements: &mut Judgements,
+    mix: u64,
     nodes: &[NodeRow],
     pod: u32,
     given: &Tolerations,
@@ -82,7 +97,7 @@ fn placement_by(
     if let Some(placement) = judgements.recall(pod, given)? {
         return Ok(placement);
     }
-    let placement = placement_of(alloc, nodes, pod, given)?;
+    let placement = placement_of(alloc, mix, nodes, pod, given)?;
     judgements.remember(given, &placement)?;
     Ok(placement)
 }
@@ -90,6 +105,7 @@ fn placement_by(
 /// The answer for the pod at a place.
 fn placement_of(
     alloc: Global,
+    mix: u64,
     nodes: &[NodeRow],
     pod: u32,
     given: &Tolerations,
@@ -98,23 +114,21 @@ fn placement_of(
     requires tolerations { length given.now ≤ 100 }
     ensures { IfOk result (λ p. p ≡ spec.placement nodes.now pod given.now) }
 {
-    let tolerations = defaulted(given)?;
-    let nodes = feasible(alloc, tolerations.as_slice(), nodes)?;
+    let all = defaulted(given)?;
+    let count = all.as_slice().len() as u32;
+    let tolerations = ByKey::new(alloc, mix, all)?;
+    let nodes = feasible(alloc, &tolerations, nodes)?;
     Ok(Placement {
         pod,
-        tolerations: tolerations.as_slice().len() as u32,
+        tolerations: count,
         nodes,
     })
 }
 
 /// The places of the nodes whose taints these tolerations pass.
-fn feasible(
-    alloc: Global,
-    tolerations: &[Toleration],
-    nodes: &[NodeRow],
-) -> Result<NumberList, NoMemory>
+fn feasible(alloc: Global, tolerations: &ByKey, nodes: &[NodeRow]) -> Result<NumberList, NoMemory>
     requires { length nodes.now ≤ 1000 }
-    ensures { IfOk result (λ places. places ≡ spec.feasible_from tolerations.now 0 nodes.now) }
+    ensures { IfOk result (λ places. places ≡ spec.feasible_from tolerations.now.all 0 nodes.now) }
 {
     let mut places = NumberList::new(alloc);
     for (place, row) in nodes.iter().enumerate() {
@@ -125,11 +139,11 @@ fn feasible(
 
 fn add_place(
     places: &mut NumberList,
-    tolerations: &[Toleration],
+    tolerations: &ByKey,
     place: u32,
     row: &NodeRow,
 ) -> Result<(), NoMemory>
-    ensures { OnOk result (places.new ≡ places.old ++ spec.place_of tolerations.now place row.now) }
+    ensures { OnOk result (places.new ≡ places.old ++ spec.place_of tolerations.now.all place row.now) }
 {
     if is_feasible(tolerations, row) {
         places.push(place)
@@ -138,31 +152,23 @@ fn add_place(
     }
 }
 
-fn is_feasible(tolerations: &[Toleration], row: &NodeRow) -> bool
-    ensures { result ≡ spec.is_feasible tolerations.now row.now }
+fn is_feasible(tolerations: &ByKey, row: &NodeRow) -> bool
+    ensures { result ≡ spec.is_feasible tolerations.now.all row.now }
 {
     are_passed(tolerations, row.node.taints.as_slice())
         && are_passed(tolerations, row.derived.as_slice())
 }
 
-fn are_passed(tolerations: &[Toleration], taints: &[Taint]) -> bool
-    ensures { result ≡ list_all (spec.is_passed tolerations.now) taints.now }
+fn are_passed(tolerations: &ByKey, taints: &[Taint]) -> bool
+    ensures { result ≡ list_all (spec.is_passed tolerations.now.all) taints.now }
 {
     taints.iter().all(|taint| is_passed(tolerations, taint))
 }
 
-fn is_passed(tolerations: &[Toleration], taint: &Taint) -> bool
-    ensures { result ≡ spec.is_passed tolerations.now taint.now }
+fn is_passed(tolerations: &ByKey, taint: &Taint) -> bool
+    ensures { result ≡ spec.is_passed tolerations.now.all taint.now }
 {
-    !is_barrier(taint.effect) || is_tolerated(tolerations, taint)
-}
-
-fn is_tolerated(tolerations: &[Toleration], taint: &Taint) -> bool
-    ensures { result ≡ list_any (λ t. tolerates t taint.now) tolerations.now }
-{
-    tolerations
-        .iter()
-        .any(|toleration| tolerates(toleration, taint))
+    !is_barrier(taint.effect) || tolerations.has_one_for(taint)
 }
 
 /// Whether taints with this effect keep pods away.

@@ -1,7 +1,7 @@
 // The bucket and its token.
-ghost use Rattle.std.specs.Prelude.{◌≡◌, ℕ, ◌≤◌, IsTrue, IsNone, IfSome, ◌↔◌};
+ghost use Rattle.std.specs.Prelude.{◌≡◌, ℕ, ◌≤◌, true, IsNone, IfSome, ◌↔◌};
 ghost use Rattle.kube_base.specs.Bounds.{most_local};
-ghost use Rattle.rate_bucket.specs.Filling.{HasToken, empty_at, swapped, after_attempt};
+ghost use Rattle.rate_bucket.specs.Filling.{after_attempt, carried, empty_at, filled_at, has_token, swapped};
 
 use kube_base::Local;
 use std::marker::Model;
@@ -9,23 +9,25 @@ use std::marker::Model;
 /// How much a rate has to make up for one token: 1,000 s in units of 10^-12 s.
 const TOKEN: u128 = 1_000_000_000_000_000;
 
-/// A bucket of at most one token, empty at its start and at each change of its rate. It takes no memory.
+/// A bucket of at most one token. It takes no memory. One that starts empty is empty at each change of its rate too; one that starts full is full
+/// at a change of its rate where its token is there by then.
 ///
 /// Rates are whole numbers of tokens in 1,000 s. Readings are those of the controller's own clock, at most `most_local`.
 #[derive(Debug, Drop)]
 pub struct Bucket {
     rate: u32,
     base: Local,
+    full: bool,
 }
 
 impl Model for Bucket {
     ghost use Rattle.std.specs.Prelude.{◌≤◌};
     ghost use Rattle.kube_base.specs.Bounds.{most_local};
-    ghost use Rattle.rate_bucket.specs.Filling.{Filling, empty_at};
+    ghost use Rattle.rate_bucket.specs.Filling.{Filling, filling};
 
     ghost Value = { Filling };
 
-    ghost view = { λ b. empty_at b.rate b.base.0 };
+    ghost view = { λ b. filling b.rate b.base.0 b.full };
 
     ghost invariant = { λ b. b.base.0 ≤ most_local };
 }
@@ -36,7 +38,23 @@ impl Bucket {
         requires { now.0 ≤ most_local }
         ensures { result ≡ empty_at rate now.0 }
     {
-        Bucket { rate, base: now }
+        Bucket {
+            rate,
+            base: now,
+            full: false,
+        }
+    }
+
+    /// A full one: its token is there at once.
+    pub fn filled(rate: u32, now: Local) -> Bucket
+        requires { now.0 ≤ most_local }
+        ensures { result ≡ filled_at rate now.0 }
+    {
+        Bucket {
+            rate,
+            base: now,
+            full: true,
+        }
     }
 
     /// Empties the bucket where the rate differs, and does nothing where it is equal.
@@ -49,28 +67,57 @@ impl Bucket {
         }
     }
 
+    /// Where the rate differs the bucket is full, if its token is there, and else empty. Does nothing where the rate is equal.
+    pub fn carry(&mut self, rate: u32, now: Local)
+        requires { now.0 ≤ most_local }
+        ensures { self.new ≡ carried self.old rate now.0 }
+    {
+        if self.rate == rate {
+            return;
+        }
+        let full = self.is_there(now);
+        *self = Bucket {
+            rate,
+            base: now,
+            full,
+        };
+    }
+
+    /// Whether the token is there. With rate 0 it never is.
+    fn is_there(&self, now: Local) -> bool
+        requires { now.0 ≤ most_local }
+        ensures { result ≡ has_token self.now now.0 }
+    {
+        let since = now.0.saturating_sub(self.base.0);
+        let grown = TOKEN <= u128::from(since) * u128::from(self.rate);
+        self.rate != 0 && (self.full || grown)
+    }
+
     /// Takes the token, where it is there. With rate 0 it never is.
     pub fn try_take(&mut self, now: Local) -> bool
         requires { now.0 ≤ most_local }
-        ensures taken { IsTrue result ↔ HasToken self.old now.0 }
+        ensures taken { result ≡ has_token self.old now.0 }
         ensures after { self.new ≡ after_attempt self.old now.0 result }
     {
-        let since = now.0.saturating_sub(self.base.0);
-        if u128::from(since) * u128::from(self.rate) < TOKEN {
+        if !self.is_there(now) {
             return false;
         }
         self.base = now;
+        self.full = false;
         true
     }
 
     /// The least reading at which the token is there; none with rate 0.
     pub fn ready_at(&self) -> Option<Local>
         ensures never { IsNone result ↔ (self.now.rate ≡ 0) }
-        ensures there { IfSome result (λ at. HasToken self.now at.0) }
-        ensures least { IfSome result (λ at. (earlier : ℕ) → HasToken self.now earlier → at.0 ≤ earlier) }
+        ensures there { IfSome result (λ at. has_token self.now at.0 ≡ true) }
+        ensures least { IfSome result (λ at. (earlier : ℕ) → has_token self.now earlier ≡ true → at.0 ≤ earlier) }
     {
         if self.rate == 0 {
             return None;
+        }
+        if self.full {
+            return Some(Local(0));
         }
         let rate = u64::from(self.rate);
         let wait = (1_000_000_000_000_000 + (rate - 1)) / rate;
@@ -101,6 +148,21 @@ mod tests {
                 assert_eq!(rt; bucket.try_take(Local(now)), taken);
             }
         }
+    }
+
+    #[test]
+    fn a_full_one_gives_a_token_at_once(rt: HostRuntime) {
+        let mut bucket = Bucket::filled(100, Local(0));
+        assert_eq!(rt; bucket.ready_at(), Some(Local(0)));
+        bucket.carry(50, Local(5));
+        assert_eq!(rt; bucket.try_take(Local(5)), true);
+        assert_eq!(rt; bucket.try_take(Local(5)), false);
+        bucket.carry(100, Local(10_000_000_000_000));
+        assert_eq!(rt; bucket.ready_at(), Some(Local(20_000_000_000_000)));
+        bucket.carry(0, Local(20_000_000_000_000));
+        assert_eq!(rt; bucket.try_take(Local(MOST_LOCAL)), false);
+        bucket.carry(100, Local(30_000_000_000_000));
+        assert_eq!(rt; bucket.ready_at(), Some(Local(40_000_000_000_000)));
     }
 
     #[test]

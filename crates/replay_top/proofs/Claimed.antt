@@ -14,6 +14,7 @@ claims-hold words left safe generated timely =
       holder = λ d replays premise. safe.holder replays.bytes d replays.read premise;
       exclusive = λ d replays premise. safe.exclusive replays.bytes d replays.read premise;
       spacing = λ d replays premise. safe.spacing replays.bytes d replays.read premise;
+      spacing_in_rows = λ d replays. safe.spacing_in_rows replays.bytes d replays.read;
       not_early = λ d replays. safe.not_early d;
       prompt = λ d replays. safe.prompt replays.bytes d replays.read;
       limit = λ d replays. safe.limit d;

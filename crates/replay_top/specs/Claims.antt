@@ -5,7 +5,7 @@ use Rattle.kube_objects.specs.Document.{Doc}
 use Rattle.history.specs.Evictions.{Limit, NotEarly, Prompt}
 use Rattle.history.specs.Premise.{lease_premise}
 use Rattle.history.specs.Safe.{Holder, Exclusive}
-use Rattle.history.specs.Spacing.{Spacing}
+use Rattle.history.specs.Spacing.{Spacing, SpacingInRows}
 use Rattle.script_reader.specs.declared.document.Document.{Document}
 use Rattle.script_reader.specs.Documents.{doc_of}
 use Rattle.trace_audit.specs.Alone.{entries_in, OneActs}
@@ -26,12 +26,13 @@ pub record IsSafe (doc : Doc) : Type 0 where
   pub prompt : Prompt doc
   pub limit : Limit doc
 
--- of every document that can be read, where its lease premise holds; the last four without it. That evictions are never early and keep the
+-- of every document that can be read, where its lease premise holds; the last five without it. That evictions are never early and keep the
 -- limit needs no reading
 pub record AreSafe : Type 0 where
   pub holder : WhereReadUnderPremise Holder
   pub exclusive : WhereReadUnderPremise Exclusive
   pub spacing : WhereReadUnderPremise Spacing
+  pub spacing_in_rows : WhereRead SpacingInRows
   pub not_early : (d : Document) → NotEarly (doc_of d)
   pub prompt : WhereRead Prompt
   pub limit : (d : Document) → Limit (doc_of d)
@@ -43,8 +44,11 @@ pub record Claims (words : List (List ℕ)) (left : Option (List ℕ)) : Type 0 
   pub holder : WhereReplayedUnderPremise words left Holder
   -- only one identity acts at a beat
   pub exclusive : WhereReplayedUnderPremise words left Exclusive
-  -- from each queued taint of a zone to each in a later beat a token of the zone grows
+  -- from each queued taint of a zone to each in a later beat a token of the zone grows; where buckets start full, as many come beside as rows
+  -- of terms' passes begin at which the zone is one
   pub spacing : WhereReplayedUnderPremise words left Spacing
+  -- always, within such a row, a token grows from each to the next
+  pub spacing_in_rows : (d : Document) → Replays words left d → SpacingInRows (doc_of d)
   -- always, a controller evicts a pod only when it is due on the controller's clock
   pub not_early : (d : Document) → Replays words left d → NotEarly (doc_of d)
   -- and by its first tick that reaches the store and is within the limit

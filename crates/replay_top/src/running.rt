@@ -36,7 +36,7 @@ use run_edge::{Status, Verdict, ask, take_input, tell_refusal, tell_too_large, t
 use script_reader::Document;
 use settle_laws::calm_spans_settle;
 use silence_laws::{releases_last, silences_last};
-use spacing_laws::taints_are_spaced;
+use spacing_laws::{taints_are_spaced, turns_are_spaced_in_rows};
 use stay_laws::leaders_stay;
 use std::alloc::Global;
 use succession_laws::{leaders_act_on, successors_lead};
@@ -101,6 +101,7 @@ fn documents_are_safe()
     lawful_documents_are_sound();
     lease_is_safe();
     taints_are_spaced();
+    turns_are_spaced_in_rows();
     evictions_are_timely();
     takeovers_are_bounded();
     leaders_stay();

@@ -18,6 +18,7 @@ use Rattle.manifest_json.specs.Walk.{items_len, member_path}
 use Rattle.script_reader.specs.Fields.{at_most}
 use Rattle.script_reader.specs.Waits.{wait_in, waits_from}
 use Rattle.script_reader.specs.Walk.{Cast, Team, controller_at, controllers_from, kubelet_at, kubelets_from, event_at, events_from}
+use Rattle.script_reader.specs.declared.choice.Preset.{Preset}
 use Rattle.script_reader.specs.declared.parts.Scope.{Scope}
 use Rattle.script_reader.specs.declared.table.Version.{Version}
 
@@ -37,19 +38,19 @@ at_most-few most path vs le = ap (λ b. cond b (refuse TOO_MANY path) (Ok (items
 
 -- ---- controllers and kubelets
 
-pub controllers_from-step : (version : Version) (settings : Settings) (names new : Texts) (place : ℕ) (earlier : List Proc) (waits : List (List ℕ)) (d : Data) (rest : Items) (found : Proc × List ℕ)
-    → controller_at version settings names (member_path [] (codes "/controllers/") place) earlier d ≡ Ok (found, new)
-    → controllers_from version settings names place earlier waits (item d rest) ≡ controllers_from version settings new (place + 1) (earlier ++ found.0 ∷ []) (waits ++ found.1 ∷ []) rest
+pub controllers_from-step : (version : Version) (settings : Settings) (preset : Preset) (names new : Texts) (place : ℕ) (earlier : List Proc) (waits : List (List ℕ)) (d : Data) (rest : Items) (found : Proc × List ℕ)
+    → controller_at version settings preset names (member_path [] (codes "/controllers/") place) earlier d ≡ Ok (found, new)
+    → controllers_from version settings preset names place earlier waits (item d rest) ≡ controllers_from version settings preset new (place + 1) (earlier ++ found.0 ∷ []) (waits ++ found.1 ∷ []) rest
 unfolding controllers_from
-controllers_from-step version settings names new place earlier waits d rest found h =
-    ap (λ r. r >>= λ next. controllers_from version settings next.1 (place + 1) (earlier ++ next.0.0 ∷ []) (waits ++ next.0.1 ∷ []) rest) h
+controllers_from-step version settings preset names new place earlier waits d rest found h =
+    ap (λ r. r >>= λ next. controllers_from version settings preset next.1 (place + 1) (earlier ++ next.0.0 ∷ []) (waits ++ next.0.1 ∷ []) rest) h
 
-pub controllers_from-fails : (e : ReadFault) (version : Version) (settings : Settings) (names : Texts) (place : ℕ) (earlier : List Proc) (waits : List (List ℕ)) (d : Data) (rest : Items)
-    → Fails e (controller_at version settings names (member_path [] (codes "/controllers/") place) earlier d)
-    → Fails e (controllers_from version settings names place earlier waits (item d rest))
+pub controllers_from-fails : (e : ReadFault) (version : Version) (settings : Settings) (preset : Preset) (names : Texts) (place : ℕ) (earlier : List Proc) (waits : List (List ℕ)) (d : Data) (rest : Items)
+    → Fails e (controller_at version settings preset names (member_path [] (codes "/controllers/") place) earlier d)
+    → Fails e (controllers_from version settings preset names place earlier waits (item d rest))
 unfolding controllers_from
-controllers_from-fails e version settings names place earlier waits d rest h =
-    Fails-then e _ (λ next. controllers_from version settings next.1 (place + 1) (earlier ++ next.0.0 ∷ []) (waits ++ next.0.1 ∷ []) rest) h
+controllers_from-fails e version settings preset names place earlier waits d rest h =
+    Fails-then e _ (λ next. controllers_from version settings preset next.1 (place + 1) (earlier ++ next.0.0 ∷ []) (waits ++ next.0.1 ∷ []) rest) h
 
 pub kubelets_from-step : (settings : Settings) (names new : Texts) (place : ℕ) (earlier : List Proc) (d : Data) (rest : Items) (proc : Proc)
     → kubelet_at settings names (member_path [] (codes "/kubelets/") place) earlier d ≡ Ok (proc, new)
@@ -99,25 +100,25 @@ events_from-fails e scope cast names place last done d rest h =
 
 -- what a loop over an array knows of its next member
 module _ (names : Texts) (place : ℕ) (vs : List Value) where
-  module _ (version : Version) (settings : Settings) (earlier : List Proc) (waits : List (List ℕ)) (start : Result (Team × Texts) Refusal)
-      (so_far : start ≡ controllers_from version settings names place earlier waits (items_view (drop place vs))) where
+  module _ (version : Version) (settings : Settings) (preset : Preset) (earlier : List Proc) (waits : List (List ℕ)) (start : Result (Team × Texts) Refusal)
+      (so_far : start ≡ controllers_from version settings preset names place earlier waits (items_view (drop place vs))) where
     pub controllers-fail : (v : Value) (e : ReadFault) → place < length vs → v ≡ get_or vs place v
-        → Fails e (controller_at version settings names (member_path [] (codes "/controllers/") place) earlier (view v)) → Fails e start
-    controllers-fail v e lt is h = rw (so_far, items_view-drop vs place v lt (sym is)) (controllers_from-fails e version settings names place earlier waits (view v) _ h)
+        → Fails e (controller_at version settings preset names (member_path [] (codes "/controllers/") place) earlier (view v)) → Fails e start
+    controllers-fail v e lt is h = rw (so_far, items_view-drop vs place v lt (sym is)) (controllers_from-fails e version settings preset names place earlier waits (view v) _ h)
 
     pub controllers-step : (v : Value) (new : Texts) (found : Proc × List ℕ) (more : List Proc) (longer : List (List ℕ)) → place < length vs → v ≡ get_or vs place v
         → more ≡ earlier ++ found.0 ∷ [] → longer ≡ waits ++ found.1 ∷ []
-        → controller_at version settings names (member_path [] (codes "/controllers/") place) earlier (view v) ≡ Ok (found, new)
-        → start ≡ controllers_from version settings new (place + 1) more longer (items_view (drop (place + 1) vs))
+        → controller_at version settings preset names (member_path [] (codes "/controllers/") place) earlier (view v) ≡ Ok (found, new)
+        → start ≡ controllers_from version settings preset new (place + 1) more longer (items_view (drop (place + 1) vs))
     controllers-step v new found more longer lt is push push_waits h =
-        so_far ∙ ap (controllers_from version settings names place earlier waits) (items_view-drop vs place v lt (sym is))
-        ∙ controllers_from-step version settings names new place earlier waits (view v) _ found h
-        ∙ ap (λ ps. controllers_from version settings new (place + 1) ps (waits ++ found.1 ∷ []) (items_view (drop (place + 1) vs))) (sym push)
-        ∙ ap (λ ws. controllers_from version settings new (place + 1) more ws (items_view (drop (place + 1) vs))) (sym push_waits)
+        so_far ∙ ap (controllers_from version settings preset names place earlier waits) (items_view-drop vs place v lt (sym is))
+        ∙ controllers_from-step version settings preset names new place earlier waits (view v) _ found h
+        ∙ ap (λ ps. controllers_from version settings preset new (place + 1) ps (waits ++ found.1 ∷ []) (items_view (drop (place + 1) vs))) (sym push)
+        ∙ ap (λ ws. controllers_from version settings preset new (place + 1) more ws (items_view (drop (place + 1) vs))) (sym push_waits)
 
     pub controllers-end : length vs ≤ place → start ≡ Ok ((earlier, waits), names)
     unfolding controllers_from
-    controllers-end le = so_far ∙ ap (controllers_from version settings names place earlier waits) (items_view-end vs place le)
+    controllers-end le = so_far ∙ ap (controllers_from version settings preset names place earlier waits) (items_view-end vs place le)
 
   module _ (settings : Settings) (earlier : List Proc) (start : Result (List Proc × Texts) Refusal)
       (so_far : start ≡ kubelets_from settings names place earlier (items_view (drop place vs))) where

@@ -17,22 +17,11 @@ if_none path d (Some found) = refuse NOT_BUILT path
 abbrev pub unless_there : List ℕ → List ℕ → Data → Result Data Refusal
 unless_there path key d = if_none (under path key) d (get key d)
 
--- the preset is the project's own
-abbrev pub if_own : Preset → List ℕ → Data → Result Data Refusal
-if_own presets.Own path d = Ok d
-if_own presets.Upstream120 path d = refuse NOT_BUILT (under path (codes "rules"))
-if_own presets.Upstream136 path d = refuse NOT_BUILT (under path (codes "rules"))
-
-unfoldable pub judging_built : List ℕ → Data → Result Data Refusal
-judging_built path d = do
-  probe ← unless_there path (codes "probe") d
-  judge ← unless_there path (codes "judge") d
-  unless_there path (codes "firstSight") d
-
-unfoldable pub tainting_built : List ℕ → Data → Result Data Refusal
-tainting_built path d = do
-  queue ← unless_there path (codes "queue") d
-  unless_there path (codes "bucket") d
+-- the rules of Kubernetes 1.36 have releases that aren't built
+abbrev pub preset_built : Preset → List ℕ → Data → Result Data Refusal
+preset_built presets.Own path d = Ok d
+preset_built presets.Upstream120 path d = Ok d
+preset_built presets.Upstream136 path d = refuse NOT_BUILT (under path (codes "rules"))
 
 unfoldable pub ending_built : List ℕ → Data → Result Data Refusal
 ending_built path d = do
@@ -42,7 +31,5 @@ ending_built path d = do
 -- settings ask for no rule that isn't built
 unfoldable pub rules_built : Preset → List ℕ → Data → Result Data Refusal
 rules_built preset path d = do
-  own ← if_own preset path d
-  judging ← judging_built path d
-  tainting ← tainting_built path d
+  built ← preset_built preset path d
   ending_built path d

@@ -1,4 +1,5 @@
--- The waits of a controller after failed attempts, in thousandths of its retry period. Source: profile.
+-- The waits of a controller after failed attempts, in thousandths of its retry period. Source: profile; client-go, `leaderelection`, whose
+-- waits are drawn with a jitter of 1.2.
 use Rattle.std.specs.Prelude.{ℕ, ◌+◌, List, [], ◌∷◌, ◌++◌, codes, Result, Ok}
 use Rattle.serde_json.specs.Data.{Data, Items, no_items, item}
 use Rattle.serde_json.specs.Find.{get}
@@ -6,6 +7,8 @@ use Rattle.kube_objects.specs.Rules.{own_waits}
 use Rattle.manifest_json.specs.declared.fault.Refusal.{Refusal}
 use Rattle.manifest_json.specs.Faults.{◌>>=◌}
 use Rattle.manifest_json.specs.Walk.{member_path}
+use Rattle.script_reader.specs.declared.choice.Preset.{Preset}
+use Rattle.script_reader.specs.declared.choice.Preset.TheVariants as presets
 use Rattle.script_reader.specs.Fields.{under, default_of, whole_in, array_in, not_empty}
 
 abbrev pub wait_in : List ℕ → Data → Result ℕ Refusal
@@ -25,6 +28,12 @@ waits_in path d = do
   some ← not_empty path all
   waits_from path 0 [] some
 
--- the waits under their key; each failed attempt waits a whole retry period where none are given
-abbrev pub waits_at : List ℕ → Data → Result (List ℕ) Refusal
-waits_at path d = default_of own_waits (waits_in (under path (codes "waits"))) (get (codes "waits") d)
+-- each failed attempt waits a whole retry period, or by the rules of Kubernetes the mean of what is drawn there: a period and 0 to 1.2 more
+abbrev pub usual_waits : Preset → List ℕ
+usual_waits presets.Own = own_waits
+usual_waits presets.Upstream120 = 1_600 ∷ []
+usual_waits presets.Upstream136 = 1_600 ∷ []
+
+-- the waits under their key, or those of the preset
+abbrev pub waits_at : Preset → List ℕ → Data → Result (List ℕ) Refusal
+waits_at preset path d = default_of (usual_waits preset) (waits_in (under path (codes "waits"))) (get (codes "waits") d)

@@ -35,6 +35,7 @@ use Rattle.manifest_json.specs.declared.list.Objects.{Objects}
 use Rattle.manifest_json.specs.Faults.{◌>>=◌, refuse}
 use Rattle.manifest_json.specs.Fields.{Texts, or_refuse, numbered}
 use Rattle.manifest_json.specs.Walk.{list_walk, object_walk, member_path, process_of}
+use Rattle.script_reader.specs.declared.choice.Preset.{Preset}
 use Rattle.script_reader.specs.declared.document.Document.{Document}
 use Rattle.script_reader.specs.declared.parts.Beats.{Beats}
 use Rattle.script_reader.specs.declared.parts.Clock.{Clock}
@@ -52,7 +53,7 @@ use Rattle.script_reader.specs.declared.cast.Sort.{Sort}
 use Rattle.script_reader.specs.declared.cast.Sort.TheVariants as sorts
 use Rattle.script_reader.specs.Fields.{under, default_of, required, whole_at, needed_whole, signed_at, flag_at, needed_flag}
 use Rattle.script_reader.specs.Fields.{needed_text, needed_name, name_at, posted_at, needed_posted, policy_at, epoch_at}
-use Rattle.script_reader.specs.Built.{unless_there, rules_built}
+use Rattle.script_reader.specs.Built.{rules_built}
 use Rattle.script_reader.specs.Choices.{preset_at}
 use Rattle.script_reader.specs.Fields.{object_at, array_in, not_empty}
 use Rattle.script_reader.specs.Limits.{scale_of, kubelet_limit, event_limit}
@@ -149,8 +150,8 @@ abbrev pub if_sound : List ℕ → Timings → Rates → Settings → Result Set
 if_sound path t r settings =
     if is_sound t && nat_le r.secondary r.primary && agree settings.rules then Ok settings else refuse BAD_SETTINGS path
 
--- settings; in version 1 `ratePolicy` is an unknown key, so it has its default there, and up to version 3 the rules are
-unfoldable pub settings_at : Version → List ℕ → Data → Result Settings Refusal
+-- settings, and their preset; in version 1 `ratePolicy` is an unknown key, so it has its default there, and up to version 3 the rules are
+unfoldable pub settings_at : Version → List ℕ → Data → Result (Settings × Preset) Refusal
 settings_at version path value = do
   d ← object_in (tables.Settings version) path value
   beats ← beats_at path d
@@ -163,7 +164,7 @@ settings_at version path value = do
   rules ← rules_at preset path d
   settings ← if_sound path timings rates (settings_of beats timings periods rates fast policy rules)
   built ← rules_built preset path d
-  Ok settings
+  Ok (settings, preset)
 
 -- ---- processes
 
@@ -217,14 +218,14 @@ if_controller path earlier name t controller names =
     else (if is_sound t then Ok (controller, names) else refuse BAD_SETTINGS path)
 
 -- a controller with its waits; in version 1 the keys of its timings are unknown, so they are those of the settings
-unfoldable pub controller_at : Version → Settings → Texts → List ℕ → List Proc → Data → Result ((Proc × List ℕ) × Texts) Refusal
-controller_at version settings names path earlier value = do
+unfoldable pub controller_at : Version → Settings → Preset → Texts → List ℕ → List Proc → Data → Result ((Proc × List ℕ) × Texts) Refusal
+controller_at version settings preset names path earlier value = do
   d ← object_in (tables.Controller version) path value
   name ← named_at names path (codes "name") d
   clock ← clock_at path d
   watch ← flag_at true path (codes "watch") d
   timings ← timings_at (timings_of settings) path d
-  waits ← waits_at path d
+  waits ← waits_at preset path d
   controller ← if_controller path earlier name.0 timings (controller_of name.0 clock watch timings) name.1
   Ok ((controller.0, waits), controller.1)
 
@@ -233,17 +234,17 @@ abbrev pub Team : Type 0
 Team = List Proc × List (List ℕ)
 
 -- the controllers from a place on, behind earlier ones
-unfoldable pub controllers_from : Version → Settings → Texts → ℕ → List Proc → List (List ℕ) → Items → Result (Team × Texts) Refusal
-controllers_from version settings names place earlier waits no_items = Ok ((earlier, waits), names)
-controllers_from version settings names place earlier waits (item d rest) = do
-  next ← controller_at version settings names (member_path [] (codes "/controllers/") place) earlier d
-  controllers_from version settings next.1 (place + 1) (earlier ++ next.0.0 ∷ []) (waits ++ next.0.1 ∷ []) rest
+unfoldable pub controllers_from : Version → Settings → Preset → Texts → ℕ → List Proc → List (List ℕ) → Items → Result (Team × Texts) Refusal
+controllers_from version settings preset names place earlier waits no_items = Ok ((earlier, waits), names)
+controllers_from version settings preset names place earlier waits (item d rest) = do
+  next ← controller_at version settings preset names (member_path [] (codes "/controllers/") place) earlier d
+  controllers_from version settings preset next.1 (place + 1) (earlier ++ next.0.0 ∷ []) (waits ++ next.0.1 ∷ []) rest
 
-unfoldable pub controllers_in : Version → Settings → Texts → Data → Result (Team × Texts) Refusal
-controllers_in version settings names d = do
+unfoldable pub controllers_in : Version → Settings → Preset → Texts → Data → Result (Team × Texts) Refusal
+controllers_in version settings preset names d = do
   all ← array_in 16 (codes "/controllers") d
   some ← not_empty (codes "/controllers") all
-  controllers_from version settings names 0 [] [] some
+  controllers_from version settings preset names 0 [] [] some
 
 abbrev pub kubelet_of : ℕ → Clock → ReadyStatus → Timings → Proc
 kubelet_of name c ready t = proc_of name c true ready t
@@ -595,12 +596,12 @@ document_at value = do
   d ← top_in value
   version ← required (codes "/version") version_in (get (codes "version") d)
   settings ← required (codes "/settings") (settings_at version (codes "/settings")) (get (codes "settings") d)
-  controllers ← required (codes "/controllers") (controllers_in version settings fixed_names) (get (codes "controllers") d)
-  kubelets ← default_of ([], controllers.1) (kubelets_in version settings controllers.1) (get (codes "kubelets") d)
+  controllers ← required (codes "/controllers") (controllers_in version settings.0 settings.1 fixed_names) (get (codes "controllers") d)
+  kubelets ← default_of ([], controllers.1) (kubelets_in version settings.0 controllers.1) (get (codes "kubelets") d)
   objects ← objects_at version kubelets.1 (numbers_of controllers.0.0) d
-  events ← events_at (scope_of version settings) (cast_of controllers.0.0 kubelets.0) objects.1 d
+  events ← events_at (scope_of version settings.0) (cast_of controllers.0.0 kubelets.0) objects.1 d
   Ok (record {
-    settings = settings;
+    settings = settings.0;
     controllers = controllers.0.0;
     kubelets = kubelets.0;
     waits = controllers.0.1;

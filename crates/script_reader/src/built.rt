@@ -25,38 +25,19 @@ pub(crate) fn unless_there(path: &Path, key: &str, value: &Value) -> Result<(), 
 pub(crate) fn rules_built(preset: Preset, path: &Path, value: &Value) -> Result<(), ReadFault>
     ensures { Gives (λ _. view value.now) result (spec.rules_built preset path.now (view value.now)) }
 {
-    if_own(preset, path, value)?;
-    judging_built(path, value)?;
-    tainting_built(path, value)?;
+    preset_built(preset, path, value)?;
     ending_built(path, value)
 }
 
-/// The preset is the project's own.
-fn if_own(preset: Preset, path: &Path, value: &Value) -> Result<(), ReadFault>
-    ensures { Gives (λ _. view value.now) result (spec.if_own preset path.now (view value.now)) }
+/// The rules of Kubernetes 1.36 have releases that aren't built.
+fn preset_built(preset: Preset, path: &Path, value: &Value) -> Result<(), ReadFault>
+    ensures { Gives (λ _. view value.now) result (spec.preset_built preset path.now (view value.now)) }
 {
     match preset {
         Preset::Own => Ok(()),
-        Preset::Upstream120 => Err(fault_under(NOT_BUILT, path, "rules")),
+        Preset::Upstream120 => Ok(()),
         Preset::Upstream136 => Err(fault_under(NOT_BUILT, path, "rules")),
     }
-}
-
-#[tactic(auto, unfolding(crate::specs::Built::judging_built))]
-fn judging_built(path: &Path, value: &Value) -> Result<(), ReadFault>
-    ensures { Gives (λ _. view value.now) result (spec.judging_built path.now (view value.now)) }
-{
-    unless_there(path, "probe", value)?;
-    unless_there(path, "judge", value)?;
-    unless_there(path, "firstSight", value)
-}
-
-#[tactic(auto, unfolding(crate::specs::Built::tainting_built))]
-fn tainting_built(path: &Path, value: &Value) -> Result<(), ReadFault>
-    ensures { Gives (λ _. view value.now) result (spec.tainting_built path.now (view value.now)) }
-{
-    unless_there(path, "queue", value)?;
-    unless_there(path, "bucket", value)
 }
 
 #[tactic(auto, unfolding(crate::specs::Built::ending_built))]

@@ -7,6 +7,7 @@ ghost use Rattle.script_reader.specs.Cast.{Stands};
 ghost use Rattle.script_reader.specs.Walk as walk;
 
 use crate::cast::{Named, Team};
+use crate::choice::Preset;
 use crate::field::{
     array_in, fault_under, flag_at, member_of, name_number_at, not_empty, path_of, signed_at,
     status_at, whole_at,
@@ -51,35 +52,39 @@ pub(crate) fn controllers_in(
     alloc: Global,
     version: Version,
     settings: &Settings,
+    preset: Preset,
     names: &mut Names,
     value: &Value,
 ) -> Result<Team, ReadFault>
     ensures gives { Gives (λ team. ((team.named.procs, team.waits), names.new)) result
-        (walk.controllers_in version settings.now names.old (view value.now)) }
+        (walk.controllers_in version settings.now preset names.old (view value.now)) }
     ensures stands { IfOk result (λ team. Stands team.named) }
 {
     let path = path_of(alloc, "/controllers")?;
     let all = array_in(16, &path, value)?;
     let some = not_empty(&path, all)?;
-    controllers_of(alloc, version, settings, names, some)
+    controllers_of(alloc, version, settings, preset, names, some)
 }
 
 fn controllers_of(
     alloc: Global,
     version: Version,
     settings: &Settings,
+    preset: Preset,
     names: &mut Names,
     list: &[Value],
 ) -> Result<Team, ReadFault>
     requires { length list.now ≤ 1000 }
     ensures gives { Gives (λ team. ((team.named.procs, team.waits), names.new)) result
-        (walk.controllers_from version settings.now names.old 0 [] [] (items_view list.now)) }
+        (walk.controllers_from version settings.now preset names.old 0 [] [] (items_view list.now)) }
     ensures stands { IfOk result (λ team. Stands team.named) }
 {
     let mut named = Named::new(alloc);
     let mut waits = WaitLists::new(alloc);
     for (place, value) in list.iter().enumerate() {
-        match controller_in(alloc, version, settings, names, place, &named, value) {
+        match controller_in(
+            alloc, version, settings, preset, names, place, &named, value,
+        ) {
             Ok(controller) => {
                 named.push(controller.0)?;
                 waits.push(controller.1)?;
@@ -94,6 +99,7 @@ fn controller_in(
     alloc: Global,
     version: Version,
     settings: &Settings,
+    preset: Preset,
     names: &mut Names,
     place: usize,
     earlier: &Named,
@@ -101,12 +107,14 @@ fn controller_in(
 ) -> Result<(Proc, NumberList), ReadFault>
     requires { Stands earlier.now }
     ensures gives { Gives (λ controller. (controller, names.new)) result
-        (walk.controller_at version settings.now names.old (member_path [] (codes "/controllers/") place)
+        (walk.controller_at version settings.now preset names.old (member_path [] (codes "/controllers/") place)
         earlier.now.procs (view value.now)) }
     ensures fresh { IfOk result (λ controller. walk.has_name controller.0.name earlier.now.procs ≡ false) }
 {
     let path = member_of(alloc, "/controllers/", place)?;
-    controller_at(alloc, version, settings, names, &path, earlier, value)
+    controller_at(
+        alloc, version, settings, preset, names, &path, earlier, value,
+    )
 }
 
 /// A controller behind earlier ones, with its waits.
@@ -115,6 +123,7 @@ fn controller_at(
     alloc: Global,
     version: Version,
     settings: &Settings,
+    preset: Preset,
     names: &mut Names,
     path: &Path,
     earlier: &Named,
@@ -122,7 +131,7 @@ fn controller_at(
 ) -> Result<(Proc, NumberList), ReadFault>
     requires { Stands earlier.now }
     ensures gives { Gives (λ controller. (controller, names.new)) result
-        (walk.controller_at version settings.now names.old path.now earlier.now.procs (view value.now)) }
+        (walk.controller_at version settings.now preset names.old path.now earlier.now.procs (view value.now)) }
     ensures fresh { IfOk result (λ controller. walk.has_name controller.0.name earlier.now.procs ≡ false) }
 {
     object_in(Table::Controller(version), path, value)?;
@@ -130,7 +139,7 @@ fn controller_at(
     let clock = clock_at(path, value)?;
     let watch = flag_at(true, path, "watch", value)?;
     let timings = timings_at(timings_of(settings), path, value)?;
-    let waits = waits_at(alloc, path, value)?;
+    let waits = waits_at(alloc, preset, path, value)?;
     if earlier.has(name) {
         return Err(fault_under(DUPLICATE, path, "name"));
     }

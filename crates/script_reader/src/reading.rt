@@ -14,6 +14,7 @@ ghost use Rattle.script_reader.specs.Walk.{document_walk};
 
 use crate::Document;
 use crate::cast::{Named, Players, Team};
+use crate::choice::Preset;
 use crate::event::events_in;
 use crate::field::{fault_at, object_at, path_of};
 use crate::limits::scale_of;
@@ -61,10 +62,10 @@ pub fn document_of(alloc: Global, hash: NameHash, value: &Value) -> Result<Docum
 {
     top_in(alloc, value)?;
     let version = version(alloc, value)?;
-    let settings = settings(alloc, version, value)?;
+    let given = settings(alloc, version, value)?;
     let mut names = Names::keyed(alloc, hash)?;
-    let team = controllers(alloc, version, &settings, &mut names, value)?;
-    let kubelets = kubelets(alloc, version, &settings, &mut names, value)?;
+    let team = controllers(alloc, version, &given.0, given.1, &mut names, value)?;
+    let kubelets = kubelets(alloc, version, &given.0, &mut names, value)?;
     let objects = objects_at(alloc, version, &mut names, team.named.known(), value)?;
     let Team { named, waits } = team;
     let players = Players {
@@ -73,7 +74,7 @@ pub fn document_of(alloc: Global, hash: NameHash, value: &Value) -> Result<Docum
     };
     let scope = Scope {
         version,
-        end: settings.end_beat,
+        end: given.0.end_beat,
     };
     let events = events(alloc, &players, scope, &mut names, value)?;
     let Players {
@@ -81,7 +82,7 @@ pub fn document_of(alloc: Global, hash: NameHash, value: &Value) -> Result<Docum
         kubelets,
     } = players;
     Ok(Document {
-        settings,
+        settings: given.0,
         controllers: controllers.procs,
         kubelets: kubelets.procs,
         waits,
@@ -153,8 +154,8 @@ fn version_of(alloc: Global, n: u64) -> Result<Version, ReadFault>
     }
 }
 
-fn settings(alloc: Global, version: Version, value: &Value) -> Result<Settings, ReadFault>
-    ensures { Gives (λ settings. settings) result
+fn settings(alloc: Global, version: Version, value: &Value) -> Result<(Settings, Preset), ReadFault>
+    ensures { Gives (λ found. found) result
         (fields.required (codes "/settings") (walk.settings_at version (codes "/settings")) (get (codes "settings") (view value.now))) }
 {
     match value.get("settings") {
@@ -163,8 +164,12 @@ fn settings(alloc: Global, version: Version, value: &Value) -> Result<Settings, 
     }
 }
 
-fn settings_in(alloc: Global, version: Version, found: &Value) -> Result<Settings, ReadFault>
-    ensures { Gives (λ settings. settings) result
+fn settings_in(
+    alloc: Global,
+    version: Version,
+    found: &Value,
+) -> Result<(Settings, Preset), ReadFault>
+    ensures { Gives (λ found. found) result
         (walk.settings_at version (codes "/settings") (view found.now)) }
 {
     let path = path_of(alloc, "/settings")?;
@@ -175,16 +180,17 @@ fn controllers(
     alloc: Global,
     version: Version,
     settings: &Settings,
+    preset: Preset,
     names: &mut Names,
     value: &Value,
 ) -> Result<Team, ReadFault>
     ensures gives { Gives (λ team. ((team.named.procs, team.waits), names.new)) result
-        (fields.required (codes "/controllers") (walk.controllers_in version settings.now names.old)
+        (fields.required (codes "/controllers") (walk.controllers_in version settings.now preset names.old)
         (get (codes "controllers") (view value.now))) }
     ensures stands { IfOk result (λ team. Stands team.named) }
 {
     match value.get("controllers") {
-        Some(found) => controllers_in(alloc, version, settings, names, found),
+        Some(found) => controllers_in(alloc, version, settings, preset, names, found),
         None => Err(fault_at(alloc, MISSING_KEY, "/controllers")),
     }
 }

@@ -6,7 +6,7 @@ ghost use Rattle.script_reader.specs.Fields as fields;
 ghost use Rattle.script_reader.specs.Walk as walk;
 
 use crate::built::rules_built;
-use crate::choice::preset_at;
+use crate::choice::{Preset, preset_at};
 use crate::field::{epoch_at, fault_under, flag_at, needed_whole, policy_at, whole_at};
 use crate::parts::{Beats, Periods, Rates, Timings};
 use crate::rules::{agree, rules_at};
@@ -18,14 +18,14 @@ use manifest_json::fault::fault;
 use manifest_json::{Path, ReadFault};
 use serde_json::Value;
 
-/// The settings with their defaults, or the first refusal at or below the path.
+/// The settings with their defaults, and their preset, or the first refusal at or below the path.
 #[tactic(auto, unfolding(crate::specs::Walk::settings_at))]
 pub(crate) fn settings_at(
     version: Version,
     path: &Path,
     value: &Value,
-) -> Result<Settings, ReadFault>
-    ensures { Gives (λ settings. settings) result
+) -> Result<(Settings, Preset), ReadFault>
+    ensures { Gives (λ found. found) result
         (walk.settings_at version path.now (view value.now)) }
 {
     object_in(Table::Settings(version), path, value)?;
@@ -40,7 +40,7 @@ pub(crate) fn settings_at(
     let settings = settings_of(beats, timings, periods, rates, fast, policy, rules);
     if_sound(path, timings, rates, &settings)?;
     rules_built(preset, path, value)?;
-    Ok(settings)
+    Ok((settings, preset))
 }
 
 #[tactic(auto, unfolding(crate::specs::Walk::beats_at))]

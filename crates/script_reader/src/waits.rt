@@ -1,12 +1,12 @@
 // The waits of a controller after failed attempts, in thousandths of its retry period.
-ghost use Rattle.std.specs.Prelude.{◌≡◌, ◌+◌, ◌<◌, ◌^◌, [], codes, length, IfOk};
+ghost use Rattle.std.specs.Prelude.{◌≡◌, ◌+◌, ◌<◌, ◌^◌, [], ◌∷◌, codes, length, IfOk};
 ghost use Rattle.serde_json.specs.View.{view, items_view};
-ghost use Rattle.kube_objects.specs.Rules.{own_waits};
 ghost use Rattle.manifest_json.specs.Faults.{Gives};
 ghost use Rattle.manifest_json.specs.Walk.{member_path};
 ghost use Rattle.script_reader.specs.Fields as fields;
 ghost use Rattle.script_reader.specs.Waits as spec;
 
+use crate::choice::Preset;
 use crate::field::{array_in, not_empty};
 use kube_base::NoMemory;
 use kube_objects::NumberList;
@@ -16,9 +16,14 @@ use manifest_json::{Path, ReadFault};
 use serde_json::Value;
 use std::alloc::Global;
 
-/// The waits under their key, or the default.
-pub(crate) fn waits_at(alloc: Global, path: &Path, value: &Value) -> Result<NumberList, ReadFault>
-    ensures { Gives (λ waits. waits) result (spec.waits_at path.now (view value.now)) }
+/// The waits under their key, or those of the preset.
+pub(crate) fn waits_at(
+    alloc: Global,
+    preset: Preset,
+    path: &Path,
+    value: &Value,
+) -> Result<NumberList, ReadFault>
+    ensures { Gives (λ waits. waits) result (spec.waits_at preset path.now (view value.now)) }
 {
     match value.get("waits") {
         Some(found) => {
@@ -26,17 +31,27 @@ pub(crate) fn waits_at(alloc: Global, path: &Path, value: &Value) -> Result<Numb
             let here = slash.below("waits")?;
             waits_in(alloc, &here, found)
         }
-        None => Ok(standard(alloc)?),
+        None => Ok(usual_waits(alloc, preset)?),
     }
 }
 
-/// One wait of a whole retry period.
-fn standard(alloc: Global) -> Result<NumberList, NoMemory>
-    ensures { IfOk result (λ waits. waits ≡ own_waits) }
+/// One wait of a whole retry period, or by the rules of Kubernetes of the mean of what is drawn there.
+fn usual_waits(alloc: Global, preset: Preset) -> Result<NumberList, NoMemory>
+    ensures { IfOk result (λ waits. waits ≡ spec.usual_waits preset) }
 {
     let mut waits = NumberList::new(alloc);
-    waits.push(1_000)?;
+    waits.push(usual_wait(preset))?;
     Ok(waits)
+}
+
+fn usual_wait(preset: Preset) -> u32
+    ensures { result ∷ [] ≡ spec.usual_waits preset }
+{
+    match preset {
+        Preset::Own => 1_000,
+        Preset::Upstream120 => 1_600,
+        Preset::Upstream136 => 1_600,
+    }
 }
 
 /// One to 1,000 waits.

@@ -1,3 +1,4 @@
 pub mod Leaving
+pub mod Numbered
 pub mod Places
 pub mod Slots

@@ -1,3 +1,4 @@
 pub mod Homing
+pub mod PushMaps
 pub mod Tokening
 pub mod ZoneMaps

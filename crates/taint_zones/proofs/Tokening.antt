@@ -1,49 +1,41 @@
 -- The token of a zone's limit.
-use Rattle.std.proofs.Common.{◌≡◌, ◌∙◌, ℕ, ◌*◌, ◌-◌, ◌≤◌, ◌↔◌, nat_le, Bool, true, false, cond, List, Some, None, IsTrue, refl, sym, ap, arith}
-use Rattle.std.proofs.lemmas.Bool.Decides.{nat_tests}
+use Rattle.std.proofs.Common.{◌≡◌, ◌∙◌, ℕ, ◌*◌, ◌-◌, ◌==◌, ◌&&◌, ◌||◌, not, nat_le, Bool, true, false, cond, List, Some, None, refl, sym, ap}
 use Rattle.std.specs.BTreeMap.{BTreeMap, get, Updates}
 use Rattle.kube_objects.specs.Clocks.{local}
 use Rattle.kube_objects.specs.Document.{Doc}
 use Rattle.kube_objects.specs.Entry as entry
 use Rattle.kube_objects.specs.Entry.{Entry, Identity}
-use Rattle.kube_objects.specs.Own.{IsOwn}
-use Rattle.kube_objects.specs.Tokens.{base, has_token, is_grown, token_size}
-use Rattle.kube_objects.proofs.Own.{has_token-own}
-use Rattle.rate_bucket.specs.Filling.{Filling, HasToken, after_attempt}
+use Rattle.kube_objects.specs.Tokens as tokens
+use Rattle.kube_objects.specs.Tokens.{base, is_full_by, is_there, rated, token_size}
+use Rattle.kube_objects.proofs.Tokens.{token_is_there}
+use Rattle.rate_bucket.specs.Filling.{Filling, after_attempt, has_token}
 use Rattle.taint_zones.specs.declared.limit.Limit.{Limit}
 use Rattle.taint_zones.specs.declared.place.Place.{Place}
 use Rattle.taint_zones.specs.Limits.{LimitStands, after_token}
 use Rattle.taint_zones.specs.Places.{zone_cmp, zone_eq}
 use Rattle.taint_zones.proofs.ZoneMaps.{same_zone}
 
-le_true : (a b : ℕ) → a ≤ b → nat_le a b ≡ true
-le_true a b le = grind (arith, nat_tests)
-
-true_le : (a b : ℕ) → nat_le a b ≡ true → a ≤ b
-true_le a b is = grind (arith, nat_tests)
-
-test_is : (a b : ℕ) (t : Bool) → IsTrue t ↔ (a ≤ b) → t ≡ nat_le a b
-test_is a b true both = sym (le_true a b (both.0 refl))
-test_is a b false both = by_test (nat_le a b) refl
-  where
-    by_test : (t : Bool) → nat_le a b ≡ t → false ≡ t
-    by_test false is = refl
-    by_test true is = both.1 (true_le a b is)
+-- what a limit says of the token of its zone at a reading
+pub token_at : (doc : Doc) (q : Identity) (h : List Entry) (place : entry.Place) (limit : Limit) (at : ℕ) → LimitStands doc q h place (Some limit)
+    → has_token limit.bucket at ≡ is_there (is_full_by doc.settings.rules.bucket doc q place h) (at - local doc q.process (base q place h)) (rated q place h)
+unfolding token_size
+token_at doc q h place limit at s =
+    ap (λ r. not (r == 0) && (limit.bucket.full || nat_le 1000000000000000 ((at - limit.bucket.base) * r))) s.rate
+    ∙ ap (λ f. not (limit.rate == 0) && (f || nat_le 1000000000000000 ((at - limit.bucket.base) * limit.rate))) s.full
+    ∙ ap (λ b. not (limit.rate == 0) && (is_full_by doc.settings.rules.bucket doc q place h || nat_le 1000000000000000 ((at - b) * limit.rate))) s.base
+    ∙ ap (is_there (is_full_by doc.settings.rules.bucket doc q place h) (at - local doc q.process (base q place h))) s.rated
 
 -- the token is there as the history says
-pub token_is : (doc : Doc) → IsOwn doc → (q : Identity) (k : ℕ) (h : List Entry) (place : entry.Place) (limit : Limit) (now : ℕ) (taken : Bool) → LimitStands doc q h place (Some limit)
-    → now ≡ local doc q.process k → IsTrue taken ↔ HasToken limit.bucket now → taken ≡ has_token doc q k place h
-unfolding token_size
-token_is doc own q k h place limit now taken s reading both =
-    test_is 1000000000000000 ((now - limit.bucket.base) * limit.bucket.rate) taken both
-    ∙ ap (λ r. nat_le 1000000000000000 ((now - limit.bucket.base) * r)) s.rate
-    ∙ ap (λ n. nat_le 1000000000000000 ((n - limit.bucket.base) * limit.rate)) reading
-    ∙ ap (λ b. nat_le 1000000000000000 ((local doc q.process k - b) * limit.rate)) s.base
-    ∙ ap (is_grown (local doc q.process k - local doc q.process (base q place h))) s.rated
-    ∙ sym (has_token-own doc own q k place h)
+pub token_is : (doc : Doc) (q : Identity) (k : ℕ) (h : List Entry) (place : entry.Place) (limit : Limit) (now : ℕ) → LimitStands doc q h place (Some limit)
+    → now ≡ local doc q.process k → has_token limit.bucket now ≡ tokens.has_token doc q k place h
+token_is doc q k h place limit now s reading =
+    token_at doc q h place limit now s
+    ∙ ap (λ n. is_there (is_full_by doc.settings.rules.bucket doc q place h) (n - local doc q.process (base q place h)) (rated q place h)) reading
+    ∙ sym (token_is_there doc q k place h)
 
-pub no_token : (doc : Doc) → IsOwn doc → (q : Identity) (k : ℕ) (h : List Entry) (place : entry.Place) → LimitStands doc q h place None → false ≡ has_token doc q k place h
-no_token doc own q k h place s = ap (is_grown (local doc q.process k - local doc q.process (base q place h))) s.rated ∙ sym (has_token-own doc own q k place h)
+pub no_token : (doc : Doc) (q : Identity) (k : ℕ) (h : List Entry) (place : entry.Place) → LimitStands doc q h place None → false ≡ tokens.has_token doc q k place h
+no_token doc q k h place s =
+    ap (is_there (is_full_by doc.settings.rules.bucket doc q place h) (local doc q.process k - local doc q.process (base q place h))) s.rated ∙ sym (token_is_there doc q k place h)
 
 module _ (limits new : BTreeMap Place Limit) (place : Place) (limit : Limit) (bucket : Filling) (now : ℕ) (taken : Bool) (found : get zone_cmp limits place ≡ Some limit)
     (u : Updates zone_cmp limits new place (Some (record { state = limit.state; rate = limit.rate; bucket = bucket }))) (after : bucket ≡ after_attempt limit.bucket now taken) where

@@ -132,13 +132,13 @@ less_is Less is = refl
 less_is Equal is = absurd (cc)
 less_is Greater is = absurd (cc)
 
+pub above_first : (first zone : Place) → is_lt (zone_cmp zone first) ≡ true → is_gt (zone_cmp first zone) ≡ true
+above_first first zone less = ap is_gt (zones_total.antisymm first zone ∙ ap ordering_reverse (less_is (zone_cmp zone first) less))
+
 -- before the first of the zones nobody waits
 pub before_first : (zones : BTreeMap Place Queue) (first : Place) → IsLowerBound zone_cmp zones first → (zone : Place) → is_lt (zone_cmp zone first) ≡ true → (node : ℕ) → since_at zones zone node ≡ None
 before_first zones first least zone less node = by_queue (get zone_cmp zones zone) refl
   where
-    above : is_gt (zone_cmp first zone) ≡ true
-    above = ap is_gt (zones_total.antisymm first zone ∙ ap ordering_reverse (less_is (zone_cmp zone first) less))
-
     by_queue : (o : Option Queue) → get zone_cmp zones zone ≡ o → since_in o node ≡ None
     by_queue None is = refl
-    by_queue (Some queue) is = absurd (both_ways (is_gt (zone_cmp first zone)) (least zone (subst IsSome (sym is) refl)) above)
+    by_queue (Some queue) is = absurd (both_ways (is_gt (zone_cmp first zone)) (least zone (subst IsSome (sym is) refl)) (above_first first zone less))

@@ -1,4 +1,5 @@
 pub mod Homes
 pub mod Limits
 pub mod Places
+pub mod Pushing
 pub mod Waiting

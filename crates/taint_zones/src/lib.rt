@@ -3,11 +3,13 @@
 
 mod limit;
 mod place;
+mod pushes;
 mod queues;
 mod zone_queues;
 mod zones;
 
 pub use limit::Limit;
 pub use place::Place;
+pub use pushes::ZonePushes;
 pub use queues::Queues;
 pub use zones::Zones;

@@ -6,10 +6,13 @@ ghost use Rattle.kube_objects.specs.Entry.{Entry, Identity};
 ghost use Rattle.kube_objects.specs.Modes as modes;
 ghost use Rattle.kube_objects.specs.Newest.{has};
 ghost use Rattle.kube_objects.specs.Seen.{is_synced, seen, seen_node, seen_pod};
+ghost use Rattle.kube_objects.specs.Seen as seen_words;
+ghost use Rattle.kube_objects.specs.Stored as stored_words;
 ghost use Rattle.std.specs.List.Sorted.{IsStrictlySortedBy};
 ghost use Rattle.std.specs.Ordering.{nat_cmp};
 ghost use Rattle.tick_laws.specs.Judged as judged;
 
+use crate::tries::node_key;
 use evict_queue::{EvictQueue, Rows};
 use kube_base::{NoMemory, Steps, Version};
 use kube_objects::{EvictRule, Key, Lease, Node, NumberList, Pod};
@@ -80,6 +83,21 @@ impl Cluster {
             Ok(found) => found,
             Err(NotSynced) => None,
         }
+    }
+
+    /// Whether the node of that name is stale: a try to untaint or swap it was refused since the last sync.
+    pub fn is_stale(&self, name: u32) -> bool
+        ensures { (q : Identity) (h : List Entry) (nodes : ℕ → Bool) (pods : Key → Bool) → ClusterBut q h nodes pods self.now
+            → result ≡ seen_words.is_stale q (stored_words.node_key name) h }
+    {
+        self.cache.is_stale(&node_key(name))
+    }
+
+    /// Whether the next tick untaints or swaps this node, if nothing changes before.
+    pub fn is_unclean_at(&self, name: u32) -> bool
+        ensures { (q : Identity) (h : List Entry) → ClusterStands q h self.now → result ≡ judged.is_dirty q name h }
+    {
+        self.unclean.contains(&name)
     }
 
     /// The Lease under a key, with its version.

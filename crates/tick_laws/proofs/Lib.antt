@@ -1,5 +1,5 @@
--- For callers: other crates cite Cleaning, Evicting, Foreign, Frames, Heads, Marking, Named, Orders, Phases, Quiet, Sights, Steps, Syncing, Tainting, Ticked,
---   ToJudge, Tried, Waiting, Walks, Zoning. Nothing else is cited from outside.
+-- For callers: other crates cite Cleaning, Evicting, Foreign, Frames, Heads, Judging, Marking, Named, Orders, Phases, Pushing, Quiet, Sights, Steps, Syncing, Tainting,
+--   Ticked, ToJudge, Tried, Waiting, Walks, Zoning. Nothing else is cited from outside.
 -- The lemmas in layers: a file stands on those of the layers above its own in this list, and on those before it in its layer.
 -- ---- layer 1: orders, walks, and what an entry changes
 pub mod Orders
@@ -13,6 +13,7 @@ pub mod Tried
 -- ---- layer 3: single phases of a tick
 pub mod Syncing
 pub mod Cleaning
+pub mod Judging
 pub mod Marking
 pub mod Evicting
 -- ---- layer 4: the entries of one tick
@@ -25,6 +26,7 @@ pub mod Waiting
 -- ---- layer 5: entries that are no tick's, and the phase of queued taints
 pub mod Foreign
 pub mod Tainting
+pub mod Pushing
 -- ---- layer 6: the whole tick
 pub mod Phases
 pub mod Sights

@@ -10,23 +10,26 @@ use Rattle.kube_objects.specs.declared.node.Node.{Node}
 use Rattle.kube_objects.specs.declared.node.ZoneState.{ZoneState}
 use Rattle.kube_objects.specs.declared.rules.EvictRule.{EvictRule}
 use Rattle.kube_objects.specs.declared.rules.EvictRule.TheVariants.{Added, Seen}
+use Rattle.kube_objects.specs.declared.rules.SightRule.{SightRule}
+use Rattle.kube_objects.specs.declared.rules.SightRule.TheVariants.{Keep, Strip}
 use Rattle.kube_objects.specs.Document.{Doc, of_millis}
-use Rattle.kube_objects.specs.Entry.{Entry, Identity, Place, Fact, Ticks, Tick, Sync, Pass, Mark, Mode, Zone, Untaint, Swap, Head, Delete, Skip}
-use Rattle.kube_objects.specs.Health.{and_name, at_pass, is_pass, is_pass_due, mark_of, last_pass, marked_name, marked_since, pass_period, pass_says, pods_to_write, work_of}
+use Rattle.kube_objects.specs.Entry.{Entry, Identity, Place, Fact, Ticks, Tick, Sync, Pass, Mark, Mode, Zone, Untaint, Swap, Head, Delete, Skip, actor_of, entry}
+use Rattle.kube_objects.specs.Health.{and_name, at_pass, before_pass, is_found, is_known, is_pass, is_pass_due, mark_of, last_pass, marked_name, marked_since, pass_period, pass_says, pods_to_write, work_of}
 use Rattle.kube_objects.specs.InForce.{watches}
+use Rattle.kube_objects.specs.Judgement.{Passed, counts, had_turn, marks as marks_of, passes, queue, queue_head, turns_on}
 use Rattle.kube_objects.specs.Modes.{nodes, places, place_eq, state_in, rate_in, all_full, mode}
 use Rattle.kube_objects.specs.Newest.{newest, when, only_if, join, or_else, or_zero}
 use Rattle.kube_objects.specs.Identities.{is_by}
 use Rattle.kube_objects.specs.Seen.{is_accepted, seen_node, is_fresh, is_stale, is_refused, is_pod, node_names}
 use Rattle.kube_objects.specs.Stored.{node_key}
 use Rattle.kube_objects.specs.Tainting.{Wants, Nothing, Wanted, Whatever, wants, has_condition, is_opposite}
+use Rattle.kube_objects.specs.Tick.{judge, push}
 use Rattle.kube_objects.specs.Tick.{add, for_each, has_settled, is_stripped, sync, mark_as, mark_seen, mark, is_same_mode, mode_as, set_mode, zone_as, zone, set_zones, marks, pass, clean_as, clean_seen, clean, cleaned, taint, tainted, evict, evicted, tick, whole_pass, add_untaint, add_swap}
-use Rattle.kube_objects.specs.Tokens.{is_zone, rated_says, rated, is_rated, has_rate, is_base, base}
+use Rattle.kube_objects.specs.Tokens.{is_zone, rated_says, rated, is_rated, has_rate, is_base, base, fills, fills_zone, grown, is_full, is_there}
 use Rattle.kube_objects.specs.Tries.{try_node}
-use Rattle.kube_objects.specs.Own.{IsOwn}
-use Rattle.kube_objects.proofs.Own.{cleaned-own, tainted-own}
+use Rattle.kube_objects.proofs.Passes.{IsQuiet, and_last, counts_kept as quiet_counts, passes_grow, queue_grows}
 use Rattle.history_laws.proofs.Plainly.{false_is, true_is, none_is, some_is}
-use Rattle.history_laws.proofs.Ticks.{IsDeleteBy, MadeTick, IsPodKey, evict_step, evicted_each, walk_sync, walk_pass, walk_cleaned, walk_tainted, walk_evicted, walk_tick}
+use Rattle.history_laws.proofs.Ticks.{IsDeleteBy, MadeTick, IsPodKey, cleaned_each, evict_step, evicted_each, judge_step, push_step, tainted_each, walk_sync, walk_pass, walk_cleaned, walk_tainted, walk_evicted, walk_tick}
 use Rattle.tick_laws.specs.Judged.{waits_since}
 use Rattle.tick_laws.specs.Rows.{no_heads, IsFresh}
 use Rattle.tick_laws.specs.Since.{IsReached, AreReached}
@@ -142,16 +145,24 @@ module _ (doc : Doc) (k : ℕ) (q : Identity) (P : List Entry → Type 0) where
         by_stale false None is = p
         by_stale false (Some x) is = by_wants x is (wants (is_stripped doc.settings.rules.first_sight k q name h || mode q h) x.1)
 
-    pub cleaned_keeps : IsOwn doc → (h : List Entry) → P h → P (cleaned doc k q h)
-    cleaned_keeps own h p = subst P (sym (cleaned-own doc own k q h)) (every (clean doc k q) P clean_step (node_names h) h p)
+    pub judged_step : (x : Passed) (name : ℕ) (h : List Entry) → P h → P (judge doc k q x name h)
+    judged_step x name h p =
+        judge_step doc k q P x name h p (λ z is. more _ h refl (z.1, is, refl) p) (λ y z was is wanted wants. more _ h refl (z.1, is, refl) p)
+
+    pub cleaned_keeps : (h : List Entry) → P h → P (cleaned doc k q h)
+    cleaned_keeps h p = cleaned_each doc k q P clean_step judged_step h p
 
   module _ (more : (t : Tick) (h : List Entry) → is_heading t ≡ true → MadeTick doc k q t h → P h → P (add k q t h)) where
     pub taint_step : (place : Place) (h : List Entry) → P h → P (taint doc k q place h)
     taint_step place h p =
         taint_either doc k q place h P p (λ at n wanted w token head. more (heading doc k q place n wanted w.x (try_node q n w.x.0 h)) h refl (token, (w.x.1, w.sees, refl)) p)
 
-    pub tainted_keeps : IsOwn doc → (h : List Entry) → P h → P (tainted doc k q h)
-    tainted_keeps own h p = subst P (sym (tainted-own doc own k q h)) (every (taint doc k q) P taint_step (places (nodes q h)) h p)
+    pub pushed_step : (place : Place) (h : List Entry) → P h → P (push doc k q place h)
+    pushed_step place h p =
+        push_step doc k q P place h p (λ name token. more (Skip place name) h refl token p) (λ name x token is wanted wants. more _ h refl (token, (x.1, is, refl)) p)
+
+    pub tainted_keeps : (h : List Entry) → P h → P (tainted doc k q h)
+    tainted_keeps h p = tainted_each doc k q P taint_step pushed_step h p
 
   module _ (more : (pod : Key) (given node_given : Version) (at : ℕ) (a : Option Answer) (h : List Entry) → is_pod pod.kind ≡ true → P h → P (add k q (Delete pod given node_given at a) h)) where
     pub evict_keeps : (pod : Key) (h : List Entry) → IsPodKey pod → P h → P (evict doc k q pod h)
@@ -182,6 +193,63 @@ base_kept q k h (Head p name wanted given written a) is other place = absurd (tr
 base_kept q k h (Skip p name) is other place = absurd (true_is other)
 base_kept q k h t is other place = refl
 
+pub full_kept : (doc : Doc) (q : Identity) (k : ℕ) (h : List Entry) (t : Tick) → is_passing t ≡ false → is_heading t ≡ false → (place : Place)
+    → is_full doc q place (add k q t h) ≡ is_full doc q place h
+full_kept doc q k h (Zone p s rate) is other place = absurd (true_is is)
+full_kept doc q k h (Head p name wanted given written a) is other place = absurd (true_is other)
+full_kept doc q k h (Skip p name) is other place = absurd (true_is other)
+full_kept doc q k h t is other place = refl
+
+pub before_kept : (q : Identity) (k : ℕ) (h : List Entry) (t : Tick) → is_passing t ≡ false → before_pass q (add k q t h) ≡ before_pass q h
+before_kept q k h Pass is = absurd (true_is is)
+before_kept q k h t is = refl
+
+pub known_kept : (q : Identity) (k : ℕ) (h : List Entry) (t : Tick) → is_passing t ≡ false → (name : ℕ) → is_known q name (add k q t h) ≡ is_known q name h
+known_kept q k h Pass is name = absurd (true_is is)
+known_kept q k h t is name = refl
+
+pub stripped_kept : (rule : SightRule) (q : Identity) (k : ℕ) (h : List Entry) (t : Tick) → is_passing t ≡ false → (name : ℕ)
+    → is_stripped rule k q name (add k q t h) ≡ is_stripped rule k q name h
+stripped_kept Keep q k h t is name = refl
+stripped_kept Strip q k h Pass is name = absurd (true_is is)
+stripped_kept Strip q k h t is name = refl
+
+-- an entry that is of no pass leaves who counts as pushed, and one that is no turn the queues too
+quiet_entry : (q : Identity) (k : ℕ) (t : Tick) → is_passing t ≡ false → IsQuiet q (entry k 4 q (Ticks t))
+quiet_entry q k t is = record { marks = λ name. by_marks name t is; turns = by_turns t is }
+  where
+    by_marks : (name : ℕ) (t : Tick) → is_passing t ≡ false → marks_of q name (actor_of q) (Ticks t) ≡ false
+    by_marks name (Mark n given written a) is = absurd (true_is is)
+    by_marks name t is = refl
+
+    by_turns : (t : Tick) → is_passing t ≡ false → turns_on q (actor_of q) (Ticks t) ≡ false
+    by_turns (Mode on) is = absurd (true_is is)
+    by_turns t is = refl
+
+quiet_passes : (q : Identity) (k : ℕ) (h : List Entry) (t : Tick) → is_passing t ≡ false → passes q (add k q t h) ≡ and_last (entry k 4 q (Ticks t)) (passes q h)
+quiet_passes q k h t is = passes_grow q (entry k 4 q (Ticks t)) h (by_tick t is)
+  where
+    by_tick : (t : Tick) → is_passing t ≡ false → is_pass q (actor_of q) (Ticks t) ≡ false
+    by_tick Pass is = absurd (true_is is)
+    by_tick t is = refl
+
+pub counts_kept : (doc : Doc) (q : Identity) (k : ℕ) (h : List Entry) (t : Tick) → is_passing t ≡ false → (place : Place) (name : ℕ)
+    → counts doc q place name (passes q (add k q t h)) ≡ counts doc q place name (passes q h)
+counts_kept doc q k h t is place name =
+    ap (counts doc q place name) (quiet_passes q k h t is) ∙ quiet_counts q (entry k 4 q (Ticks t)) (quiet_entry q k t is) doc place name (passes q h)
+
+pub queue_kept : (doc : Doc) (q : Identity) (k : ℕ) (h : List Entry) (t : Tick) → is_passing t ≡ false → is_heading t ≡ false → (place : Place)
+    → queue doc q place (passes q (add k q t h)) ≡ queue doc q place (passes q h)
+queue_kept doc q k h t is other place =
+    ap (queue doc q place) (quiet_passes q k h t is)
+    ∙ queue_grows doc q place (entry k 4 q (Ticks t)) (passes q h) (quiet_entry q k t is)
+    ∙ by_tick t other
+  where
+    by_tick : (t : Tick) → is_heading t ≡ false → queue_head doc q place (passes q h) (actor_of q) (Ticks t) (queue doc q place (passes q h)) ≡ queue doc q place (passes q h)
+    by_tick (Head p name wanted given written a) other = absurd (true_is other)
+    by_tick (Skip p name) other = absurd (true_is other)
+    by_tick t other = refl
+
 pub mode_kept : (q : Identity) (k : ℕ) (h : List Entry) (t : Tick) → is_passing t ≡ false → mode q (add k q t h) ≡ mode q h
 mode_kept q k h (Mode on) is = absurd (true_is is)
 mode_kept q k h t is = refl
@@ -197,10 +265,27 @@ pub record KeepsLimits (q : Identity) (h g : List Entry) : Type 0 where
   pub period : (doc : Doc) → pass_period doc q g ≡ pass_period doc q h
   pub rated : (place : Place) → rated q place g ≡ rated q place h
   pub base : (place : Place) → base q place g ≡ base q place h
+  pub full : (doc : Doc) (place : Place) → is_full doc q place g ≡ is_full doc q place h
   pub mode : mode q g ≡ mode q h
+  pub before : before_pass q g ≡ before_pass q h
+  pub known : (name : ℕ) → is_known q name g ≡ is_known q name h
+  pub counts : (doc : Doc) (place : Place) (name : ℕ) → counts doc q place name (passes q g) ≡ counts doc q place name (passes q h)
+  pub queue : (doc : Doc) (place : Place) → queue doc q place (passes q g) ≡ queue doc q place (passes q h)
 
 limits_same : (q : Identity) (h : List Entry) → KeepsLimits q h h
-limits_same q h = record { passed = refl; period = λ doc. refl; rated = λ place. refl; base = λ place. refl; mode = refl }
+limits_same q h =
+    record {
+      passed = refl;
+      period = λ doc. refl;
+      rated = λ place. refl;
+      base = λ place. refl;
+      full = λ doc place. refl;
+      mode = refl;
+      before = refl;
+      known = λ name. refl;
+      counts = λ doc place name. refl;
+      queue = λ doc place. refl;
+    }
 
 limits_more : (q : Identity) (k : ℕ) (h g : List Entry) (t : Tick) → is_passing t ≡ false → is_heading t ≡ false → KeepsLimits q h g → KeepsLimits q h (add k q t g)
 limits_more q k h g t unpassing unheading s =
@@ -209,7 +294,12 @@ limits_more q k h g t unpassing unheading s =
       period = λ doc. period_kept doc q k g t unpassing ∙ s.period doc;
       rated = λ place. rated_kept q k g t unpassing place ∙ s.rated place;
       base = λ place. base_kept q k g t unpassing unheading place ∙ s.base place;
+      full = λ doc place. full_kept doc q k g t unpassing unheading place ∙ s.full doc place;
       mode = mode_kept q k g t unpassing ∙ s.mode;
+      before = before_kept q k g t unpassing ∙ s.before;
+      known = λ name. known_kept q k g t unpassing name ∙ s.known name;
+      counts = λ doc place name. counts_kept doc q k g t unpassing place name ∙ s.counts doc place name;
+      queue = λ doc place. queue_kept doc q k g t unpassing unheading place ∙ s.queue doc place;
     }
 
 cleaning_alone : (t : Tick) → is_cleaning t ≡ true → (is_passing t ≡ false) × (is_heading t ≡ false)
@@ -227,29 +317,42 @@ passing_alone (Head place name wanted given written a) is = absurd (false_is is)
 passing_alone (Skip place name) is = absurd (false_is is)
 passing_alone t is = refl
 
-module _ (doc : Doc) (own : IsOwn doc) (k : ℕ) (q : Identity) (h : List Entry) where
+module _ (doc : Doc) (k : ℕ) (q : Identity) (h : List Entry) where
   pub sync_limits : KeepsLimits q h (sync doc k q h)
   sync_limits = sync_keeps doc k q (KeepsLimits q h) (λ g s. limits_more q k h g Sync refl refl s) h (limits_same q h)
 
   pub cleaned_limits : KeepsLimits q h (cleaned doc k q h)
   cleaned_limits =
-      cleaned_keeps doc k q (KeepsLimits q h) (λ t g is made s. limits_more q k h g t (cleaning_alone t is).0 (cleaning_alone t is).1 s) own h (limits_same q h)
+      cleaned_keeps doc k q (KeepsLimits q h) (λ t g is made s. limits_more q k h g t (cleaning_alone t is).0 (cleaning_alone t is).1 s) h (limits_same q h)
 
   pub evicted_limits : KeepsLimits q h (evicted doc k q h)
   evicted_limits = evicted_keeps doc k q (KeepsLimits q h) (λ pod given node_given at a g made s. limits_more q k h g (Delete pod given node_given at a) refl refl s) h (limits_same q h)
 
   -- queued taints take tokens, and leave the rest of this
   pub tainted_passed : last_pass q (tainted doc k q h) ≡ last_pass q h
-  tainted_passed = tainted_keeps doc k q (λ g. last_pass q g ≡ last_pass q h) (λ t g is made s. pass_kept q k g t (heading_alone t is) ∙ s) own h refl
+  tainted_passed = tainted_keeps doc k q (λ g. last_pass q g ≡ last_pass q h) (λ t g is made s. pass_kept q k g t (heading_alone t is) ∙ s) h refl
 
   pub tainted_period : pass_period doc q (tainted doc k q h) ≡ pass_period doc q h
-  tainted_period = tainted_keeps doc k q (λ g. pass_period doc q g ≡ pass_period doc q h) (λ t g is made s. period_kept doc q k g t (heading_alone t is) ∙ s) own h refl
+  tainted_period = tainted_keeps doc k q (λ g. pass_period doc q g ≡ pass_period doc q h) (λ t g is made s. period_kept doc q k g t (heading_alone t is) ∙ s) h refl
 
   pub tainted_rated : (place : Place) → rated q place (tainted doc k q h) ≡ rated q place h
-  tainted_rated place = tainted_keeps doc k q (λ g. rated q place g ≡ rated q place h) (λ t g is made s. rated_kept q k g t (heading_alone t is) place ∙ s) own h refl
+  tainted_rated place = tainted_keeps doc k q (λ g. rated q place g ≡ rated q place h) (λ t g is made s. rated_kept q k g t (heading_alone t is) place ∙ s) h refl
 
   pub tainted_mode : mode q (tainted doc k q h) ≡ mode q h
-  tainted_mode = tainted_keeps doc k q (λ g. mode q g ≡ mode q h) (λ t g is made s. mode_kept q k g t (heading_alone t is) ∙ s) own h refl
+  tainted_mode = tainted_keeps doc k q (λ g. mode q g ≡ mode q h) (λ t g is made s. mode_kept q k g t (heading_alone t is) ∙ s) h refl
+
+  pub tainted_before : before_pass q (tainted doc k q h) ≡ before_pass q h
+  tainted_before = tainted_keeps doc k q (λ g. before_pass q g ≡ before_pass q h) (λ t g is made s. before_kept q k g t (heading_alone t is) ∙ s) h refl
+
+  pub tainted_known : (name : ℕ) → is_known q name (tainted doc k q h) ≡ is_known q name h
+  tainted_known name =
+      tainted_keeps doc k q (λ g. is_known q name g ≡ is_known q name h) (λ t g is made s. known_kept q k g t (heading_alone t is) name ∙ s) h refl
+
+  -- ---- one node's untaint or swap leaves who is stripped
+
+  pub clean_stripped : (rule : SightRule) (name m : ℕ) → is_stripped rule k q m (clean doc k q name h) ≡ is_stripped rule k q m h
+  clean_stripped rule name m =
+      clean_step doc k q (λ g. is_stripped rule k q m g ≡ is_stripped rule k q m h) (λ t g is made s. stripped_kept rule q k g t (cleaning_alone t is).0 m ∙ s) name h refl
 
   -- ---- before the queued taints there are none
 
@@ -260,7 +363,7 @@ module _ (doc : Doc) (own : IsOwn doc) (k : ℕ) (q : Identity) (h : List Entry)
   pass_heads = pass_keeps doc k q (λ g. no_heads q k g ≡ true) (λ t g is s. heads_kept q k g t (passing_alone t is) s) h
 
   pub cleaned_heads : no_heads q k h ≡ true → no_heads q k (cleaned doc k q h) ≡ true
-  cleaned_heads = cleaned_keeps doc k q (λ g. no_heads q k g ≡ true) (λ t g is made s. heads_kept q k g t (cleaning_alone t is).1 s) own h
+  cleaned_heads = cleaned_keeps doc k q (λ g. no_heads q k g ≡ true) (λ t g is made s. heads_kept q k g t (cleaning_alone t is).1 s) h
 
   -- ---- deletes leave since when nodes wait
 
@@ -330,10 +433,16 @@ foreign_limits q h e other =
             | true ↦ of_millis doc.settings.monitor_period_millis
             | false ↦ of_millis doc.settings.monitor_period_millis
                 + work_of doc.settings.rules.ready_millis doc.settings.rules.ready_burst (pods_to_write q x.0 x.1)
-          ]) (pair_is (by_marked e.actor e.fact other) (ap (λ o. or_else [] (upper o (newest (λ e T. at_pass q (λ T. Some T) e.actor e.fact T) h))) (by_before e.actor e.fact other)));
+          ]) (pair_is (by_marked e.actor e.fact other) (ap (λ o. or_else [] (upper o (newest (λ e T. at_pass q (λ T. Some T) e.actor e.fact T) h))) (by_at (λ T. Some T) e.actor e.fact other)));
       rated = λ place. ap (λ o. join (upper o (newest (λ e T. rated_says q place e.actor e.fact T) h))) (by_rated place e.actor e.fact other);
       base = λ place. ap (λ b. or_zero (upper (when b e.beat) (newest (λ e T. when (is_base q place e.actor e.fact T) e.beat) h))) (by_base place e.actor e.fact other);
+      full = λ doc place. by_full doc place (is_full doc q place h) e.actor e.fact other;
       mode = (foreign_change q h e other).mode;
+      before = ap (λ o. or_else [] (upper o (newest (λ e T. at_pass q (λ T. Some T) e.actor e.fact T) h))) (by_at (λ T. Some T) e.actor e.fact other);
+      known = λ name. ap (λ o. or_else false (upper o (newest (λ e T. at_pass q (λ T. Some (is_found q name T)) e.actor e.fact T) h)))
+          (by_at (λ T. Some (is_found q name T)) e.actor e.fact other);
+      counts = λ doc place name. ap (counts doc q place name) passes_are ∙ quiet_counts q e quiet doc place name (passes q h);
+      queue = λ doc place. ap (queue doc q place) passes_are ∙ queue_grows doc q place e (passes q h) quiet ∙ by_head doc place e.actor e.fact other;
     }
   where
     and_false : (b : Bool) → (b && false) ≡ false
@@ -360,13 +469,61 @@ foreign_limits q h e other =
     by_marked who (Ticks t) is = marked_tick who t is
     by_marked who d is = refl
 
-    before_tick_of : (who : Actor) (t : Tick) → is_by q who ≡ false → at_pass q (λ T. Some T) who (Ticks t) h ≡ None
-    before_tick_of who Pass is = ap (λ b. only_if b (Some h)) is
-    before_tick_of who t is = refl
+    at_tick : {A : Type 0} (f : List Entry → Option A) (who : Actor) (t : Tick) → is_by q who ≡ false → at_pass q f who (Ticks t) h ≡ None
+    at_tick f who Pass is = ap (λ b. only_if b (f h)) is
+    at_tick f who t is = refl
 
-    by_before : (who : Actor) (d : Fact) → is_tick_by q who d ≡ false → at_pass q (λ T. Some T) who d h ≡ None
-    by_before who (Ticks t) is = before_tick_of who t is
-    by_before who d is = refl
+    by_at : {A : Type 0} (f : List Entry → Option A) (who : Actor) (d : Fact) → is_tick_by q who d ≡ false → at_pass q f who d h ≡ None
+    by_at f who (Ticks t) is = at_tick f who t is
+    by_at f who d is = refl
+
+    pass_of : (who : Actor) (t : Tick) → is_by q who ≡ false → is_pass q who (Ticks t) ≡ false
+    pass_of who Pass is = is
+    pass_of who t is = refl
+
+    by_no_pass : (who : Actor) (d : Fact) → is_tick_by q who d ≡ false → is_pass q who d ≡ false
+    by_no_pass who (Ticks t) is = pass_of who t is
+    by_no_pass who d is = refl
+
+    passes_are : passes q (e ∷ h) ≡ and_last e (passes q h)
+    passes_are = passes_grow q e h (by_no_pass e.actor e.fact other)
+
+    marks_tick : (name : ℕ) (who : Actor) (t : Tick) → is_by q who ≡ false → marks_of q name who (Ticks t) ≡ false
+    marks_tick name who (Mark n given written a) is = ap (λ b. b && (n == name && is_accepted a)) is
+    marks_tick name who t is = refl
+
+    by_marks : (name : ℕ) (who : Actor) (d : Fact) → is_tick_by q who d ≡ false → marks_of q name who d ≡ false
+    by_marks name who (Ticks t) is = marks_tick name who t is
+    by_marks name who d is = refl
+
+    turns_tick : (who : Actor) (t : Tick) → is_by q who ≡ false → turns_on q who (Ticks t) ≡ false
+    turns_tick who (Mode true) is = is
+    turns_tick who t is = refl
+
+    by_turns : (who : Actor) (d : Fact) → is_tick_by q who d ≡ false → turns_on q who d ≡ false
+    by_turns who (Ticks t) is = turns_tick who t is
+    by_turns who d is = refl
+
+    quiet : IsQuiet q e
+    quiet = record { marks = λ name. by_marks name e.actor e.fact other; turns = by_turns e.actor e.fact other }
+
+    not_mine : (at : Place) (place : Place) (who : Actor) → is_by q who ≡ false → (counted written : Bool) (names : List ℕ)
+        → (if place_eq at place && is_by q who then had_turn counted written names else names) ≡ names
+    not_mine at place who is counted written names =
+        ap (λ b. (if place_eq at place && b then had_turn counted written names else names)) is
+        ∙ ap (λ b. (if b then had_turn counted written names else names)) (and_false (place_eq at place))
+
+    head_tick : (doc : Doc) (place : Place) (who : Actor) (t : Tick) → is_by q who ≡ false
+        → queue_head doc q place (passes q h) who (Ticks t) (queue doc q place (passes q h)) ≡ queue doc q place (passes q h)
+    head_tick doc place who (Head at n wanted given written a) is =
+        not_mine at place who is (counts doc q place n (passes q h)) (is_accepted a) (queue doc q place (passes q h))
+    head_tick doc place who (Skip at n) is = not_mine at place who is (counts doc q place n (passes q h)) true (queue doc q place (passes q h))
+    head_tick doc place who t is = refl
+
+    by_head : (doc : Doc) (place : Place) (who : Actor) (d : Fact) → is_tick_by q who d ≡ false
+        → queue_head doc q place (passes q h) who d (queue doc q place (passes q h)) ≡ queue doc q place (passes q h)
+    by_head doc place who (Ticks t) is = head_tick doc place who t is
+    by_head doc place who d is = refl
 
     rated_tick : (place : Place) (who : Actor) (t : Tick) → is_by q who ≡ false → rated_says q place who (Ticks t) h ≡ None
     rated_tick place who Pass is = ap (λ b. only_if b (when (not (is_zone q place h)) None)) is
@@ -386,3 +543,22 @@ foreign_limits q h e other =
     by_base : (place : Place) (who : Actor) (d : Fact) → is_tick_by q who d ≡ false → is_base q place who d h ≡ false
     by_base place who (Ticks t) is = base_tick place who t is
     by_base place who d is = refl
+
+    and_not : (full at : Bool) → (full && not (at && false)) ≡ full
+    and_not true true = refl
+    and_not true false = refl
+    and_not false at = refl
+
+    full_tick : (doc : Doc) (place : Place) (full : Bool) (who : Actor) (t : Tick) → is_by q who ≡ false → fills doc q place e.beat who (Ticks t) h full ≡ full
+    full_tick doc place full who (Zone at state rate) is =
+        ap (λ b. elim b [
+          | true ↦ fills_zone (rated q place h) (not (has_rate rate (rated q place h))) (is_there full (grown doc q e.beat place h) (rated q place h)) full
+          | false ↦ full
+        ]) (ap (λ b. place_eq at place && b) is ∙ and_false (place_eq at place))
+    full_tick doc place full who (Head at node wanted given written a) is = ap (λ b. full && not (place_eq at place && b)) is ∙ and_not full (place_eq at place)
+    full_tick doc place full who (Skip at node) is = ap (λ b. full && not (place_eq at place && b)) is ∙ and_not full (place_eq at place)
+    full_tick doc place full who t is = refl
+
+    by_full : (doc : Doc) (place : Place) (full : Bool) (who : Actor) (d : Fact) → is_tick_by q who d ≡ false → fills doc q place e.beat who d h full ≡ full
+    by_full doc place full who (Ticks t) is = full_tick doc place full who t is
+    by_full doc place full who d is = refl

@@ -20,7 +20,6 @@ use Rattle.kube_objects.specs.Entry.{Entry, Identity, Tick, Sync, Mark, Untaint,
 use Rattle.kube_objects.specs.InForce.{watches}
 use Rattle.kube_objects.specs.Keys.{key_eq}
 use Rattle.kube_objects.specs.Newest.{newest, only_if, or_else}
-use Rattle.kube_objects.specs.Own.{IsOwn}
 use Rattle.kube_objects.specs.Seen.{pod_in, seen_node, seen_pod, is_accepted, is_fresh, is_pod, is_refused, is_stale}
 use Rattle.kube_objects.specs.Sightings.{bears_on, is_own_tick, last_sight, row, row_at, sight, sighted_due, sighted_pod}
 use Rattle.kube_objects.specs.Stored.{Write, next_version, node_key, node_write, tick_write}
@@ -187,20 +186,19 @@ module _ (doc : Doc) (k : ℕ) (q : Identity) where
   pub pass_sights : (h : List Entry) → AreSightsKept q k h → AreSightsKept q k (pass doc k q h)
   pass_sights h kept = pass_keeps doc k q (AreSightsKept q k) (λ t g is s. sights_more q k g t (passing_between t is) s) h kept
 
-  module _ (own : IsOwn doc) where
-    pub cleaned_sights : (h : List Entry) → AreSightsKept q k h → AreSightsKept q k (cleaned doc k q h)
-    cleaned_sights h kept = cleaned_keeps doc k q (AreSightsKept q k) (λ t g is made s. sights_more q k g t (cleaning_between t is) s) own h kept
+  pub cleaned_sights : (h : List Entry) → AreSightsKept q k h → AreSightsKept q k (cleaned doc k q h)
+  cleaned_sights h kept = cleaned_keeps doc k q (AreSightsKept q k) (λ t g is made s. sights_more q k g t (cleaning_between t is) s) h kept
 
-    pub tainted_sights : (h : List Entry) → AreSightsKept q k h → AreSightsKept q k (tainted doc k q h)
-    tainted_sights h kept = tainted_keeps doc k q (AreSightsKept q k) (λ t g is made s. sights_more q k g t (heading_between t is) s) own h kept
+  pub tainted_sights : (h : List Entry) → AreSightsKept q k h → AreSightsKept q k (tainted doc k q h)
+  tainted_sights h kept = tainted_keeps doc k q (AreSightsKept q k) (λ t g is made s. sights_more q k g t (heading_between t is) s) h kept
 
-    -- where the deletes begin
-    pub sights_before_deletes : (h : List Entry) → before_tick q k h ≡ h → AreSightsKept q k (tainted doc k q (cleaned doc k q (pass doc k q (sync doc k q h))))
-    sights_before_deletes h start =
-        let a = sync doc k q h in
-        let b = pass doc k q a in
-        let c = cleaned doc k q b in
-        tainted_sights c (cleaned_sights b (pass_sights a (sync_sights h start)))
+  -- where the deletes begin
+  pub sights_before_deletes : (h : List Entry) → before_tick q k h ≡ h → AreSightsKept q k (tainted doc k q (cleaned doc k q (pass doc k q (sync doc k q h))))
+  sights_before_deletes h start =
+      let a = sync doc k q h in
+      let b = pass doc k q a in
+      let c = cleaned doc k q b in
+      tainted_sights c (cleaned_sights b (pass_sights a (sync_sights h start)))
 
 -- ---- what is due by what the term has seen, and what never is
 

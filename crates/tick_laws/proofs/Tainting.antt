@@ -4,6 +4,8 @@ use Rattle.std.specs.Prelude.{if◌then◌else◌}
 use Rattle.std.proofs.lemmas.Bool.{eqb-true, eq-eqb}
 use Rattle.std.proofs.lemmas.List.Folds.{list_any-append}
 use Rattle.kube_base.specs.declared.numbers.Version.{Version}
+use Rattle.kube_objects.specs.declared.rules.BucketRule.{BucketRule}
+use Rattle.kube_objects.specs.declared.rules.BucketRule.TheVariants.{Empty, Full}
 use Rattle.kube_objects.specs.declared.call.Answer.{Answer}
 use Rattle.kube_objects.specs.declared.call.Answer.TheVariants as answer
 use Rattle.kube_objects.specs.declared.key.Key.{Key}
@@ -20,10 +22,9 @@ use Rattle.kube_objects.specs.Newest.{newest, when, only_if, or_zero}
 use Rattle.kube_objects.specs.Seen.{seen_node, seen_pod, insert_once, node_names}
 use Rattle.kube_objects.specs.Tainting.{Wants, Nothing, Wanted, Whatever, is_condition, has_condition, not_ready, unreachable, wants, wants_by, wants_ready, wanted_key, lacks, lacks_in, waits, Queued, queued, head_of}
 use Rattle.kube_objects.specs.Tick.{add, for_each, new_taint, tainted_with, taint_as, taint_head, taint, taint_first}
-use Rattle.kube_objects.specs.Tokens.{is_base, base, rated, is_grown, has_token}
+use Rattle.kube_objects.specs.Tokens.{is_base, base, rated, has_token, is_full, is_full_by, is_there}
 use Rattle.kube_objects.specs.Tries.{try_node}
-use Rattle.kube_objects.specs.Own.{IsOwn}
-use Rattle.kube_objects.proofs.Own.{has_token-own}
+use Rattle.kube_objects.proofs.Tokens.{token_is_there}
 use Rattle.history_laws.proofs.Plainly.{none_is, some_is}
 use Rattle.tick_laws.specs.Changes.{IsChange, noted_by}
 use Rattle.tick_laws.specs.Judged.{key_if, waits_since, is_dirty, seen_due}
@@ -256,11 +257,34 @@ module _ (doc : Doc) (k : ℕ) (q : Identity) where
     pub heading_base_elsewhere : (other : Place) → place_eq place other ≡ false → base q other (add k q (heading place n wanted w.x (try_node q n w.x.0 h)) h) ≡ base q other h
     heading_base_elsewhere other apart = ap (λ b. or_zero (upper (when (b && is_by q (actor_of q)) k) (newest (λ e T. when (is_base q other e.actor e.fact T) e.beat) h))) apart
 
-    pub heading_token : IsOwn doc → (other : Place) → place_eq place other ≡ false → has_token doc q k other (add k q (heading place n wanted w.x (try_node q n w.x.0 h)) h) ≡ has_token doc q k other h
-    heading_token own other apart =
-        has_token-own doc own q k other (add k q (heading place n wanted w.x (try_node q n w.x.0 h)) h)
-        ∙ ap (λ (b : ℕ). is_grown (local doc q.process k - local doc q.process b) (rated q other h)) (heading_base_elsewhere other apart)
-        ∙ sym (has_token-own doc own q k other h)
+    pub heading_full : is_full doc q place (add k q (heading place n wanted w.x (try_node q n w.x.0 h)) h) ≡ false
+    heading_full =
+        ap (λ b. is_full doc q place h && not (b && is_by q (actor_of q))) (place_itself place)
+        ∙ ap (λ b. is_full doc q place h && not b) (same_self q)
+        ∙ and_false (is_full doc q place h)
+      where
+        and_false : (b : Bool) → (b && false) ≡ false
+        and_false true = refl
+        and_false false = refl
+
+    pub heading_full_elsewhere : (other : Place) → place_eq place other ≡ false → is_full doc q other (add k q (heading place n wanted w.x (try_node q n w.x.0 h)) h) ≡ is_full doc q other h
+    heading_full_elsewhere other apart = ap (λ b. is_full doc q other h && not (b && is_by q (actor_of q))) apart ∙ and_true (is_full doc q other h)
+      where
+        and_true : (b : Bool) → (b && true) ≡ b
+        and_true true = refl
+        and_true false = refl
+
+    -- by either rule
+    pub heading_full_by : (rule : BucketRule) (other : Place) → place_eq place other ≡ false
+        → is_full_by rule doc q other (add k q (heading place n wanted w.x (try_node q n w.x.0 h)) h) ≡ is_full_by rule doc q other h
+    heading_full_by Empty other apart = refl
+    heading_full_by Full other apart = heading_full_elsewhere other apart
+
+    pub heading_token : (other : Place) → place_eq place other ≡ false → has_token doc q k other (add k q (heading place n wanted w.x (try_node q n w.x.0 h)) h) ≡ has_token doc q k other h
+    heading_token other apart =
+        token_is_there doc q k other (add k q (heading place n wanted w.x (try_node q n w.x.0 h)) h)
+        ∙ (λ i. is_there (heading_full_by doc.settings.rules.bucket other apart i) (local doc q.process k - local doc q.process (heading_base_elsewhere other apart i)) (rated q other h))
+        ∙ sym (token_is_there doc q k other h)
 
   -- ---- the walk over zones; h is the history at the phase's start, and now the one that is reached
 

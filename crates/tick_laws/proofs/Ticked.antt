@@ -10,20 +10,21 @@ use Rattle.kube_objects.specs.Document.{Doc}
 use Rattle.kube_objects.specs.Entry.{Entry, Identity, Place, Ticks, Tick, Sync, Delete, actor_of}
 use Rattle.kube_objects.specs.Identities.{is_by}
 use Rattle.kube_objects.specs.InForce.{watches}
+use Rattle.kube_objects.specs.Judgement.{Passed}
 use Rattle.kube_objects.specs.Keys.{key_cmp}
 use Rattle.kube_objects.specs.Seen.{is_synced, named, node_name, pod_key, node_names, pod_keys, seen_node}
 use Rattle.kube_objects.specs.Stored.{tick_write}
 use Rattle.kube_objects.specs.Tainting.{is_tick_of, before_tick, waits, Queued, head_of}
-use Rattle.kube_objects.specs.Tick.{add, sync, pass, clean, cleaned, taint_as, taint_head, taint, tainted, evict, evicted, taint_first}
+use Rattle.kube_objects.specs.Tick.{add, sync, pass, clean, cleaned, taint_as, taint_head, taint, tainted, evict, evicted, judge, taint_first}
 use Rattle.kube_objects.specs.Tokens.{has_token}
 use Rattle.kube_objects.specs.Wire.{loses_requests}
-use Rattle.kube_objects.specs.Own.{IsOwn}
 use Rattle.history_laws.proofs.Ticks.{walk_sync, walk_pass, walk_cleaned, walk_tainted, walk_evicted}
 use Rattle.tick_laws.specs.Ticked.{ticked, IsTicked}
 use Rattle.tick_laws.specs.Walks.{Among}
 use Rattle.tick_laws.proofs.Cleaning.{clean_either}
 use Rattle.tick_laws.proofs.Evicting.{evict_either}
 use Rattle.tick_laws.proofs.Frames.{own_synced}
+use Rattle.tick_laws.proofs.Judging.{judge_either}
 use Rattle.tick_laws.proofs.Named.{named_keeps}
 use Rattle.tick_laws.proofs.Orders.{names_strict, keys_strict}
 use Rattle.tick_laws.proofs.Syncing.{sync_synced}
@@ -108,8 +109,11 @@ module _ (doc : Doc) (k : ℕ) (q : Identity) where
 
   -- and their steps
 
-  pub clean_ticked : IsOwn doc → (name : ℕ) (h : List Entry) → IsTicked q k h (clean doc k q name h)
-  clean_ticked own name h = clean_either doc own k q name h (IsTicked q k h) (ticked_same q k h) (λ t written a is given. ticked_more q k h h t (ticked_same q k h))
+  pub clean_ticked : (name : ℕ) (h : List Entry) → IsTicked q k h (clean doc k q name h)
+  clean_ticked name h = clean_either doc k q name h (IsTicked q k h) (ticked_same q k h) (λ t written a is given. ticked_more q k h h t (ticked_same q k h))
+
+  pub judge_ticked : (x : Passed) (name : ℕ) (h : List Entry) → IsTicked q k h (judge doc k q x name h)
+  judge_ticked x name h = judge_either doc k q x name h (IsTicked q k h) (ticked_same q k h) (λ t written a is given. ticked_more q k h h t (ticked_same q k h))
 
   pub evict_ticked : (pod : Key) (h : List Entry) → IsTicked q k h (evict doc k q pod h)
   evict_ticked pod h = evict_either doc k q pod h (IsTicked q k h) (ticked_same q k h) (λ given node_given at a. ticked_more q k h h (Delete pod given node_given at a) (ticked_same q k h))

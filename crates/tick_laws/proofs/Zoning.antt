@@ -6,13 +6,14 @@ use Rattle.std.proofs.lemmas.List.Sums.{sum_by-cons}
 use Rattle.kube_base.specs.declared.numbers.Version.{Version}
 use Rattle.kube_objects.specs.declared.node.Node.{Node}
 use Rattle.kube_objects.specs.declared.node.ZoneState.{ZoneState}
+use Rattle.kube_objects.specs.Document.{Doc}
 use Rattle.kube_objects.specs.Entry.{Entry, Identity, Place, Pass, Zone, Mode}
 use Rattle.kube_objects.specs.Modes.{nodes_among, and_node, nodes, place_of, place_cmp, place_eq, is_in, is_ready, places, ready_in, other_in, size_in}
 use Rattle.kube_objects.specs.Newest.{newest, has, when, only_if, join, or_zero}
 use Rattle.kube_objects.specs.Seen.{seen_node, node_names, insert_once}
 use Rattle.kube_objects.specs.Tick.{add}
 use Rattle.kube_objects.specs.Stored.{node_key}
-use Rattle.kube_objects.specs.Tokens.{Rated, rated_says, rated, is_zone, has_rate, is_base, base}
+use Rattle.kube_objects.specs.Tokens.{Rated, rated_says, rated, is_zone, has_rate, is_base, base, fills_zone, grown, is_full, is_there}
 use Rattle.watch_cache.specs.Told.{AreNamed}
 use Rattle.watch_cache.proofs.Frames.{upper}
 use Rattle.watch_cache.proofs.Ticks.{same_self}
@@ -213,5 +214,26 @@ base_zoned q k h at state rate place =
     ∙ by_place (place_eq at place && not (has_rate rate (rated q place h)))
   where
     by_place : (b : Bool) → or_zero (upper (when b k) (last_base q place h)) ≡ cond b k (base q place h)
+    by_place true = refl
+    by_place false = refl
+
+pub full_passed : (doc : Doc) (q : Identity) (k : ℕ) (h : List Entry) (place : Place) → is_full doc q place (add k q Pass h) ≡ is_full doc q place h
+full_passed doc q k h place = refl
+
+pub full_zoned : (doc : Doc) (q : Identity) (k : ℕ) (h : List Entry) (at : Place) (state : ZoneState) (rate : ℕ) (place : Place)
+    → is_full doc q place (add k q (Zone at state rate) h)
+    ≡ cond (place_eq at place)
+    (fills_zone (rated q place h) (not (has_rate rate (rated q place h))) (is_there (is_full doc q place h) (grown doc q k place h) (rated q place h)) (is_full doc q place h))
+    (is_full doc q place h)
+full_zoned doc q k h at state rate place = ap (λ b. filled (place_eq at place && b)) (same_self q) ∙ by_place (place_eq at place)
+  where
+    filling : Bool
+    filling = fills_zone (rated q place h) (not (has_rate rate (rated q place h))) (is_there (is_full doc q place h) (grown doc q k place h) (rated q place h)) (is_full doc q place h)
+
+    -- what the entry leaves, where it is of the place or isn't
+    filled : Bool → Bool
+    filled b = elim b [ true ↦ filling | false ↦ is_full doc q place h ]
+
+    by_place : (b : Bool) → filled (b && true) ≡ cond b filling (is_full doc q place h)
     by_place true = refl
     by_place false = refl

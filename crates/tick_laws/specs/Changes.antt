@@ -1,5 +1,5 @@
 -- What an entry of a tick changes of what the term reads.
-use Rattle.std.specs.Prelude.{◌≡◌, ◌||◌, ℕ, Bool, false, cond, List, Option, Some, None}
+use Rattle.std.specs.Prelude.{◌≡◌, ◌||◌, ℕ, Bool, true, false, cond, List, Option, Some, None}
 use Rattle.kube_base.specs.declared.numbers.Version.{Version}
 use Rattle.kube_objects.specs.declared.call.Answer.{Answer}
 use Rattle.kube_objects.specs.declared.call.Answer.TheVariants as answer
@@ -9,14 +9,15 @@ use Rattle.kube_objects.specs.declared.node.Node.{Node}
 use Rattle.kube_objects.specs.declared.object.Object.{Object}
 use Rattle.kube_objects.specs.declared.object.Object.TheVariants as object
 use Rattle.kube_objects.specs.Document.{Doc}
-use Rattle.kube_objects.specs.Entry.{Entry, Identity, Tick, Ticks, Untaint, Swap}
+use Rattle.kube_objects.specs.Entry.{Entry, Identity, Place, Tick, Ticks, Untaint, Swap, Head, Skip}
 use Rattle.kube_objects.specs.Keys.{key_eq}
 use Rattle.kube_objects.specs.Modes.{mode, mode_says}
 use Rattle.kube_objects.specs.Newest.{when}
 use Rattle.kube_objects.specs.Seen.{is_synced, is_stale, is_refused, synced_says}
 use Rattle.kube_objects.specs.Stored.{Write, next_version, tick_write, try_write, node_write, node_key}
-use Rattle.kube_objects.specs.Tainting.{Wants, Wanted}
-use Rattle.kube_objects.specs.Tick.{new_taint, untainted, swapped}
+use Rattle.kube_objects.specs.Tainting.{Wants, Wanted, wants_ready}
+use Rattle.kube_objects.specs.Tick.{crossed, new_taint, restamped, swapped, untainted}
+use Rattle.kube_objects.specs.Tries.{try_node}
 use Rattle.tick_laws.specs.Judged.{shown}
 use Rattle.watch_cache.specs.Stands.{synced_writes, refused_key}
 
@@ -120,3 +121,35 @@ cleaning doc k q name given node _ tried = Untaint name given (untainted node) t
 abbrev pub cleaned_node : Doc → ℕ → Identity → Node → Wants → Node
 cleaned_node doc k q node (Wanted wanted) = swapped (new_taint doc k q wanted) node
 cleaned_node doc k q node _ = untainted node
+
+-- ---- the entry by which the tick of a pass cleans a node; new says whether the term first sees it, and opposed whether it has the other taint
+-- than it wants
+
+abbrev pub judging : Doc → ℕ → Identity → ℕ → Version → Node → (new opposed : Bool) → Wants → Option Answer → Tick
+judging doc k q name given node new true (Wanted wanted) tried = Swap name wanted given (crossed new (new_taint doc k q wanted) node) tried
+judging doc k q name given node new opposed wants tried = Untaint name given (untainted node) tried
+
+-- and the node that it writes
+abbrev pub judged_node : Doc → ℕ → Identity → Node → (new opposed : Bool) → Wants → Node
+judged_node doc k q node new true (Wanted wanted) = crossed new (new_taint doc k q wanted) node
+judged_node doc k q node new opposed wants = untainted node
+
+-- ---- the turn of a push: a try to write the taint that its node wants, or nothing
+
+abbrev pub pushing : Doc → ℕ → Identity → Place → ℕ → Version → Node → ℕ → Option Answer → Tick
+pushing doc k q place name given node wanted tried = Head place name wanted given (restamped (new_taint doc k q wanted) node) tried
+
+-- by what it wants
+abbrev pub turn_by : Doc → ℕ → Identity → Place → ℕ → Version → Node → Wants → Option Answer → Tick
+turn_by doc k q place name given node (Wanted wanted) tried = pushing doc k q place name given node wanted tried
+turn_by doc k q place name given node _ tried = Skip place name
+
+abbrev pub turn_of : Doc → ℕ → Identity → Place → ℕ → Option (Version × Node) → List Entry → Tick
+turn_of doc k q place name None h = Skip place name
+turn_of doc k q place name (Some x) h = turn_by doc k q place name x.0 x.1 (wants_ready x.1.ready) (try_node q name x.0 h)
+
+-- the zone whose queue has its turn by an entry
+abbrev pub turn_at : Tick → Option Place
+turn_at (Head place name wanted given written tried) = Some place
+turn_at (Skip place name) = Some place
+turn_at _ = None

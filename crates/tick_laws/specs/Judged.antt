@@ -1,6 +1,6 @@
 -- What a term judges of each node and pod, read from the history. Source: the node lifecycle controller of Kubernetes and its taint
 -- eviction controller; the order of a tick's steps is the profile's.
-use Rattle.std.specs.Prelude.{ℕ, nat_le, not, ◌||◌, Bool, true, false, List, Option, Some, None}
+use Rattle.std.specs.Prelude.{ℕ, nat_le, not, ◌&&◌, ◌||◌, Bool, true, false, List, Option, Some, None}
 use Rattle.std.specs.List.{list_any}
 use Rattle.kube_base.specs.declared.numbers.Version.{Version}
 use Rattle.kube_objects.specs.declared.key.Key.{Key}
@@ -13,11 +13,13 @@ use Rattle.kube_objects.specs.declared.rules.EvictRule.{EvictRule}
 use Rattle.kube_objects.specs.declared.rules.EvictRule.TheVariants as evictions
 use Rattle.kube_objects.specs.Document.{Doc}
 use Rattle.kube_objects.specs.Entry.{Entry, Identity, Place}
+use Rattle.kube_objects.specs.Judgement.{Passed, has_turned_on, is_crossed, is_healthy, is_new, judged}
 use Rattle.kube_objects.specs.Modes.{mode}
 use Rattle.kube_objects.specs.Seen.{seen, seen_node, seen_pod, is_stale, is_pod}
 use Rattle.kube_objects.specs.Sightings.{sighted_due}
 use Rattle.kube_objects.specs.Stored.{node_key}
 use Rattle.kube_objects.specs.Tainting.{Wants, Nothing, Wanted, Whatever, wants, has_condition, is_opposite, waits, queued}
+use Rattle.kube_objects.specs.Tick.{is_stripped}
 use Rattle.kube_objects.specs.Tolerations.{due}
 use Rattle.watch_cache.specs.Kept.{kept}
 
@@ -40,6 +42,27 @@ dirty_as false on (Some x) = cleans (wants on x.1) x.1
 -- whether the next tick untaints or swaps the node, if nothing changes before
 abbrev pub is_dirty : Identity → ℕ → List Entry → Bool
 is_dirty q name h = dirty_as (is_stale q (node_key name) h) (mode q h) (seen_node q name h)
+
+-- the same of the tick that the history is in: one that its pass first sees is stripped, where the rule says so
+abbrev pub is_to_clean : Doc → ℕ → Identity → ℕ → List Entry → Bool
+is_to_clean doc k q name h =
+    dirty_as (is_stale q (node_key name) h) (is_stripped doc.settings.rules.first_sight k q name h || mode q h) (seen_node q name h)
+
+-- ---- and those that the tick of a pass tries to untaint or swap, where nodes are judged at passes alone
+
+abbrev pub tries : Doc → Identity → ℕ → Passed → Wants → Node → Bool
+tries doc q name x wants node =
+    is_crossed wants node || (has_condition node && (is_new doc q name x.before || is_healthy wants || has_turned_on q x))
+
+-- was is the node before the pass's marks
+abbrev pub tried_as : Doc → Identity → ℕ → Passed → Bool → Option (Version × Node) → Option (Version × Node) → Bool
+tried_as doc q name x true was is = false
+tried_as doc q name x false None is = false
+tried_as doc q name x false (Some y) None = false
+tried_as doc q name x false (Some y) (Some z) = tries doc q name x (judged q name x y.1) z.1
+
+abbrev pub is_to_try : Doc → Identity → Passed → ℕ → List Entry → Bool
+is_to_try doc q x name h = tried_as doc q name x (is_stale q (node_key name) h) (seen_node q name x.before) (seen_node q name h)
 
 -- ---- when a pod is due, as the term sees it
 

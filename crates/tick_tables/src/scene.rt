@@ -6,7 +6,10 @@ use crate::change::{Change, EPOCH, write};
 use crate::rows::{Pace, Renewals, Row, Span};
 use controller_core::Term;
 use kube_base::{Beat, Local, NoMemory, ProcId, Steps, Version, Wall};
-use kube_objects::{EvictRule, Reply, RespectRule, RetryRule, TickSettings};
+use kube_objects::{
+    BucketRule, EvictRule, JudgeRule, ProbeRule, QueueRule, Reply, RespectRule, RetryRule,
+    SightRule, TickSettings,
+};
 use leader_elector::{Candidate, CandidateNext, Leading, Timing};
 use object_store::Store;
 use std::alloc::Global;
@@ -50,6 +53,7 @@ fn settings(row: &Row) -> TickSettings
 {
     TickSettings {
         first_sync_millis: 0,
+        probe: ProbeRule::Run,
         monitor_period_millis: 5_000,
         grace_period_millis: row.grace_millis,
         startup_grace_millis: 60_000,
@@ -59,6 +63,10 @@ fn settings(row: &Row) -> TickSettings
         large_zone: 50,
         unhealthy_percent: 55,
         rate_policy: row.policy,
+        judge: JudgeRule::Tick,
+        first_sight: SightRule::Keep,
+        queue: QueueRule::Once,
+        bucket: BucketRule::Empty,
         evict_from: EvictRule::Added,
         evict_burst: 0,
         evict_rate: 20_000,

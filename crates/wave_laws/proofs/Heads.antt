@@ -7,20 +7,23 @@ use Rattle.kube_base.specs.declared.numbers.Version.{Version}
 use Rattle.kube_objects.specs.declared.call.Answer.TheVariants as answer
 use Rattle.kube_objects.specs.declared.call.Reply.TheVariants as reply
 use Rattle.kube_objects.specs.declared.node.Node.{Node}
+use Rattle.kube_objects.specs.declared.rules.BucketRule.{BucketRule}
+use Rattle.kube_objects.specs.declared.rules.BucketRule.TheVariants.{Empty, Full}
 use Rattle.kube_objects.specs.Answers.{as_kind, node_in, answer_update}
 use Rattle.kube_objects.specs.Clocks.{local}
 use Rattle.kube_objects.specs.Document.{Doc}
 use Rattle.kube_objects.specs.Entry.{Entry, Identity, Place, Ticks, Tick, Head, entry}
 use Rattle.kube_objects.specs.Modes.{place_eq, nodes, places}
 use Rattle.kube_objects.specs.Newest.{only_if}
-use Rattle.kube_objects.specs.Own.{IsOwn}
+use Rattle.kube_objects.specs.Own.{IsOwn, JudgesByOwn}
 use Rattle.kube_objects.specs.Seen.{seen_node, node_names}
 use Rattle.kube_objects.specs.Stored.{Held, node_key, stored, next_version}
 use Rattle.kube_objects.specs.Tainting.{waits, Queued, queued, queued_as, first, head_of}
 use Rattle.kube_objects.specs.Tick.{add, for_each, new_taint, tainted_with, taint}
-use Rattle.kube_objects.specs.Tokens.{Rated, rated, base, token_size, is_grown, has_token}
+use Rattle.kube_objects.specs.Tokens.{Rated, rated, base, token_size, is_grown, grown, is_there, is_full_by, has_token}
 use Rattle.kube_objects.specs.Tries.{as_answer, try_node}
-use Rattle.kube_objects.proofs.Own.{tainted-own, has_token-own}
+use Rattle.kube_objects.proofs.Own.{tainted-own}
+use Rattle.kube_objects.proofs.Tokens.{empty_grown, token_is_there}
 use Rattle.history_laws.specs.Tails.{IsTail}
 use Rattle.history_laws.proofs.Plainly.{none_is, some_is, true_is, false_is}
 use Rattle.eviction_laws.proofs.Early.{versioned_is}
@@ -32,7 +35,7 @@ use Rattle.tick_laws.proofs.Named.{node_names_ascend, node_is_named}
 use Rattle.tick_laws.proofs.Orders.{names_strict, same_place, place_itself}
 use Rattle.tick_laws.proofs.Phases.{every}
 use Rattle.tick_laws.proofs.Quiet.{head_some}
-use Rattle.tick_laws.proofs.Tainting.{IsWaiting, waiting, waiting_place, since_waits, heading, taint_adds, taint_either, heading_since, heading_since_elsewhere, heading_base, heading_base_elsewhere, heading_token, accepted_waits}
+use Rattle.tick_laws.proofs.Tainting.{IsWaiting, waiting, waiting_place, since_waits, heading, taint_adds, taint_either, heading_since, heading_since_elsewhere, heading_base, heading_base_elsewhere, heading_full, heading_full_by, heading_token, accepted_waits}
 use Rattle.tick_laws.proofs.Walks.{above_less}
 use Rattle.wave_laws.specs.Waves.{queue_at, served_at}
 use Rattle.wave_laws.proofs.Queue.{Current, current_more, queue_current}
@@ -116,7 +119,7 @@ accepted q h name x s sees = by_held (stored (node_key name) h) refl (ap (as_kin
         ∙ ap (λ (v : Version). as_answer (answer_update (next_version h) v (Some held))) (sym (versioned_is held.version x.0 x.1 (node_in held.object) now))
         ∙ ap (λ b. as_answer (cond b (reply.Done (next_version h)) (reply.Conflict held.version))) (eq-eqb held.version.0 held.version.0 refl)
 
-module _ (doc : Doc) (own : IsOwn doc) (q : Identity) (k : ℕ) (place : Place) where
+module _ (doc : Doc) (own : IsOwn doc) (judges : JudgesByOwn doc) (q : Identity) (k : ℕ) (place : Place) where
   -- a node's place in the queue is as it was, or the node is tainted and waits no more
   abbrev pub Stays : ℕ → List Entry → List Entry → Type 0
   Stays name h g = (waits_since q place name g ≡ waits_since q place name h) ⊎ ((waits_since q place name g ≡ None) × Taken q place name k g)
@@ -173,7 +176,7 @@ module _ (doc : Doc) (own : IsOwn doc) (q : Identity) (k : ℕ) (place : Place) 
   pub stays : IsAttended doc q k → (name : ℕ) → Stays name (queue_at doc q k) (served_at doc q k)
   stays attended name =
       let h = queue_at doc q k in
-      subst (Stays name h) (sym (tainted-own doc own k q h))
+      subst (Stays name h) (sym (tainted-own doc judges k q h))
       (every (taint doc k q) (λ g. Current q g × Stays name h g) (zone_stays h name) (places (nodes q h)) h (queue_current doc own q k attended, inl refl)).1
 
   -- ---- where the token isn't there the base stays
@@ -189,7 +192,7 @@ module _ (doc : Doc) (own : IsOwn doc) (q : Identity) (k : ℕ) (place : Place) 
       by_zone : (n wanted : ℕ) (w : IsWaiting q zone n wanted h) → has_token doc q k zone h ≡ true → (b : Bool) → place_eq zone place ≡ b → Idle (add k q (heading doc k q zone n wanted w.x (try_node q n w.x.0 h)) h)
       by_zone n wanted w token true inside = absurd (true_is (sym token ∙ ap (λ zone. has_token doc q k zone h) (same_place zone place inside) ∙ s.token))
       by_zone n wanted w token false apart = record {
-        token = heading_token doc k q zone h n wanted w own place apart ∙ s.token;
+        token = heading_token doc k q zone h n wanted w place apart ∙ s.token;
         base = heading_base_elsewhere doc k q zone h n wanted w place apart ∙ s.base;
         since = λ name. heading_since_elsewhere doc k q zone h n wanted w place apart name ∙ s.since name;
       }
@@ -197,7 +200,7 @@ module _ (doc : Doc) (own : IsOwn doc) (q : Identity) (k : ℕ) (place : Place) 
   pub idle : has_token doc q k place (queue_at doc q k) ≡ false → Idle (served_at doc q k)
   idle none =
       let h = queue_at doc q k in
-      subst Idle (sym (tainted-own doc own k q h))
+      subst Idle (sym (tainted-own doc judges k q h))
       (every (taint doc k q) Idle zone_idle (places (nodes q h)) h (record { token = none; base = refl; since = λ name. refl }))
 
   -- ---- where it is there the head goes
@@ -218,6 +221,7 @@ module _ (doc : Doc) (own : IsOwn doc) (q : Identity) (k : ℕ) (place : Place) 
     pub others : (other : ℕ) → (other ≡ name → ⊥) → waits_since q place other h ≡ waits_since q place other (queue_at doc q k)
     pub taken : Taken q place name k h
     pub base : base q place h ≡ k
+    pub full : is_full_by doc.settings.rules.bucket doc q place h ≡ false
 
   zone_open : (zone : Place) → place_eq zone place ≡ false → (h : List Entry) → Open h → Open (taint doc k q zone h)
   zone_open zone apart h s =
@@ -225,13 +229,19 @@ module _ (doc : Doc) (own : IsOwn doc) (q : Identity) (k : ℕ) (place : Place) 
       (λ at n wanted w token head. record {
         current = current_more q k (heading doc k q zone n wanted w.x (try_node q n w.x.0 h)) h s.current;
         since = λ name. heading_since_elsewhere doc k q zone h n wanted w place apart name ∙ s.since name;
-        token = heading_token doc k q zone h n wanted w own place apart ∙ s.token;
+        token = heading_token doc k q zone h n wanted w place apart ∙ s.token;
       })
 
   -- after it the token is gone
-  no_token : (h : List Entry) → base q place h ≡ k → has_token doc q k place h ≡ true → ⊥
-  no_token h at token = by_rated (rated q place h) (subst (λ b. is_grown (local doc q.process k - local doc q.process b) (rated q place h) ≡ true) at (sym (has_token-own doc own q k place h) ∙ token))
+  no_token : (h : List Entry) → base q place h ≡ k → is_full_by doc.settings.rules.bucket doc q place h ≡ false → has_token doc q k place h ≡ true → ⊥
+  no_token h at full token = by_rated (rated q place h) (subst (λ b. is_grown (local doc q.process k - local doc q.process b) (rated q place h) ≡ true) at grows)
     where
+      grows : is_grown (grown doc q k place h) (rated q place h) ≡ true
+      grows =
+          sym (empty_grown (grown doc q k place h) (rated q place h))
+          ∙ ap (λ b. is_there b (grown doc q k place h) (rated q place h)) (sym full)
+          ∙ sym (token_is_there doc q k place h) ∙ token
+
       by_rated : (o : Option Rated) → is_grown (local doc q.process k - local doc q.process k) o ≡ true → ⊥
       by_rated None is = false_is is
       by_rated (Some x) is =
@@ -242,7 +252,7 @@ module _ (doc : Doc) (own : IsOwn doc) (q : Identity) (k : ℕ) (place : Place) 
   zone_spent n at zone h s = taint_either doc k q zone h (Spent n at) s (λ b m wanted w token head. by_zone m wanted w token (place_eq zone place) refl)
     where
       by_zone : (m wanted : ℕ) (w : IsWaiting q zone m wanted h) → has_token doc q k zone h ≡ true → (b : Bool) → place_eq zone place ≡ b → Spent n at (add k q (heading doc k q zone m wanted w.x (try_node q m w.x.0 h)) h)
-      by_zone m wanted w token true inside = absurd (no_token h s.base (sym (ap (λ zone. has_token doc q k zone h) (same_place zone place inside)) ∙ token))
+      by_zone m wanted w token true inside = absurd (no_token h s.base s.full (sym (ap (λ zone. has_token doc q k zone h) (same_place zone place inside)) ∙ token))
       by_zone m wanted w token false apart = record {
         name = s.name;
         beat = s.beat;
@@ -252,7 +262,14 @@ module _ (doc : Doc) (own : IsOwn doc) (q : Identity) (k : ℕ) (place : Place) 
         others = λ other differs. heading_since_elsewhere doc k q zone h m wanted w place apart other ∙ s.others other differs;
         taken = taken_more q place s.name k (entry k 4 q (Ticks (heading doc k q zone m wanted w.x (try_node q m w.x.0 h)))) h s.taken;
         base = heading_base_elsewhere doc k q zone h m wanted w place apart ∙ s.base;
+        full = heading_full_by doc k q zone h m wanted w doc.settings.rules.bucket place apart ∙ s.full;
       }
+
+  -- it leaves no full bucket
+  full_goes : (rule : BucketRule) (h : List Entry) (n wanted : ℕ) (w : IsWaiting q place n wanted h)
+      → is_full_by rule doc q place (add k q (heading doc k q place n wanted w.x (try_node q n w.x.0 h)) h) ≡ false
+  full_goes Empty h n wanted w = refl
+  full_goes Full h n wanted w = heading_full doc k q place h n wanted w
 
   spend_head : (n at : ℕ) (h : List Entry) → Open h → (beat name wanted : ℕ) (w : IsWaiting q place name wanted h) → waits_since q place name (queue_at doc q k) ≡ Some beat → Precedes beat name at n
       → Spent n at (add k q (heading doc k q place name wanted w.x (try_node q name w.x.0 h)) h)
@@ -267,6 +284,7 @@ module _ (doc : Doc) (own : IsOwn doc) (q : Identity) (k : ℕ) (place : Place) 
         others = λ other differs. heading_since doc k q place h name wanted w place other (by_name other (name == other) refl differs) ∙ s.since other;
         taken = goes.1;
         base = heading_base doc k q place h name wanted w;
+        full = full_goes doc.settings.rules.bucket h name wanted w;
       }
     where
       by_name : (other : ℕ) (b : Bool) → (name == other) ≡ b → (other ≡ name → ⊥) → (name == other) ≡ false
@@ -303,5 +321,5 @@ module _ (doc : Doc) (own : IsOwn doc) (q : Identity) (k : ℕ) (place : Place) 
   spent attended n at mine token =
       let h = queue_at doc q k in
       let found = since_waits q place n at h mine in
-      subst (Spent n at) (sym (tainted-own doc own k q h))
+      subst (Spent n at) (sym (tainted-own doc judges k q h))
       (reach n at mine (places (nodes q h)) h (waiting_place q place n found.0 h found.1) (record { current = queue_current doc own q k attended; since = λ name. refl; token = token }))

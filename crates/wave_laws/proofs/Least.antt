@@ -8,7 +8,7 @@ use Rattle.std.proofs.lemmas.List.Sums.{length-filter}
 use Rattle.kube_objects.specs.Document.{Doc}
 use Rattle.kube_objects.specs.Entry.{Entry, Identity, Place}
 use Rattle.kube_objects.specs.Newest.{has}
-use Rattle.kube_objects.specs.Own.{IsOwn}
+use Rattle.kube_objects.specs.Own.{IsOwn, JudgesByOwn, StartsEmpty}
 use Rattle.kube_objects.specs.Seen.{node_names}
 use Rattle.kube_objects.specs.Tainting.{waits, queued}
 use Rattle.kube_objects.specs.Tokens.{base, token_size, has_token}
@@ -101,7 +101,7 @@ drop x (y ∷ ys) d = by_case (cases_eq y x) (drop x ys d.1)
 
 -- ---- tick by tick
 
-module _ (doc : Doc) (own : IsOwn doc) (q : Identity) (place : Place) (n m t : ℕ) (attends : Attends doc q m t) (least : m ≤ t) (only : LeaveTaintedOnly doc q place n m t) (rate fast interval needed : ℕ) (keeps : KeepsRate doc q place rate m t)
+module _ (doc : Doc) (own : IsOwn doc) (judges : JudgesByOwn doc) (empty : StartsEmpty doc) (q : Identity) (place : Place) (n m t : ℕ) (attends : Attends doc q m t) (least : m ≤ t) (only : LeaveTaintedOnly doc q place n m t) (rate fast interval needed : ℕ) (keeps : KeepsRate doc q place rate m t)
     (runs : RunsAtMost doc q.process m t fast) (token : IsNeeded rate token_size interval) (time : IsNeeded fast interval needed) where
   first : IsAttended doc q m
   first = attends m (omega arith) least
@@ -133,7 +133,7 @@ module _ (doc : Doc) (own : IsOwn doc) (q : Identity) (place : Place) (n m t : �
       by_soonest (inr both) =
           let last : base q place (queue_at doc q k) + needed ≤ k =
           readings_last doc q.process m t fast interval needed runs time (base q place (queue_at doc q k)) k both.0 (base_within doc own q k here place) to
-          (token_over doc own q place rate m t first keeps interval k token from to here there) in
+          (token_over doc own judges q place rate m t first keeps empty interval k token from to here there) in
           omega (arith, last, both.1)
 
   module _ (k : ℕ) (from : m ≤ k) (lt : k < t) where
@@ -144,7 +144,7 @@ module _ (doc : Doc) (own : IsOwn doc) (q : Identity) (place : Place) (n m t : �
     next = attends (suc k) (omega (arith, from)) (omega (arith, lt))
 
     next_is : (x : ℕ) → waits_since q place x (queue_at doc q (suc k)) ≡ settled (waits q place x (queue_at doc q (suc k))) (suc k) (waits_since q place x (served_at doc q k))
-    next_is x = settles doc own q (suc k) place x ∙ ap (settled (waits q place x (queue_at doc q (suc k))) (suc k)) (next_since doc own q k here next place x)
+    next_is x = settles doc own q (suc k) place x ∙ ap (settled (waits q place x (queue_at doc q (suc k))) (suc k)) (next_since doc own judges q k here next place x)
 
     -- who waits after the taints waits on
     goes_on : (x b : ℕ) → is_ahead q place n (queue_at doc q m) x ≡ true → waits_since q place x (served_at doc q k) ≡ Some b → waits_since q place x (queue_at doc q (suc k)) ≡ Some b
@@ -162,17 +162,17 @@ module _ (doc : Doc) (own : IsOwn doc) (q : Identity) (place : Place) (n m t : �
         early : at ≤ m
         early = key_within doc own q m first place n
 
-        of : (c : ℕ) → waits_since q place n (served_at doc q k) ≡ Some c → Stays doc own q k place n (queue_at doc q k) (served_at doc q k) → at ≤ c
+        of : (c : ℕ) → waits_since q place n (served_at doc q k) ≡ Some c → Stays doc own judges q k place n (queue_at doc q k) (served_at doc q k) → at ≤ c
         of c was (inl same) = s.key c (sym same ∙ was)
         of c was (inr (none, taken)) = absurd (none_is c (sym none ∙ was))
 
         by_old : (now old : Option ℕ) → waits_since q place n (served_at doc q k) ≡ old → settled now (suc k) old ≡ Some b → at ≤ b
         by_old None old was key = absurd (none_is b key)
         by_old (Some wanted) None was key = omega (arith, some_is (suc k) b key, early, from)
-        by_old (Some wanted) (Some c) was key = omega (arith, some_is c b key, of c was (stays doc own q k place here n))
+        by_old (Some wanted) (Some c) was key = omega (arith, some_is c b key, of c was (stays doc own judges q k place here n))
 
     -- no taint
-    after_none : (s : Left k) → Idle doc own q k place (served_at doc q k) → Left (suc k)
+    after_none : (s : Left k) → Idle doc own judges q k place (served_at doc q k) → Left (suc k)
     after_none s none = record {
       xs = s.xs;
       distinct = s.distinct;
@@ -185,7 +185,7 @@ module _ (doc : Doc) (own : IsOwn doc) (q : Identity) (place : Place) (n m t : �
     }
       where
         same : base q place (queue_at doc q k) ≡ base q place (queue_at doc q (suc k))
-        same = sym (queue_base doc own q place rate m t first keeps k from (omega (arith, lt)) here next ∙ none.base)
+        same = sym (queue_base doc own judges q place rate m t first keeps k from (omega (arith, lt)) here next ∙ none.base)
 
         later : (s.low ≤ k) ⊎ ((m ≤ base q place (queue_at doc q k)) × (s.low ≤ base q place (queue_at doc q k) + needed)) → (s.low ≤ suc k) ⊎ ((m ≤ base q place (queue_at doc q (suc k))) × (s.low ≤ base q place (queue_at doc q (suc k)) + needed))
         later (inl le) = inl (omega (arith, le))
@@ -195,7 +195,7 @@ module _ (doc : Doc) (own : IsOwn doc) (q : Identity) (place : Place) (n m t : �
         on x there (b, is, order) = (b, goes_on x b (s.were x there) (none.since x ∙ is), order)
 
     -- a taint of the head
-    after_head : (s : Left k) → s.low ≤ k → (x b : ℕ) → Spent doc own q k place x b (served_at doc q k) → Left (suc k)
+    after_head : (s : Left k) → s.low ≤ k → (x b : ℕ) → Spent doc own judges q k place x b (served_at doc q k) → Left (suc k)
     after_head s le x b head = record {
       xs = r.ys;
       distinct = r.distinct;
@@ -211,7 +211,7 @@ module _ (doc : Doc) (own : IsOwn doc) (q : Identity) (place : Place) (n m t : �
         r = drop head.name s.xs s.distinct
 
         same : base q place (queue_at doc q (suc k)) ≡ k
-        same = queue_base doc own q place rate m t first keeps k from (omega (arith, lt)) here next ∙ head.base
+        same = queue_base doc own judges q place rate m t first keeps k from (omega (arith, lt)) here next ∙ head.base
 
         product : length s.xs * needed ≤ length r.ys * needed + needed
         product = subst (λ c. length s.xs * needed ≤ c) (suc-mul (length r.ys) needed) (mul-le-mul_right needed r.less)
@@ -239,11 +239,11 @@ module _ (doc : Doc) (own : IsOwn doc) (q : Identity) (place : Place) (n m t : �
         by_left le is [] same = stop le same
         by_left le is (x ∷ xs) same =
             let found = s.waiting x (subst (Among x) (sym same) (inl refl)) in
-            after_head s le x found.0 (spent doc own q k place here x found.0 found.1 is)
+            after_head s le x found.0 (spent doc own judges q k place here x found.0 found.1 is)
 
         by_token : (b : Bool) → has_token doc q k place (queue_at doc q k) ≡ b → Left (suc k)
         by_token true is = by_left (not_before k from (omega (arith, lt)) s is) is s.xs refl
-        by_token false is = after_none s (idle doc own q k place is)
+        by_token false is = after_none s (idle doc own judges q k place is)
 
   go : Left m → (i : ℕ) → m + i ≤ t → Left (m + i)
   go start zero le = let same : m ≡ m + 0 = omega arith in subst Left same start
@@ -271,7 +271,7 @@ module _ (doc : Doc) (own : IsOwn doc) (q : Identity) (place : Place) (n m t : �
       not_after beat b x le (inr order) (inl lt) = omega (arith, le, order.0, lt)
       not_after beat b x le (inr order) (inr both) = omega (arith, order.1, both.1)
 
-      of_head : (x b : ℕ) → IsBefore b x at n → (head : Spent doc own q t place x b (served_at doc q t)) → (n ≡ head.name) ⊎ (n ≡ head.name → ⊥) → ⊥
+      of_head : (x b : ℕ) → IsBefore b x at n → (head : Spent doc own judges q t place x b (served_at doc q t)) → (n ≡ head.name) ⊎ (n ≡ head.name → ⊥) → ⊥
       of_head x b order head (inr differs) = stays_not (head.others n differs)
       of_head x b order head (inl same) =
           not_after head.beat b x (s.key head.beat (ap (λ n. waits_since q place n (queue_at doc q t)) same ∙ head.was)) order (subst (λ name. Precedes head.beat name b x) (sym same) head.first)
@@ -280,12 +280,12 @@ module _ (doc : Doc) (own : IsOwn doc) (q : Identity) (place : Place) (n m t : �
       by_left le is [] same = omega (arith, le, s.bound, ap (λ (xs : List ℕ). length xs * needed) same)
       by_left le is (x ∷ xs) same =
           let found = s.waiting x (subst (Among x) (sym same) (inl refl)) in
-          let head = spent doc own q t place here_last x found.0 found.1 is in
+          let head = spent doc own judges q t place here_last x found.0 found.1 is in
           absurd (of_head x found.0 found.2 head (cases_eq n head.name))
 
       by_token : (b : Bool) → has_token doc q t place (queue_at doc q t) ≡ b → m + ahead q place n (queue_at doc q m) * needed ≤ t
       by_token true is = by_left (not_before t least (omega arith) s is) is s.xs refl
-      by_token false is = absurd (stays_not ((idle doc own q t place is).since n))
+      by_token false is = absurd (stays_not ((idle doc own judges q t place is).since n))
 
   start : is_waiting q place n (queue_at doc q m) ≡ true → Left m
   start waits_now = record {
@@ -319,8 +319,8 @@ module _ (doc : Doc) (own : IsOwn doc) (q : Identity) (place : Place) (n m t : �
           (key, waits_is q place x (queue_at doc q m) (and_left (is_waiting q place x (queue_at doc q m)) later is), order x key (and_right (is_waiting q place x (queue_at doc q m)) later is))
 
 pub taints_take_time : TaintsTakeTime
-taints_take_time doc own q place n m t attends least waits_now leaves only rate fast interval needed keeps runs token time =
+taints_take_time doc own judges empty q place n m t attends least waits_now leaves only rate fast interval needed keeps runs token time =
     let same : m + (t - m) ≡ t = omega (arith, least) in
-    ends doc own q place n m t attends least only rate fast interval needed keeps runs token time leaves
-    (subst (Left doc own q place n m t attends least only rate fast interval needed keeps runs token time) same
-    (go doc own q place n m t attends least only rate fast interval needed keeps runs token time (start doc own q place n m t attends least only rate fast interval needed keeps runs token time waits_now) (t - m) (omega (arith, least))))
+    ends doc own judges empty q place n m t attends least only rate fast interval needed keeps runs token time leaves
+    (subst (Left doc own judges empty q place n m t attends least only rate fast interval needed keeps runs token time) same
+    (go doc own judges empty q place n m t attends least only rate fast interval needed keeps runs token time (start doc own judges empty q place n m t attends least only rate fast interval needed keeps runs token time waits_now) (t - m) (omega (arith, least))))

@@ -7,7 +7,7 @@ use Rattle.kube_objects.specs.Entry.{Entry, Identity, Place, Fact, Ticks, Tick, 
 use Rattle.kube_objects.specs.InForce.{watches}
 use Rattle.kube_objects.specs.Modes.{nodes, places}
 use Rattle.kube_objects.specs.Newest.{newest, when, or_zero}
-use Rattle.kube_objects.specs.Own.{IsOwn}
+use Rattle.kube_objects.specs.Own.{IsOwn, JudgesByOwn}
 use Rattle.kube_objects.specs.Seen.{is_fresh}
 use Rattle.kube_objects.specs.Tainting.{waits, before_tick, begins_row, queued}
 use Rattle.kube_objects.specs.Tick.{add, pass, taint, evicted}
@@ -127,12 +127,12 @@ queue_current doc own q k attended =
 
 module _ (doc : Doc) (own : IsOwn doc) (q : Identity) (k : ℕ) where
   begins : before_tick q k (begun doc q k) ≡ begun doc q k
-  begins = elector_unticked doc k q.process q.process (at_turn doc q.process k) (at_turn_unticked doc q.process k) q (omega arith)
+  begins = (elector_unticked doc k q.process q.process (at_turn doc q.process k) (at_turn_unticked doc q.process k) q (omega arith)).before
 
   pub no_heads_yet : no_heads q k (queue_at doc q k) ≡ true
   no_heads_yet =
       let a = synced_at doc q k in
-      cleaned_heads doc own k q (pass doc k q a) (pass_heads doc own k q a (sync_heads doc own k q (begun doc q k) (no_heads_start q k (begun doc q k) begins)))
+      cleaned_heads doc k q (pass doc k q a) (pass_heads doc k q a (sync_heads doc k q (begun doc q k) (no_heads_start q k (begun doc q k) begins)))
 
   -- who waited before the tick keeps its place, and who didn't has this beat's
   pub settles : (place : Place) (name : ℕ) → waits_since q place name (queue_at doc q k) ≡ settled (waits q place name (queue_at doc q k)) k (waits_since q place name (begun doc q k))
@@ -158,20 +158,20 @@ carried {A} doc own q k here next f same =
     foreign : (x : Entry) (h : List Entry) → is_ticking q x.actor x.fact ≡ false → f h ≡ f (after_turn doc q.process k) → f (x ∷ h) ≡ f (after_turn doc q.process k)
     foreign x h other s = same x h (same_test q x.actor x.fact ∙ other) ∙ s
 
-module _ (doc : Doc) (own : IsOwn doc) (q : Identity) (k : ℕ) (here : IsAttended doc q k) where
+module _ (doc : Doc) (own : IsOwn doc) (judges : JudgesByOwn doc) (q : Identity) (k : ℕ) (here : IsAttended doc q k) where
   fresh_served : (place : Place) (name : ℕ) → IsFresh q k place name (served_at doc q k)
   fresh_served place name =
-      subst (IsFresh q k place name) (sym (tainted-own doc own k q (queue_at doc q k)))
+      subst (IsFresh q k place name) (sym (tainted-own doc judges k q (queue_at doc q k)))
       (every (taint doc k q) (λ h. IsFresh q k place name h)
       (λ zone h s. taint_either doc k q zone h (λ g. IsFresh q k place name g) s (λ at n wanted w token head. heading_fresh doc k q zone h n wanted w place name s))
       (places (nodes q (queue_at doc q k))) (queue_at doc q k) (fresh_settled q k place name (queue_at doc q k) (no_heads_yet doc own q k)))
 
   -- evictions leave who waits since when
   after_since : (place : Place) (name : ℕ) → waits_since q place name (after_turn doc q.process k) ≡ waits_since q place name (served_at doc q k)
-  after_since place name = ap (waits_since q place name) (turn_phases doc own q k here) ∙ (evicted_since doc own k q (served_at doc q k) fresh_served place name).0
+  after_since place name = ap (waits_since q place name) (turn_phases doc own q k here) ∙ (evicted_since doc k q (served_at doc q k) fresh_served place name).0
 
   after_base : (place : Place) → base q place (after_turn doc q.process k) ≡ base q place (served_at doc q k)
-  after_base place = ap (base q place) (turn_phases doc own q k here) ∙ (evicted_limits doc own k q (served_at doc q k)).base place
+  after_base place = ap (base q place) (turn_phases doc own q k here) ∙ (evicted_limits doc k q (served_at doc q k)).base place
 
   module _ (next : IsAttended doc q (suc k)) where
     pub next_since : (place : Place) (name : ℕ) → waits_since q place name (begun doc q (suc k)) ≡ waits_since q place name (served_at doc q k)

@@ -1,5 +1,5 @@
 -- A node with the opposite of its wanted taint is swapped at once, under the project's own rules.
-use Rattle.std.proofs.Common.{◌≡◌, ◌∙◌, ◌⊎◌, ℕ, suc, ◌==◌, ◌&&◌, not, Bool, true, false, List, [], ◌∷◌, Option, Some, None, refl, sym, ap, subst, inl, inr, if◌then◌else◌}
+use Rattle.std.proofs.Common.{◌≡◌, ◌∙◌, ◌⊎◌, ℕ, suc, ◌==◌, ◌&&◌, ◌||◌, not, Bool, true, false, List, [], ◌∷◌, Option, Some, None, refl, sym, ap, subst, inl, inr, if◌then◌else◌}
 use Rattle.std.specs.Prelude.{if◌then◌else◌}
 use Rattle.std.proofs.lemmas.Bool.{eqb-true, eq-eqb}
 use Rattle.kube_base.specs.declared.numbers.Version.{Version}
@@ -12,13 +12,13 @@ use Rattle.kube_objects.specs.Entry.{Entry, Identity, Ticks, Tick, Sync, Untaint
 use Rattle.kube_objects.specs.InForce.{watches}
 use Rattle.kube_objects.specs.Modes.{mode}
 use Rattle.kube_objects.specs.Newest.{newest, only_if, or_else}
-use Rattle.kube_objects.specs.Own.{IsOwn}
+use Rattle.kube_objects.specs.Own.{IsOwn, JudgesByOwn}
 use Rattle.kube_objects.specs.Seen.{seen_node, is_fresh, stale_tick, stale_says, is_stale, node_names}
 use Rattle.kube_objects.specs.Stored.{node_key, next_version}
 use Rattle.kube_objects.specs.Tainting.{Wanted, wants}
-use Rattle.kube_objects.specs.Tick.{add, for_each, new_taint, swapped, clean}
+use Rattle.kube_objects.specs.Tick.{add, for_each, is_stripped, new_taint, swapped, clean}
 use Rattle.kube_objects.specs.Tries.{try_node}
-use Rattle.kube_objects.proofs.Own.{cleaned-own}
+use Rattle.kube_objects.proofs.Own.{cleaned-own, stripped-own}
 use Rattle.history.specs.Evictions.{after_turn}
 use Rattle.history.specs.History.{history, at_turn}
 use Rattle.history_laws.specs.Tails.{IsTail}
@@ -33,7 +33,7 @@ use Rattle.outage_laws.proofs.Turns.{ready}
 use Rattle.tick_laws.specs.Changes.{IsChange, noted_by, refused_by, cleaning}
 use Rattle.tick_laws.specs.Judged.{dirty_as, cleans, is_dirty}
 use Rattle.tick_laws.specs.Walks.{Among}
-use Rattle.tick_laws.proofs.Cleaning.{tried_dirty, clean_adds, clean_either}
+use Rattle.tick_laws.proofs.Cleaning.{tried_dirty, to_clean_kept, clean_adds, clean_either}
 use Rattle.tick_laws.proofs.Frames.{cleaning_change, kept_node}
 use Rattle.tick_laws.proofs.Named.{node_is_named}
 use Rattle.tick_laws.proofs.Phases.{is_passing, every, pass_keeps}
@@ -75,7 +75,7 @@ module _ (doc : Doc) (own : IsOwn doc) (q : Identity) (k : ℕ) (here : IsAttend
 
 -- ---- the walk over the names
 
-module _ (doc : Doc) (own : IsOwn doc) (q : Identity) (n wanted k : ℕ) (x : Version × Node) where
+module _ (doc : Doc) (judges : JudgesByOwn doc) (q : Identity) (n wanted k : ℕ) (x : Version × Node) where
   -- an accepted swap of the node stands in a history
   record Stands (h : List Entry) : Type 0 where
     given : Version
@@ -100,7 +100,7 @@ module _ (doc : Doc) (own : IsOwn doc) (q : Identity) (n wanted k : ℕ) (x : Ve
 
   other : (m : ℕ) → (m == n) ≡ false → (h : List Entry) → Ahead h → Ahead (clean doc k q m h)
   other m apart h s =
-      clean_either doc own k q m h Ahead s
+      clean_either doc k q m h Ahead s
       (λ t written a is given.
       let change = cleaning_change q k h m written a t is given in
       record {
@@ -112,8 +112,8 @@ module _ (doc : Doc) (own : IsOwn doc) (q : Identity) (n wanted k : ℕ) (x : Ve
 
   swap_now : (h : List Entry) → Ahead h → Stands (clean doc k q n h)
   swap_now h s =
-      subst Stands (sym (clean_adds doc own k q n h x s.dirty s.sees))
-      (subst (λ w. Stands (add k q (cleaning doc k q n x.0 x.1 w (try_node q n x.0 h)) h)) (sym s.wants_it)
+      subst Stands (sym (clean_adds doc k q n h x (to_clean_kept doc k q n h kept ∙ s.dirty) s.sees))
+      (subst (λ w. Stands (add k q (cleaning doc k q n x.0 x.1 w (try_node q n x.0 h)) h)) (sym (ap (λ b. wants (b || mode q h) x.1) kept ∙ s.wants_it))
       (record {
         given = x.0;
         written = swapped (new_taint doc k q wanted) x.1;
@@ -121,9 +121,12 @@ module _ (doc : Doc) (own : IsOwn doc) (q : Identity) (n wanted k : ℕ) (x : Ve
         before = h;
         stands = inl (ap (λ a. add k q (Swap n wanted x.0 (swapped (new_taint doc k q wanted) x.1) a) h) (sym (accepted q h n x s.current s.sees)));
       }))
+    where
+      kept : is_stripped doc.settings.rules.first_sight k q n h ≡ false
+      kept = stripped-own doc judges k q n h
 
   stands_on : (m : ℕ) (h : List Entry) → Stands h → Stands (clean doc k q m h)
-  stands_on m h s = ticked_keeps q k Stands (λ t g s. record { given = s.given; written = s.written; version = s.version; before = s.before; stands = inr s.stands }) h (clean doc k q m h) (clean_ticked doc k q own m h) s
+  stands_on m h s = ticked_keeps q k Stands (λ t g s. record { given = s.given; written = s.written; version = s.version; before = s.before; stands = inr s.stands }) h (clean doc k q m h) (clean_ticked doc k q m h) s
 
   reach : (names : List ℕ) (h : List Entry) → Among n names → Ahead h → Stands (for_each (clean doc k q) names h)
   reach [] h there s = absurd there
@@ -138,7 +141,7 @@ module _ (doc : Doc) (own : IsOwn doc) (q : Identity) (n wanted k : ℕ) (x : Ve
       by_name below true same = every (clean doc k q) Stands stands_on ms (clean doc k q m h) (subst (λ m. Stands (clean doc k q m h)) (sym (eqb-true m n same)) (swap_now h s))
 
 pub swaps_are_at_once : SwapsAreAtOnce
-swaps_are_at_once doc own q n wanted k here x sees wants_it opposite =
+swaps_are_at_once doc own judges q n wanted k here x sees wants_it opposite =
     record {
       given = s.given;
       written = s.written;
@@ -157,7 +160,7 @@ swaps_are_at_once doc own q n wanted k here x sees wants_it opposite =
         ∙ ap (λ w. cleans w x.1) wants_it
         ∙ opposite
 
-    s : Stands doc own q n wanted k x (queue_at doc q k)
+    s : Stands doc judges q n wanted k x (queue_at doc q k)
     s =
-        subst (Stands doc own q n wanted k x) (sym (cleaned-own doc own k q h))
-        (reach doc own q n wanted k x (node_names h) h (node_is_named q n h x sees) (record { current = judged_current doc own q k here; dirty = dirty; sees = sees; wants_it = wants_it }))
+        subst (Stands doc judges q n wanted k x) (sym (cleaned-own doc judges k q h))
+        (reach doc judges q n wanted k x (node_names h) h (node_is_named q n h x sees) (record { current = judged_current doc own q k here; dirty = dirty; sees = sees; wants_it = wants_it }))

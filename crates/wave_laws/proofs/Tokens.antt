@@ -1,5 +1,5 @@
 -- A zone's base while its rate stays, and when its token is there, under the project's own rules.
-use Rattle.std.proofs.Common.{◌≡◌, ◌∙◌, ◌≤◌, ◌<◌, ℕ, suc, ◌+◌, ◌-◌, ◌*◌, ◌&&◌, not, Bool, true, false, List, Option, Some, None, refl, sym, ap, subst, inr, ⊎_elim, arith}
+use Rattle.std.proofs.Common.{◌≡◌, ◌∙◌, ◌≤◌, ◌<◌, ℕ, suc, ◌+◌, ◌-◌, ◌*◌, ◌==◌, ◌&&◌, not, nat_le, Bool, true, false, List, Option, Some, None, refl, sym, ap, subst, inr, ⊎_elim, arith}
 use Rattle.std.proofs.lemmas.Bool.{eqb-true, leb-true, le-leb, cases_eq}
 use Rattle.std.proofs.Math.Nat.{mul-le-mul_right}
 use Rattle.kube_objects.specs.declared.node.ZoneState.{ZoneState}
@@ -9,14 +9,15 @@ use Rattle.kube_objects.specs.Entry.{Entry, Identity, Place, Tick, Zone, Head, S
 use Rattle.kube_objects.specs.Identities.{is_by}
 use Rattle.kube_objects.specs.Modes.{place_eq}
 use Rattle.kube_objects.specs.Newest.{newest, when, join, or_zero}
-use Rattle.kube_objects.specs.Own.{IsOwn}
+use Rattle.kube_objects.specs.Own.{IsOwn, JudgesByOwn, StartsEmpty}
 use Rattle.kube_objects.specs.Tick.{add, pass}
-use Rattle.kube_objects.specs.Tokens.{Rated, rated_says, rated, has_rate, is_base, base, token_size, is_grown, has_token}
+use Rattle.kube_objects.specs.Tokens.{Rated, rated_says, rated, has_rate, is_base, base, token_size, is_grown, is_there, is_full_by, has_token}
 use Rattle.kube_objects.proofs.Clocks.{local_up}
 use Rattle.kube_objects.proofs.Own.{has_token-own}
+use Rattle.kube_objects.proofs.Tokens.{empty_grown, token_is_there}
 use Rattle.history.specs.History.{history}
 use Rattle.history_laws.specs.Tails.{IsTail}
-use Rattle.history_laws.proofs.Plainly.{upper, same_self, false_is}
+use Rattle.history_laws.proofs.Plainly.{upper, same_self, false_is, and_left, and_both}
 use Rattle.history_laws.proofs.Tailed.{tail_all, tail_trans}
 use Rattle.outage_laws.specs.Attended.{IsAttended}
 use Rattle.outage_laws.specs.Passes.{synced_at}
@@ -53,7 +54,7 @@ module _ (q : Identity) (place : Place) (rate k : ℕ) where
 
 -- ---- beats in which the zone keeps its rate
 
-module _ (doc : Doc) (own : IsOwn doc) (q : Identity) (place : Place) (rate y e : ℕ) (first : IsAttended doc q y) (keeps : KeepsRate doc q place rate y e) where
+module _ (doc : Doc) (own : IsOwn doc) (judges : JudgesByOwn doc) (q : Identity) (place : Place) (rate y e : ℕ) (first : IsAttended doc q y) (keeps : KeepsRate doc q place rate y e) where
   pub rate_at : (k : ℕ) → y ≤ k → k ≤ e → IsAttended doc q k → has_rate rate (rated q place (queue_at doc q k)) ≡ true
   rate_at k from to here = keeps (queue_at doc q k) (⊎_elim (λ same. subst (λ k. IsTail (queue_at doc q y) (queue_at doc q k)) same (tail_all (queue_at doc q y))) later (cases_eq y k)) (queue_in doc own q k e here to)
     where
@@ -84,32 +85,41 @@ module _ (doc : Doc) (own : IsOwn doc) (q : Identity) (place : Place) (rate y e 
   -- only queued taints change the base
   pub queue_base : (k : ℕ) → y ≤ k → suc k ≤ e → IsAttended doc q k → IsAttended doc q (suc k) → base q place (queue_at doc q (suc k)) ≡ base q place (served_at doc q k)
   queue_base k from to here next =
-      (cleaned_limits doc own (suc k) q (pass doc (suc k) q (synced_at doc q (suc k)))).base place
+      (cleaned_limits doc (suc k) q (pass doc (suc k) q (synced_at doc q (suc k)))).base place
       ∙ pass_base (suc k) (omega (arith, from)) to next
-      ∙ (sync_limits doc own (suc k) q (begun doc q (suc k))).base place
-      ∙ next_base doc own q k here next place
+      ∙ (sync_limits doc (suc k) q (begun doc q (suc k))).base place
+      ∙ next_base doc own judges q k here next place
 
   -- the token is there once its interval is over since the base
   pub token_there : (interval k : ℕ) → IsEnough rate token_size interval → y ≤ k → k ≤ e → IsAttended doc q k → local doc q.process (base q place (queue_at doc q k)) + interval ≤ local doc q.process k
       → has_token doc q k place (queue_at doc q k) ≡ true
-  token_there interval k enough from to here over = has_token-own doc own q k place (queue_at doc q k) ∙ by_rated (rated q place (queue_at doc q k)) (rate_at k from to here)
+  token_there interval k enough from to here over =
+      token_is_there doc q k place (queue_at doc q k) ∙ by_rated (is_full_by doc.settings.rules.bucket doc q place (queue_at doc q k)) (rated q place (queue_at doc q k)) (rate_at k from to here)
     where
       span : ℕ
       span = local doc q.process k - local doc q.process (base q place (queue_at doc q k))
 
-      by_rated : (o : Option Rated) → has_rate rate o ≡ true → is_grown span o ≡ true
-      by_rated None is = absurd (false_is is)
-      by_rated (Some x) is =
+      not_full : (x : Rated) → is_grown span (Some x) ≡ true → is_there false span (Some x) ≡ true
+      not_full x grown = empty_grown span (Some x) ∙ grown
+
+      -- also where the bucket is full
+      by_full : (full : Bool) (x : Rated) → is_grown span (Some x) ≡ true → is_there full span (Some x) ≡ true
+      by_full false x grown = not_full x grown
+      by_full true x grown = and_both (not (x.1 == 0)) true (and_left (not (x.1 == 0)) (nat_le token_size (span * x.1)) (not_full x grown)) refl
+
+      by_rated : (full : Bool) (o : Option Rated) → has_rate rate o ≡ true → is_there full span o ≡ true
+      by_rated full None is = absurd (false_is is)
+      by_rated full (Some x) is =
           let same : x.1 ≡ rate = eqb-true x.1 rate is in
           let long : interval * rate ≤ span * rate = mul-le-mul_right rate (omega (arith, over)) in
           let grown : token_size ≤ span * rate = omega (arith, enough, long) in
-          subst (λ r. is_grown span (Some (x.0, r)) ≡ true) (sym same) (le-leb token_size (span * rate) grown)
+          by_full full x (subst (λ r. is_grown span (Some (x.0, r)) ≡ true) (sym same) (le-leb token_size (span * rate) grown))
 
-  -- and not before
-  pub token_over : (interval k : ℕ) → IsNeeded rate token_size interval → y ≤ k → k ≤ e → IsAttended doc q k → has_token doc q k place (queue_at doc q k) ≡ true
+  -- and not before, where buckets start empty
+  pub token_over : StartsEmpty doc → (interval k : ℕ) → IsNeeded rate token_size interval → y ≤ k → k ≤ e → IsAttended doc q k → has_token doc q k place (queue_at doc q k) ≡ true
       → local doc q.process (base q place (queue_at doc q k)) + interval ≤ local doc q.process k
-  token_over interval k needed from to here there =
-      omega (arith, local_up doc q.process (base q place (queue_at doc q k)) k (base_within doc own q k here place), by_rated (rated q place (queue_at doc q k)) (rate_at k from to here) (sym (has_token-own doc own q k place (queue_at doc q k)) ∙ there))
+  token_over empty interval k needed from to here there =
+      omega (arith, local_up doc q.process (base q place (queue_at doc q k)) k (base_within doc own q k here place), by_rated (rated q place (queue_at doc q k)) (rate_at k from to here) (sym (has_token-own doc empty q k place (queue_at doc q k)) ∙ there))
     where
       by_rated : (o : Option Rated) → has_rate rate o ≡ true → is_grown (local doc q.process k - local doc q.process (base q place (queue_at doc q k))) o ≡ true
           → interval ≤ local doc q.process k - local doc q.process (base q place (queue_at doc q k))

@@ -8,7 +8,7 @@ use Rattle.kube_objects.specs.Clocks.{local}
 use Rattle.kube_objects.specs.Document.{Doc}
 use Rattle.kube_objects.specs.Entry.{Entry, Identity, Place}
 use Rattle.kube_objects.specs.Newest.{has}
-use Rattle.kube_objects.specs.Own.{IsOwn}
+use Rattle.kube_objects.specs.Own.{IsOwn, JudgesByOwn}
 use Rattle.kube_objects.specs.Seen.{node_names}
 use Rattle.kube_objects.specs.Tainting.{waits, queued}
 use Rattle.kube_objects.specs.Tokens.{base, token_size, has_token}
@@ -66,7 +66,7 @@ rest x (y ∷ ys) (inr there) = more (rest x ys there)
 
 -- ---- to the next tick
 
-module _ (doc : Doc) (own : IsOwn doc) (q : Identity) (place : Place) (n k : ℕ) (here : IsAttended doc q k) where
+module _ (doc : Doc) (own : IsOwn doc) (judges : JudgesByOwn doc) (q : Identity) (place : Place) (n k : ℕ) (here : IsAttended doc q k) where
   -- a node that waits, and wasn't tainted
   abbrev Unserved : ℕ → Type 0
   Unserved at = (waits_since q place n (queue_at doc q k) ≡ Some at) × (waits_since q place n (served_at doc q k) ≡ Some at)
@@ -78,10 +78,10 @@ module _ (doc : Doc) (own : IsOwn doc) (q : Identity) (place : Place) (n k : ℕ
     was_ahead at unserved x b later mine its order = by_old (waits q place n (queue_at doc q (suc k))) (waits q place x (queue_at doc q (suc k))) (waits_since q place x (served_at doc q k)) refl its_key my_key
       where
         its_key : settled (waits q place n (queue_at doc q (suc k))) (suc k) (Some at) ≡ Some later
-        its_key = sym (settles doc own q (suc k) place n ∙ ap (settled (waits q place n (queue_at doc q (suc k))) (suc k)) (next_since doc own q k here next place n ∙ unserved.1)) ∙ its
+        its_key = sym (settles doc own q (suc k) place n ∙ ap (settled (waits q place n (queue_at doc q (suc k))) (suc k)) (next_since doc own judges q k here next place n ∙ unserved.1)) ∙ its
 
         my_key : settled (waits q place x (queue_at doc q (suc k))) (suc k) (waits_since q place x (served_at doc q k)) ≡ Some b
-        my_key = sym (settles doc own q (suc k) place x ∙ ap (settled (waits q place x (queue_at doc q (suc k))) (suc k)) (next_since doc own q k here next place x)) ∙ mine
+        my_key = sym (settles doc own q (suc k) place x ∙ ap (settled (waits q place x (queue_at doc q (suc k))) (suc k)) (next_since doc own judges q k here next place x)) ∙ mine
 
         early : at ≤ k
         early =
@@ -102,12 +102,12 @@ module _ (doc : Doc) (own : IsOwn doc) (q : Identity) (place : Place) (n k : ℕ
         by_old (Some wanted) (Some other) (Some old) is key own = (own, subst (λ at. IsBefore b x at n) (sym (some_is at later key)) order)
 
     next_covers : (at : ℕ) (xs : List ℕ) → Unserved at → Covers q place n xs (queue_at doc q k) → Covers q place n xs (queue_at doc q (suc k))
-    next_covers at xs unserved covers x b later mine its order = by_stay (stays doc own q k place here x)
+    next_covers at xs unserved covers x b later mine its order = by_stay (stays doc own judges q k place here x)
       where
         old : (waits_since q place x (served_at doc q k) ≡ Some b) × IsBefore b x at n
         old = was_ahead at unserved x b later mine its order
 
-        by_stay : Stays doc own q k place x (queue_at doc q k) (served_at doc q k) → Among x xs
+        by_stay : Stays doc own judges q k place x (queue_at doc q k) (served_at doc q k) → Among x xs
         by_stay (inl same) = covers x b at (sym same ∙ old.0) unserved.0 old.1
         by_stay (inr (none, taken)) = absurd (none_is b (sym none ∙ old.0))
 
@@ -134,9 +134,9 @@ module _ (doc : Doc) (own : IsOwn doc) (q : Identity) (place : Place) (n k : ℕ
   }
 
   serving : Serving
-  serving = by_waits (waits q place n (queue_at doc q k)) refl (stays doc own q k place here n)
+  serving = by_waits (waits q place n (queue_at doc q k)) refl (stays doc own judges q k place here n)
     where
-      by_waits : (o : Option ℕ) → waits q place n (queue_at doc q k) ≡ o → Stays doc own q k place n (queue_at doc q k) (served_at doc q k) → Serving
+      by_waits : (o : Option ℕ) → waits q place n (queue_at doc q k) ≡ o → Stays doc own judges q k place n (queue_at doc q k) (served_at doc q k) → Serving
       by_waits None is stay = Served (inr (ap has is))
       by_waits (Some wanted) is (inr (none, taken)) = Served (inl (tainted_is taken))
       by_waits (Some wanted) is (inl same) =
@@ -151,7 +151,7 @@ some_beats rate slow interval (suc enough) token time = omega arith
 some_beats rate slow zero zero token time = absurd (omega (arith, token))
 some_beats rate slow (suc interval) zero token time = absurd (omega (arith, time))
 
-module _ (doc : Doc) (own : IsOwn doc) (q : Identity) (place : Place) (n m y e last : ℕ) (attends : Attends doc q m e) (begin : m ≤ y) (end : last ≤ e) (rate slow interval enough : ℕ) (keeps : KeepsRate doc q place rate y e)
+module _ (doc : Doc) (own : IsOwn doc) (judges : JudgesByOwn doc) (q : Identity) (place : Place) (n m y e last : ℕ) (attends : Attends doc q m e) (begin : m ≤ y) (end : last ≤ e) (rate slow interval enough : ℕ) (keeps : KeepsRate doc q place rate y e)
     (runs : RunsAtLeast doc q.process y e slow) (token : IsEnough rate token_size interval) (time : IsEnough slow interval enough) (to : y ≤ e) where
   some : 1 ≤ enough
   some = some_beats rate slow interval enough token time
@@ -182,7 +182,7 @@ module _ (doc : Doc) (own : IsOwn doc) (q : Identity) (place : Place) (n m y e l
   now k s served = (k, omega (arith, begin, s.from), omega (arith, s.within, s.bound), served)
 
   -- the head was tainted
-  after_head : (k at : ℕ) (here : IsAttended doc q k) (s : Reached k) → Unserved doc own q place n k here at → Spent doc own q k place n at (served_at doc q k) → (k < last) × (IsAttended doc q (suc k) → Reached (suc k))
+  after_head : (k at : ℕ) (here : IsAttended doc q k) (s : Reached k) → Unserved doc own judges q place n k here at → Spent doc own judges q k place n at (served_at doc q k) → (k < last) × (IsAttended doc q (suc k) → Reached (suc k))
   after_head k at here s unserved head = (
     lt,
     λ next. record {
@@ -192,7 +192,7 @@ module _ (doc : Doc) (own : IsOwn doc) (q : Identity) (place : Place) (n m y e l
       within = omega (arith, some);
       bound = omega (arith, product, s.within, s.bound);
       ready = ready next;
-      covers = next_fewer doc own q place n k here next at s.xs head.name unserved s.covers head.gone r;
+      covers = next_fewer doc own judges q place n k here next at s.xs head.name unserved s.covers head.gone r;
     },
   )
     where
@@ -214,12 +214,12 @@ module _ (doc : Doc) (own : IsOwn doc) (q : Identity) (place : Place) (n m y e l
 
       ready : IsAttended doc q (suc k) → Ready (k + enough) (suc k)
       ready next =
-          let same : base q place (queue_at doc q (suc k)) ≡ k = queue_base doc own q place rate y e first keeps k s.from (omega (arith, lt, end)) here next ∙ head.base in
+          let same : base q place (queue_at doc q (suc k)) ≡ k = queue_base doc own judges q place rate y e first keeps k s.from (omega (arith, lt, end)) here next ∙ head.base in
           subst (λ b. local doc q.process b + interval ≤ local doc q.process (k + enough)) (sym same)
           (readings_grow doc q.process y e slow interval enough runs time k (k + enough) s.from (omega arith) (omega (arith, product, s.within, s.bound, end)))
 
   -- the token isn't there yet
-  after_none : (k at : ℕ) (here : IsAttended doc q k) (s : Reached k) → Unserved doc own q place n k here at → has_token doc q k place (queue_at doc q k) ≡ false → (k < last) × (IsAttended doc q (suc k) → Reached (suc k))
+  after_none : (k at : ℕ) (here : IsAttended doc q k) (s : Reached k) → Unserved doc own judges q place n k here at → has_token doc q k place (queue_at doc q k) ≡ false → (k < last) × (IsAttended doc q (suc k) → Reached (suc k))
   after_none k at here s unserved none = (
     omega (arith, lt, s.bound),
     λ next. record {
@@ -229,13 +229,13 @@ module _ (doc : Doc) (own : IsOwn doc) (q : Identity) (place : Place) (n m y e l
       within = omega (arith, lt);
       bound = s.bound;
       ready = ready next;
-      covers = next_covers doc own q place n k here next at s.xs unserved s.covers;
+      covers = next_covers doc own judges q place n k here next at s.xs unserved s.covers;
     },
   )
     where
       differs : k ≡ s.f → ⊥
       differs same =
-          true_is (sym (token_there doc own q place rate y e first keeps interval k token s.from (omega (arith, s.within, s.bound, end)) here
+          true_is (sym (token_there doc own judges q place rate y e first keeps interval k token s.from (omega (arith, s.within, s.bound, end)) here
           (subst (λ f. Ready f k) (sym same) s.ready)) ∙ none)
 
       lt : k < s.f
@@ -243,11 +243,11 @@ module _ (doc : Doc) (own : IsOwn doc) (q : Identity) (place : Place) (n m y e l
 
       ready : IsAttended doc q (suc k) → Ready s.f (suc k)
       ready next =
-          let same : base q place (queue_at doc q (suc k)) ≡ base q place (queue_at doc q k) = queue_base doc own q place rate y e first keeps k s.from (omega (arith, lt, s.bound, end)) here next ∙ (idle doc own q k place none).base in
+          let same : base q place (queue_at doc q (suc k)) ≡ base q place (queue_at doc q k) = queue_base doc own judges q place rate y e first keeps k s.from (omega (arith, lt, s.bound, end)) here next ∙ (idle doc own judges q k place none).base in
           subst (λ b. local doc q.process b + interval ≤ local doc q.process s.f) (sym same) s.ready
 
   step : (k : ℕ) → Reached k → (k < last → Reached (suc k) → Goal) → Goal
-  step k s go = by_serving (serving doc own q place n k here)
+  step k s go = by_serving (serving doc own judges q place n k here)
     where
       here : IsAttended doc q k
       here = here_at k (omega (arith, begin, s.from)) (omega (arith, s.within, s.bound, end))
@@ -255,11 +255,11 @@ module _ (doc : Doc) (own : IsOwn doc) (q : Identity) (place : Place) (n m y e l
       later : (k < last) × (IsAttended doc q (suc k) → Reached (suc k)) → Goal
       later (lt, next) = go lt (next (here_at (suc k) (omega (arith, begin, s.from)) (omega (arith, lt, end))))
 
-      by_token : (at : ℕ) → Unserved doc own q place n k here at → (b : Bool) → has_token doc q k place (queue_at doc q k) ≡ b → Goal
-      by_token at unserved true is = later (after_head k at here s unserved (spent doc own q k place here n at unserved.0 is))
+      by_token : (at : ℕ) → Unserved doc own judges q place n k here at → (b : Bool) → has_token doc q k place (queue_at doc q k) ≡ b → Goal
+      by_token at unserved true is = later (after_head k at here s unserved (spent doc own judges q k place here n at unserved.0 is))
       by_token at unserved false is = later (after_none k at here s unserved is)
 
-      by_serving : Serving doc own q place n k here → Goal
+      by_serving : Serving doc own judges q place n k here → Goal
       by_serving (Served served) = now k s served
       by_serving (Waits at unserved) = by_token at unserved (has_token doc q k place (queue_at doc q k)) refl
 
@@ -272,7 +272,7 @@ module _ (doc : Doc) (own : IsOwn doc) (q : Identity) (place : Place) (n m y e l
   wait zero k full xs is from le bound ready covers =
       let same : k ≡ y = omega (arith, is) in
       search (last - y) y (omega (arith, le, bound)) (record { f = full; xs = xs; from = omega arith; within = le; bound = bound; ready = ready; covers = subst (λ k. Covers q place n xs (queue_at doc q k)) same covers })
-  wait (suc fuel) k full xs is from le bound ready covers = by_serving (λ covers. wait fuel (suc k) full xs (omega (arith, is)) (omega (arith, from)) le bound ready covers) (serving doc own q place n k here)
+  wait (suc fuel) k full xs is from le bound ready covers = by_serving (λ covers. wait fuel (suc k) full xs (omega (arith, is)) (omega (arith, from)) le bound ready covers) (serving doc own judges q place n k here)
     where
       here : IsAttended doc q k
       here = here_at k from (omega (arith, is, to))
@@ -280,9 +280,9 @@ module _ (doc : Doc) (own : IsOwn doc) (q : Identity) (place : Place) (n m y e l
       next : IsAttended doc q (suc k)
       next = here_at (suc k) (omega (arith, from)) (omega (arith, is, to))
 
-      by_serving : (Covers q place n xs (queue_at doc q (suc k)) → Goal) → Serving doc own q place n k here → Goal
+      by_serving : (Covers q place n xs (queue_at doc q (suc k)) → Goal) → Serving doc own judges q place n k here → Goal
       by_serving go (Served served) = (k, from, omega (arith, is, le, bound), served)
-      by_serving go (Waits at unserved) = go (next_covers doc own q place n k here next at xs unserved covers)
+      by_serving go (Waits at unserved) = go (next_covers doc own judges q place n k here next at xs unserved covers)
 
 -- ---- the nodes ahead at first
 
@@ -319,17 +319,17 @@ module _ (q : Identity) (place : Place) (n : ℕ) (h : List Entry) where
           ∙ or_true (nat_lt (queued q place x h) (queued q place n h))
 
 pub taints_come : TaintsCome
-taints_come doc own q place n m y e attends begin rate slow interval enough full keeps runs token time from ready bound =
+taints_come doc own judges q place n m y e attends begin rate slow interval enough full keeps runs token time from ready bound =
     let h = queue_at doc q m in
     let xs = filter (is_ahead q place n h) (node_names h) in
     let count : length xs * enough ≡ ahead q place n h * enough = ap (λ c. c * enough) (length-filter (is_ahead q place n h) (node_names h)) in
-    wait doc own q place n m y e (full + ahead q place n h * enough) attends begin bound rate slow interval enough keeps runs token time (omega (arith, from, bound))
+    wait doc own judges q place n m y e (full + ahead q place n h * enough) attends begin bound rate slow interval enough keeps runs token time (omega (arith, from, bound))
     (y - m) m full xs (omega (arith, begin)) (omega arith) from (omega (arith, count)) ready (all_ahead q place n h)
 
 pub taints_come_anyway : TaintsComeAnyway
-taints_come_anyway doc own q place n m y e attends begin rate slow interval enough keeps runs token time bound =
+taints_come_anyway doc own judges q place n m y e attends begin rate slow interval enough keeps runs token time bound =
     subst (IsServedBy doc q place n m) sum
-    (taints_come doc own q place n m y e attends begin rate slow interval enough (y + enough) keeps runs token time (omega arith)
+    (taints_come doc own judges q place n m y e attends begin rate slow interval enough (y + enough) keeps runs token time (omega arith)
     (omega (
       arith,
       local_up doc q.process (base q place (queue_at doc q y)) y (base_within doc own q y (attends y begin (omega (arith, bound))) place),

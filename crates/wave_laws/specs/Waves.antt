@@ -9,7 +9,7 @@ use Rattle.kube_objects.specs.Clocks.{local}
 use Rattle.kube_objects.specs.Document.{Doc}
 use Rattle.kube_objects.specs.Entry.{Entry, Identity, Place, Ticks, Head, Swap, entry}
 use Rattle.kube_objects.specs.Modes.{mode}
-use Rattle.kube_objects.specs.Own.{IsOwn}
+use Rattle.kube_objects.specs.Own.{IsOwn, JudgesByOwn, StartsEmpty}
 use Rattle.kube_objects.specs.Seen.{seen_node, node_names}
 use Rattle.kube_objects.specs.Tainting.{Wanted, wants, is_opposite, queued}
 use Rattle.kube_objects.specs.Tick.{pass, cleaned, tainted}
@@ -62,12 +62,12 @@ abbrev pub IsServedBy : Doc → Identity → Place → ℕ → ℕ → ℕ → T
 IsServedBy doc q place name m last =
     (t : ℕ) × (m ≤ t) × (t ≤ last) × (IsTainted doc q place name t ⊎ (is_waiting q place name (queue_at doc q t) ≡ false))
 
--- with the project's own rules, while a leader attends to its nodes: of a node's zone with one rate from beat y on, and a beat by which a token's
+-- with the project's own rules, those of judgement too, while a leader attends to its nodes: of a node's zone with one rate from beat y on, and a beat by which a token's
 -- interval is over since the base that the zone has in beat y: the node's taint comes by that beat and as many intervals later as nodes are ahead
 -- of it in beat m
 abbrev pub TaintsCome : Type 0
 TaintsCome =
-    (doc : Doc) → IsOwn doc → (q : Identity) (place : Place) (name m y e : ℕ) → Attends doc q m e → m ≤ y
+    (doc : Doc) → IsOwn doc → JudgesByOwn doc → (q : Identity) (place : Place) (name m y e : ℕ) → Attends doc q m e → m ≤ y
     → (rate slow interval enough full : ℕ) → KeepsRate doc q place rate y e → RunsAtLeast doc q.process y e slow → IsEnough rate token_size interval → IsEnough slow interval enough
     → y ≤ full → local doc q.process (base q place (queue_at doc q y)) + interval ≤ local doc q.process full
     → full + ahead q place name (queue_at doc q m) * enough ≤ e
@@ -76,7 +76,7 @@ TaintsCome =
 -- so by as many intervals after beat y, and one more, whatever the base is
 abbrev pub TaintsComeAnyway : Type 0
 TaintsComeAnyway =
-    (doc : Doc) → IsOwn doc → (q : Identity) (place : Place) (name m y e : ℕ) → Attends doc q m e → m ≤ y
+    (doc : Doc) → IsOwn doc → JudgesByOwn doc → (q : Identity) (place : Place) (name m y e : ℕ) → Attends doc q m e → m ≤ y
     → (rate slow interval enough : ℕ) → KeepsRate doc q place rate y e → RunsAtLeast doc q.process y e slow → IsEnough rate token_size interval → IsEnough slow interval enough
     → y + (ahead q place name (queue_at doc q m) + 1) * enough ≤ e
     → IsServedBy doc q place name m (y + (ahead q place name (queue_at doc q m) + 1) * enough)
@@ -92,10 +92,10 @@ LeaveTaintedOnly doc q place name m t =
     → is_waiting q place other (queue_at doc q (suc k)) ≡ true
 
 -- a node that waits in beat m leaves its zone's queue by a taint no sooner than as many intervals later as nodes are ahead of it in beat m, where
--- these leave by taints only
+-- these leave by taints only, and buckets start empty
 abbrev pub TaintsTakeTime : Type 0
 TaintsTakeTime =
-    (doc : Doc) → IsOwn doc → (q : Identity) (place : Place) (name m t : ℕ) → Attends doc q m t → m ≤ t → is_waiting q place name (queue_at doc q m) ≡ true → LeavesTainted doc q place name t
+    (doc : Doc) → IsOwn doc → JudgesByOwn doc → StartsEmpty doc → (q : Identity) (place : Place) (name m t : ℕ) → Attends doc q m t → m ≤ t → is_waiting q place name (queue_at doc q m) ≡ true → LeavesTainted doc q place name t
     → LeaveTaintedOnly doc q place name m t
     → (rate fast interval needed : ℕ) → KeepsRate doc q place rate m t → RunsAtMost doc q.process m t fast → IsNeeded rate token_size interval → IsNeeded fast interval needed
     → m + ahead q place name (queue_at doc q m) * needed ≤ t
@@ -111,5 +111,5 @@ pub record IsSwapped (doc : Doc) (q : Identity) (name wanted k : ℕ) : Type 0 w
 -- a node that has the opposite of the taint that it wants doesn't wait: in an attended beat it is swapped at once
 abbrev pub SwapsAreAtOnce : Type 0
 SwapsAreAtOnce =
-    (doc : Doc) → IsOwn doc → (q : Identity) (name wanted k : ℕ) → IsAttended doc q k → (x : Version × Node) → seen_node q name (judged_at doc q k) ≡ Some x
+    (doc : Doc) → IsOwn doc → JudgesByOwn doc → (q : Identity) (name wanted k : ℕ) → IsAttended doc q k → (x : Version × Node) → seen_node q name (judged_at doc q k) ≡ Some x
     → wants (mode q (judged_at doc q k)) x.1 ≡ Wanted wanted → list_any (is_opposite wanted) x.1.taints ≡ true → IsSwapped doc q name wanted k

@@ -70,7 +70,7 @@ few-ticks doc k p q h few =
 
 pub can-tick : (doc : Doc) (k p : ℕ) (h : List Entry) → is_stalled doc k ≡ false → IsUntickedFrom k p h → AreInTime k h → IsFew (own_ticks doc k p h) → CanTick doc k p h
 can-tick doc k p h goes unticked timely few =
-    record { fresh = λ q own. unticked q (omega (arith, own)); few = λ q. few-ticks doc k p q h few; goes = goes; in_beats = timely.in_beats; upto = timely.upto }
+    record { fresh = λ q own. (unticked q (omega (arith, own))).before; unpassed = λ q own. (unticked q (omega (arith, own))).passed; few = λ q. few-ticks doc k p q h few; goes = goes; in_beats = timely.in_beats; upto = timely.upto }
 
 -- ---- the world around a process that ticks
 

@@ -11,28 +11,32 @@ use Rattle.kube_objects.specs.declared.pod.Due.TheVariants.{Never, At}
 use Rattle.kube_objects.specs.declared.pod.Pod.{Pod}
 use Rattle.kube_objects.specs.declared.rules.EvictRule.{EvictRule}
 use Rattle.kube_objects.specs.declared.rules.EvictRule.TheVariants as evictions
+use Rattle.kube_objects.specs.declared.rules.JudgeRule.{JudgeRule}
+use Rattle.kube_objects.specs.declared.rules.JudgeRule.TheVariants as judges
 use Rattle.kube_objects.specs.Clocks.{local}
 use Rattle.kube_objects.specs.Document.{Doc}
 use Rattle.kube_objects.specs.Entry.{Entry, Identity, Place}
 use Rattle.kube_objects.specs.Health.{last_pass, pass_period}
-use Rattle.kube_objects.specs.Modes.{mode, nodes, places}
+use Rattle.kube_objects.specs.Judgement.{passes, queue}
+use Rattle.kube_objects.specs.Modes.{mode}
 use Rattle.kube_objects.specs.Newest.{has, only_if}
 use Rattle.kube_objects.specs.Seen.{is_pod, is_stale, is_synced, node_names, pod_keys, seen_node, seen_pod}
 use Rattle.kube_objects.specs.Sightings.{sighted_due}
 use Rattle.kube_objects.specs.Stored.{node_key}
 use Rattle.kube_objects.specs.Tainting.{Queued, Wants, Nothing, Wanted, Whatever, head_of, waits, wants}
 use Rattle.kube_objects.specs.Tick.{has_room}
-use Rattle.kube_objects.specs.Tokens.{base, rated}
+use Rattle.kube_objects.specs.Tokens.{base, is_full_by, rated}
 use Rattle.kube_objects.specs.Tolerations.{due}
 use Rattle.history_laws.proofs.Plainly.{false_is, none_is}
 use Rattle.history_laws.proofs.Ticks.{Each, IsPodKey, pods_only}
 use Rattle.agenda_laws.specs.Ticking as agenda
-use Rattle.agenda_laws.specs.Ticking.{due_at, due_at_by, due_seen, due_sighted, dues_at, heads_at, is_clean_due, is_due_at_once, is_sync_at_once, is_unclean, is_unclean_seen, pass_at, room_at, room_from, synced_reading, term_time, time_of, token_at}
+use Rattle.agenda_laws.specs.Ticking.{due_at, due_at_by, due_seen, due_sighted, dues_at, has_clean_due, has_clean_due_by, has_first, has_head, has_head_by, heads_at, is_clean_due, is_due_at_once, is_sync_at_once, is_unclean, is_unclean_seen, pass_at, queue_places, queue_places_by, room_at, room_from, synced_reading, term_time, time_of, token_at}
 use Rattle.agenda_laws.specs.Times.{is_early, sooner}
 use Rattle.agenda_laws.proofs.Between.{both_sooner, early_same, sooner_both}
-use Rattle.agenda_laws.proofs.Ticking.{early_heads, grown_waits, heads_early, rooms_wake}
+use Rattle.agenda_laws.proofs.Ticking.{early_heads, full_waits, heads_early, rooms_wake}
 use Rattle.controller_core.proofs.Starting.{no_pass}
-use Rattle.controller_core.specs.Wakes.{IsAwaited, IsLeastAwaited, IsRoomReading, IsTokenReading, is_before, is_token_at, pass_reading}
+use Rattle.controller_core.specs.HeadsStand.{HasHeadBy}
+use Rattle.controller_core.specs.Wakes.{IsAwaited, IsLeastAwaited, IsRoomReading, IsTokenReading, is_before, is_cleaned_by, is_cleaned_now, is_token_at, pass_reading}
 use Rattle.controller_core.specs.Working.{kept}
 use Rattle.tick_laws.specs.Judged.{cleans, dirty_as, due_as, due_by, due_on, is_dirty, sighted_as, term_due}
 use Rattle.tick_laws.specs.Room.{AreUpTo}
@@ -42,6 +46,7 @@ use Rattle.tick_laws.proofs.Evicting.{due_seen as seen_as_due, due_sighted as si
 use Rattle.tick_laws.proofs.Named.{node_is_named, pod_is_named}
 use Rattle.tick_laws.proofs.Quiet.{head_some}
 use Rattle.tick_laws.proofs.Heads.{head_waits}
+use Rattle.tick_laws.proofs.Pushing.{queued_among}
 use Rattle.tick_laws.proofs.Tainting.{since_waits, waiting, waiting_place}
 use Rattle.watch_cache.specs.Stands.{ticks}
 use Rattle.world_process.specs.Beats.{reading_of}
@@ -98,12 +103,21 @@ module _ (doc : Doc) (q : Identity) (h : List Entry) (begun : HasBegun q h) wher
       ap (λ b. b && list_any (is_clean_due q h) (node_names h)) (dirty-synced name dirty)
       ∙ some-clean name dirty (node_names h) (node_is_named q name h seen.0 seen.1)
 
-  pub at-once-is : (b : Bool) → (b ≡ false → (is_sync_at_once doc q h ≡ false) × ((n : ℕ) → is_dirty q n h ≡ false))
-      → (b ≡ true → (is_sync_at_once doc q h ≡ true) ⊎ ((n : ℕ) × (is_dirty q n h ≡ true))) → b ≡ is_due_at_once doc q h
+  -- by when nodes are judged
+  none-due : (rule : JudgeRule) → ((name : ℕ) → is_cleaned_by rule q name h ≡ false) → has_clean_due_by rule q h ≡ false
+  none-due judges.Tick none = no-clean (node_names h) none
+  none-due judges.Pass none = refl
+
+  some-due : (rule : JudgeRule) (name : ℕ) → is_cleaned_by rule q name h ≡ true → (is_synced q h && has_clean_due_by rule q h) ≡ true
+  some-due judges.Tick name dirty = busy-clean name dirty
+  some-due judges.Pass name dirty = absurd (false_is dirty)
+
+  pub at-once-is : (b : Bool) → (b ≡ false → (is_sync_at_once doc q h ≡ false) × ((n : ℕ) → is_cleaned_now doc q n h ≡ false))
+      → (b ≡ true → (is_sync_at_once doc q h ≡ true) ⊎ ((n : ℕ) × (is_cleaned_now doc q n h ≡ true))) → b ≡ is_due_at_once doc q h
   at-once-is false quiet busy =
       let s = quiet refl in
-      sym (ap (λ b. b || (is_synced q h && list_any (is_clean_due q h) (node_names h))) s.0
-      ∙ ap (λ b. is_synced q h && b) (no-clean (node_names h) s.1)
+      sym (ap (λ b. b || (is_synced q h && has_clean_due doc q h)) s.0
+      ∙ ap (λ b. is_synced q h && b) (none-due doc.settings.rules.judge s.1)
       ∙ and-false (is_synced q h))
     where
       and-false : (b : Bool) → (b && false) ≡ false
@@ -111,9 +125,9 @@ module _ (doc : Doc) (q : Identity) (h : List Entry) (begun : HasBegun q h) wher
       and-false false = refl
   at-once-is true quiet busy = sym (by_cause (busy refl))
     where
-      by_cause : (is_sync_at_once doc q h ≡ true) ⊎ ((n : ℕ) × (is_dirty q n h ≡ true)) → is_due_at_once doc q h ≡ true
-      by_cause (inl sync) = ap (λ b. b || (is_synced q h && list_any (is_clean_due q h) (node_names h))) sync
-      by_cause (inr dirty) = or-right (is_sync_at_once doc q h) (is_synced q h && list_any (is_clean_due q h) (node_names h)) (busy-clean dirty.0 dirty.1)
+      by_cause : (is_sync_at_once doc q h ≡ true) ⊎ ((n : ℕ) × (is_cleaned_now doc q n h ≡ true)) → is_due_at_once doc q h ≡ true
+      by_cause (inl sync) = ap (λ b. b || (is_synced q h && has_clean_due doc q h)) sync
+      by_cause (inr dirty) = or-right (is_sync_at_once doc q h) (is_synced q h && has_clean_due doc q h) (some-due doc.settings.rules.judge dirty.0 dirty.1)
 
 -- ---- from a reading
 
@@ -164,7 +178,7 @@ not-early at is = grind (arith, nat_tests)
 module _ (doc : Doc) (q : Identity) (h : List Entry) where
   -- before the reading of a token it isn't there, and so at no reading before
   tells : (zone : Place) (at : ℕ) → is_token_at doc q zone h at ≡ false ↔ is_early at (token_at doc q zone h) ≡ true
-  tells zone at = grown_waits at (local doc q.process (base q zone h)) (rated q zone h)
+  tells zone at = full_waits (is_full_by doc.settings.rules.bucket doc q zone h) at (local doc q.process (base q zone h)) (rated q zone h)
 
   token-first : (zone : Place) (at : ℕ) → token_at doc q zone h ≡ Some at → (is_token_at doc q zone h at ≡ true) × ((earlier : ℕ) → is_token_at doc q zone h earlier ≡ true → at ≤ earlier)
   token-first zone at is = (by_test (is_token_at doc q zone h at) refl, λ earlier there. by_order earlier there (nat_lt earlier at) refl)
@@ -189,28 +203,43 @@ module _ (doc : Doc) (q : Identity) (h : List Entry) where
           let same : first ≡ at = omega (arith, one, two) in
           ap Some same
 
-  -- the zone's reading in the history is the one at which its token is there and somebody waits
-  head-reading : (zone : Place) (at : ℕ) → agenda.head_at doc q zone h ≡ Some at → IsTokenReading doc q h zone at
-  head-reading zone at = by_head (head_of q zone (node_names h) h) refl
+  -- who comes first, by when nodes are judged
+  has-head : (rule : JudgeRule) (zone : Place) → has_head_by rule doc q zone h ≡ true → HasHeadBy rule doc q h zone
+  has-head judges.Tick zone = by_head (head_of q zone (node_names h) h) refl
     where
-      by_head : (o : Option Queued) → head_of q zone (node_names h) h ≡ o → only_if (has o) (token_at doc q zone h) ≡ Some at → IsTokenReading doc q h zone at
-      by_head None head is = absurd (none_is at is)
-      by_head (Some y) head is =
-          let first = token-first zone at is in
-          let found = since_waits q zone y.1 y.0 h (head_waits q zone (node_names h) h y head) in
-          record { there = first.0; least = first.1; name = y.1; waiting = ap has found.1 }
+      by_head : (o : Option Queued) → head_of q zone (node_names h) h ≡ o → has o ≡ true → (name : ℕ) × (has (waits q zone name h) ≡ true)
+      by_head None head is = absurd (false_is is)
+      by_head (Some y) head is = let found = since_waits q zone y.1 y.0 h (head_waits q zone (node_names h) h y head) in (y.1, ap has found.1)
+  has-head judges.Pass zone = by_queue (queue doc q zone (passes q h)) refl
+    where
+      by_queue : (names : List ℕ) → queue doc q zone (passes q h) ≡ names → has_first names ≡ true → (name : ℕ) × (rest : List ℕ) × (queue doc q zone (passes q h) ≡ name ∷ rest)
+      by_queue [] queued is = absurd (false_is is)
+      by_queue (name ∷ rest) queued is = (name, rest, queued)
 
-  reading-head : (zone : Place) (at : ℕ) → IsTokenReading doc q h zone at → (agenda.head_at doc q zone h ≡ Some at) × Among zone (places (nodes q h))
+  head-there : (rule : JudgeRule) (zone : Place) → HasHeadBy rule doc q h zone → (has_head_by rule doc q zone h ≡ true) × Among zone (queue_places_by rule q h)
+  head-there judges.Tick zone head =
+      let w = some-waits (waits q zone head.0 h) head.1 in
+      let x = waiting q zone head.0 w.0 h w.1 in
+      (ap (λ (o : Option Queued). has o) (head_some q zone h head.0 w.0 w.1 (node_names h) (node_is_named q head.0 h x.x x.sees)).1, waiting_place q zone head.0 w.0 h w.1)
+  head-there judges.Pass zone head = (ap has_first head.2, queued_among doc q zone h head.0 head.1 head.2)
+
+  -- the zone's reading in the history is the one at which its token is there and its queue has a head
+  head-reading : (zone : Place) (at : ℕ) → agenda.head_at doc q zone h ≡ Some at → IsTokenReading doc q h zone at
+  head-reading zone at = by_head (has_head doc q zone h) refl
+    where
+      by_head : (b : Bool) → has_head doc q zone h ≡ b → only_if b (token_at doc q zone h) ≡ Some at → IsTokenReading doc q h zone at
+      by_head false head is = absurd (none_is at is)
+      by_head true head is =
+          let first = token-first zone at is in
+          record { there = first.0; least = first.1; head = has-head doc.settings.rules.judge zone head }
+
+  reading-head : (zone : Place) (at : ℕ) → IsTokenReading doc q h zone at → (agenda.head_at doc q zone h ≡ Some at) × Among zone (queue_places doc q h)
   reading-head zone at r =
-      let w = some-waits (waits q zone r.name h) r.waiting in
-      let x = waiting q zone r.name w.0 h w.1 in
-      let head = head_some q zone h r.name w.0 w.1 (node_names h) (node_is_named q r.name h x.x x.sees) in (
-        ap (λ (o : Option Queued). only_if (has o) (token_at doc q zone h)) head.1 ∙ token-is zone at r.there r.least,
-        waiting_place q zone r.name w.0 h w.1,
-      )
+      let head = head-there doc.settings.rules.judge zone r.head in
+      (ap (λ b. only_if b (token_at doc q zone h)) head.0 ∙ token-is zone at r.there r.least, head.1)
 
   abbrev least_reading : Option ℕ
-  least_reading = sooner (pass_at doc q h) (heads_at doc q (places (nodes q h)) h)
+  least_reading = sooner (pass_at doc q h) (heads_at doc q (queue_places doc q h) h)
 
   same-pass : ¬ (last_pass q h ≡ None) → pass_reading doc q h ≡ pass_at doc q h
   same-pass some = by_pass (last_pass q h) refl
@@ -231,26 +260,26 @@ module _ (doc : Doc) (q : Identity) (h : List Entry) where
     before-exact now before =
         let le = s.least (agenda.pass_after doc q (pass_period doc q h) (last_pass q h)) (inl (same-pass some)) in
         let pass : is_early now (pass_at doc q h) ≡ true = grind (arith, nat_tests) in
-        both_sooner now (pass_at doc q h) (heads_at doc q (places (nodes q h)) h) pass (early_heads doc q now (places (nodes q h)) h (λ zone among. early-zone now before zone))
+        both_sooner now (pass_at doc q h) (heads_at doc q (queue_places doc q h) h) pass (early_heads doc q now (queue_places doc q h) h (λ zone among. early-zone now before zone))
 
     before-all : (now : ℕ) → nat_lt now at ≡ true → is_early now (option_map kept least_reading) ≡ true
     before-all now before = early-kept now least_reading (below now at before s.fits) (before-exact now before)
 
     exact-before : IsAwaited doc q h at → (now : ℕ) → is_early now least_reading ≡ true → nat_lt now at ≡ true
-    exact-before there now early = by_cause there (sooner_both now (pass_at doc q h) (heads_at doc q (places (nodes q h)) h) early)
+    exact-before there now early = by_cause there (sooner_both now (pass_at doc q h) (heads_at doc q (queue_places doc q h) h) early)
       where
-        by_cause : IsAwaited doc q h at → (is_early now (pass_at doc q h) ≡ true) × (is_early now (heads_at doc q (places (nodes q h)) h) ≡ true) → nat_lt now at ≡ true
+        by_cause : IsAwaited doc q h at → (is_early now (pass_at doc q h) ≡ true) × (is_early now (heads_at doc q (queue_places doc q h) h) ≡ true) → nat_lt now at ≡ true
         by_cause (inl pass) e = ap (is_early now) (sym pass ∙ same-pass some) ∙ e.0
         by_cause (inr head) e =
             let r = reading-head head.0 at head.1 in
-            ap (is_early now) (sym r.0) ∙ heads_early doc q now (places (nodes q h)) h e.1 head.0 r.1
+            ap (is_early now) (sym r.0) ∙ heads_early doc q now (queue_places doc q h) h e.1 head.0 r.1
 
     all-before : (now : ℕ) → is_early now (option_map kept least_reading) ≡ true → nat_lt now at ≡ true
     all-before now early = by_there s.there
       where
         by_there : IsAwaited doc q h at ⊎ (at ≡ 18446744073709551615) → nat_lt now at ≡ true
         by_there (inl there) = exact-before there now (kept-early now least_reading early)
-        by_there (inr greatest) = ap (nat_lt now) greatest ∙ within-kept now (agenda.pass_after doc q (pass_period doc q h) (last_pass q h)) (heads_at doc q (places (nodes q h)) h) early
+        by_there (inr greatest) = ap (nat_lt now) greatest ∙ within-kept now (agenda.pass_after doc q (pass_period doc q h) (last_pass q h)) (heads_at doc q (queue_places doc q h) h) early
 
     synced-is : Some at ≡ option_map kept least_reading
     synced-is = early_same (Some at) (option_map kept least_reading) (λ now. same-tests (nat_lt now at) (is_early now (option_map kept least_reading)) (before-all now) (all-before now))

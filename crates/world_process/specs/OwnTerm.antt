@@ -3,7 +3,7 @@ use Rattle.std.specs.Prelude.{◌≡◌, ◌<◌, ℕ, Bool, true, false, List, 
 use Rattle.kube_objects.specs.Document.{Doc, is_controller}
 use Rattle.kube_objects.specs.Entry as entry
 use Rattle.kube_objects.specs.Entry.{Entry, Identity, Starts, Leads, Ticks}
-use Rattle.kube_objects.specs.Health.{last_pass}
+use Rattle.kube_objects.specs.Health.{is_pass_tick, last_pass}
 use Rattle.kube_objects.specs.Identities.{identity}
 use Rattle.kube_objects.specs.Modes.{nodes}
 use Rattle.kube_objects.specs.Newest.{has}
@@ -38,10 +38,11 @@ pub record IsUpAs (doc : Doc) (q : Identity) (h : List Entry) : Type 0 where
   pub sort : is_controller doc q.process ≡ true
   pub up : alive q.process h ≡ Some q.incarnation
 
--- what the tick of process p at beat k finds: no entry of a tick of its own on top, no more nodes than can be counted, a store that goes, and
+-- what the tick of process p at beat k finds: no entry of a tick of its own on top, no pass of its own at the beat, no more nodes than can be counted, a store that goes, and
 -- entries in the order of their beats, none of a later one
 pub record CanTick (doc : Doc) (k p : ℕ) (h : List Entry) : Type 0 where
   pub fresh : (q : Identity) → q.process ≡ p → before_tick q k h ≡ h
+  pub unpassed : (q : Identity) → q.process ≡ p → is_pass_tick k q h ≡ false
   pub few : (q : Identity) → length (nodes q (sync doc k q h)) < 4294967296
   pub goes : is_stalled doc k ≡ false
   pub in_beats : AreInBeats h

@@ -14,6 +14,7 @@ pub(crate) fn tick_settings(settings: &Settings) -> TickSettings
 {
     TickSettings {
         first_sync_millis: settings.rules.first_sync_millis,
+        probe: settings.rules.probe,
         monitor_period_millis: settings.monitor_period_millis,
         grace_period_millis: settings.grace_period_millis,
         startup_grace_millis: settings.startup_grace_millis,
@@ -23,6 +24,10 @@ pub(crate) fn tick_settings(settings: &Settings) -> TickSettings
         large_zone: settings.large_zone,
         unhealthy_percent: settings.unhealthy_percent,
         rate_policy: settings.rate_policy,
+        judge: settings.rules.judge,
+        first_sight: settings.rules.first_sight,
+        queue: settings.rules.queue,
+        bucket: settings.rules.bucket,
         evict_from: settings.rules.evict_from,
         evict_burst: settings.rules.evict_burst,
         evict_rate: settings.rules.evict_rate,

@@ -10,6 +10,9 @@ returns-clause-passes c = ticking.passes_wake
 pub returns-clause-cleans : goal.returns-clause-cleans
 returns-clause-cleans c = ticking.cleans_wake
 
+pub returns-clause-judges : goal.returns-clause-judges
+returns-clause-judges c = ticking.judges_wake
+
 pub returns-clause-heads : goal.returns-clause-heads
 returns-clause-heads c = ticking.heads_wake
 

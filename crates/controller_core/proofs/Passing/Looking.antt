@@ -1,31 +1,34 @@
 -- The nodes that a pass looks at, one after the other.
-use Rattle.std.proofs.Common.{◌≡◌, ◌∙◌, ◌+◌, ◌==◌, ◌&&◌, ◌||◌, ℕ, not, nat_lt, Bool, true, false, List, [], ◌∷◌, Option, Some, None, refl, sym, ap, subst, arith, Less}
+use Rattle.std.proofs.Common.{◌≡◌, ◌∙◌, ◌==◌, ◌&&◌, ◌||◌, ℕ, not, Bool, true, false, cond, List, [], ◌∷◌, Option, Some, None, refl, sym, ap, subst, arith, Less}
 use Rattle.std.proofs.lemmas.Bool.Decides.{nat_tests}
 use Rattle.std.specs.Ordering.{nat_cmp}
 use Rattle.kube_base.specs.declared.numbers.Version.{Version}
-use Rattle.kube_base.specs.declared.numbers.Wall.{Wall}
 use Rattle.kube_objects.specs.declared.deed.Deed.{Deed}
+use Rattle.kube_objects.specs.declared.lease.Lease.{Lease}
 use Rattle.kube_objects.specs.declared.node.Node.{Node}
+use Rattle.kube_objects.specs.declared.node.Ready.{Ready}
+use Rattle.kube_objects.specs.declared.rules.ProbeRule.{ProbeRule}
+use Rattle.kube_objects.specs.declared.rules.ProbeRule.TheVariants as probe_words
 use Rattle.kube_objects.specs.Clocks.{local, wall, whole_second}
 use Rattle.kube_objects.specs.Document.{Doc}
 use Rattle.kube_objects.specs.Entry.{Entry, Identity, Mark, Pass}
-use Rattle.kube_objects.specs.Health.{grace_of, is_silent, is_unknown, lease_renewal, mark_of, marked, probe, renewal, with_mark}
+use Rattle.kube_objects.specs.Health.{is_silent, is_unknown, lease_of, mark_of, marked, ready_heartbeat, with_mark}
 use Rattle.kube_objects.specs.Newest.{has, when}
-use Rattle.kube_objects.specs.Own.{IsOwn}
 use Rattle.kube_objects.specs.Answers.{as_kind, lease_in}
 use Rattle.kube_objects.specs.Seen.{seen, seen_lease, seen_node}
 use Rattle.kube_objects.specs.Stored.{Held, node_lease}
 use Rattle.kube_objects.specs.Tick.{add, for_each, mark_as, mark_seen, mark, marks}
 use Rattle.kube_objects.specs.Tries.{try_node}
-use Rattle.kube_objects.proofs.Own.{heard-own}
 use Rattle.history.specs.Printed.{reason_in}
 use Rattle.history_laws.proofs.Plainly.{false_is, true_is}
 use Rattle.node_health.specs.declared.grace.Grace.{Grace}
 use Rattle.node_health.specs.declared.health.Health.{Health}
 use Rattle.node_health.specs.declared.verdict.Verdict.TheVariants.{Keep, MarkUnknown}
-use Rattle.node_health.specs.Kept.{is_listed, verdict_of}
-use Rattle.node_health.specs.Stands.{HealthStands, IsGraceOf, IsLook, and_looked}
-use Rattle.node_health.proofs.Frames.{pass-same}
+use Rattle.node_health.specs.declared.known.Known.{Known}
+use Rattle.node_health.specs.Kept.{heartbeat_in, is_listed, verdict_of}
+use Rattle.node_health.specs.Recorded.{after_seen}
+use Rattle.node_health.specs.Stands.{HealthStands, IsGraceOf, IsLook, IsNoted, and_looked}
+use Rattle.node_health.proofs.Frames.{alike-same, pass-same}
 use Rattle.object_store.specs.declared.store.Store.{Store}
 use Rattle.term_state.specs.MidTick.{IsView, MidTick}
 use Rattle.term_state.specs.declared.cluster.Cluster.{Cluster}
@@ -49,24 +52,17 @@ use Rattle.watch_cache.specs.Told.{AreNamed}
 
 -- ---- the verdict is the mark
 
-module _ (doc : Doc) (own : IsOwn doc) (k : ℕ) (q : Identity) (name : ℕ) (node : Node) (h now : List Entry) (probes : (name : ℕ) → probe q name now ≡ probe q name (add k q Pass h)) where
-  pub mark_now : mark_of doc q k name node now ≡ mark_of doc q k name node (add k q Pass h)
-  mark_now =
-      ap (λ (at : ℕ). when (not (is_unknown node.ready) && nat_lt (local doc q.process at + grace_of doc node.ready) (local doc q.process k)) (with_mark (whole_second (wall doc q.process k)) node))
-      (heard-own doc own q name now ∙ probes name ∙ sym (heard-own doc own q name (add k q Pass h)))
-
-  pub keep_none : Keep ≡ verdict_of (mark_of doc q k name node (add k q Pass h)) → mark_of doc q k name node now ≡ None
-  keep_none is = mark_now ∙ by_test (not (is_unknown node.ready) && is_silent doc q k name node.ready (add k q Pass h)) is
+module _ (doc : Doc) (k : ℕ) (q : Identity) (name : ℕ) (node : Node) (now : List Entry) where
+  pub keep_none : Keep ≡ verdict_of (mark_of doc q k name node now) → mark_of doc q k name node now ≡ None
+  keep_none is = by_test (not (is_unknown node.ready) && is_silent doc q k name node.ready now) is
     where
       by_test : (b : Bool) → Keep ≡ verdict_of (when b (with_mark (whole_second (wall doc q.process k)) node)) → when b (with_mark (whole_second (wall doc q.process k)) node) ≡ None
       by_test true is = absurd (cc)
       by_test false is = refl
 
-  pub mark_some : (reason : ℕ) → MarkUnknown reason ≡ verdict_of (mark_of doc q k name node (add k q Pass h))
+  pub mark_some : (reason : ℕ) → MarkUnknown reason ≡ verdict_of (mark_of doc q k name node now)
       → (mark_of doc q k name node now ≡ Some (with_mark (whole_second (wall doc q.process k)) node)) × (reason ≡ (marked (whole_second (wall doc q.process k)) node.ready).reason)
-  mark_some reason is =
-      let found = by_test (not (is_unknown node.ready) && is_silent doc q k name node.ready (add k q Pass h)) is in
-      (mark_now ∙ found.0, found.1)
+  mark_some reason is = by_test (not (is_unknown node.ready) && is_silent doc q k name node.ready now) is
     where
       same_reason : (a b : ℕ) → MarkUnknown a ≡ MarkUnknown b → a ≡ b
       same_reason a b is = cc
@@ -83,22 +79,57 @@ mark_is doc k q name now x o sees is = ap (λ y. mark_seen doc k q name y now) s
 
 -- what a look is handed
 pub look_is : (doc : Doc) (k : ℕ) (q : Identity) (before : List Deed) (h now : List Entry) (looked : ℕ → Bool) (c : Cluster) (x : Health) (s : Store) (t : Told) (name : ℕ) (given : Version) (node : Node)
-    (renewed : Option Wall) (at : ℕ) (grace : Grace) → IsPassing doc k q before h now looked c x s t → Some (given, node) ≡ seen_node q name now → seen_node q name now ≡ seen_node q name h
-    → renewed ≡ renewal q name now → at ≡ local doc q.process k → IsGraceOf doc grace → IsLook doc k q h name node renewed at grace
-look_is doc k q before h now looked c x s t name given node renewed at grace p sees same lease reading graces =
-    record { version = given; shown = sym (sees ∙ same); lease = sym (lease ∙ p.leases name); reading = reading; graces = graces }
+    (leased : Option Lease) (at : ℕ) (grace : Grace) → IsPassing doc k q before h now looked c x s t → looked name ≡ false → Some (given, node) ≡ seen_node q name now
+    → seen_node q name now ≡ seen_node q name h → leased ≡ lease_of (seen_lease q name now) → at ≡ local doc q.process k → IsGraceOf doc grace
+    → IsLook doc k q h now name node leased at grace
+look_is doc k q before h now looked c x s t name given node leased at grace p new sees same lease reading graces =
+    record { version = given; shown = sym (sees ∙ same); lease = sym (lease ∙ p.leases name); reading = reading; graces = graces; alike = p.alike name new }
+
+-- a node that isn't among the looked ones and one more is another one, and wasn't among those
+pub or_left : (a b : Bool) → (a || b) ≡ false → a ≡ false
+or_left true b none = absurd (true_is none)
+or_left false b none = refl
+
+pub or_right : (a b : Bool) → (a || b) ≡ false → b ≡ false
+or_right true b none = absurd (true_is none)
+or_right false b none = none
+
+pub looked_itself : (n : ℕ) (looked : ℕ → Bool) → and_looked n looked n ≡ true
+looked_itself n looked = ap (λ b. b || looked n) (let itself : (n == n) ≡ true = grind (arith, nat_tests) in itself)
+
+-- what a mark of a node that was looked at notes, by the record
+pub noted_by : (q : Identity) (name : ℕ) (now : List Entry) (node written : Node) (lease : Option Lease) (rule : ProbeRule) (old new : Option Known) (at second : ℕ)
+    → new ≡ cond (name == name) (Some (after_seen rule old node.ready lease at)) old → written ≡ with_mark second node
+    → lease_of (seen_lease q name now) ≡ lease → rule ≡ probe_words.Record → IsNoted q now name written lease new
+noted_by q name now node written lease rule old new at second keeps is leased by_record =
+    record {
+      there = ap has looked;
+      ready = ap (λ (w : Node). has w.ready) is;
+      heartbeat = ap heartbeat_in looked ∙ by_ready node.ready ∙ sym (ap (λ (w : Node). ready_heartbeat w.ready) is);
+      lease = leased;
+    }
+  where
+    looked : new ≡ Some (after_seen probe_words.Record old node.ready lease at)
+    looked =
+        keeps
+        ∙ ap (λ b. cond b (Some (after_seen rule old node.ready lease at)) old) (let itself : (name == name) ≡ true = grind (arith, nat_tests) in itself)
+        ∙ ap (λ r. Some (after_seen r old node.ready lease at)) by_record
+
+    by_ready : (r : Option Ready) → ready_heartbeat r ≡ ready_heartbeat (Some (marked second r))
+    by_ready None = refl
+    by_ready (Some r) = refl
 
 -- the entry that a mark adds, and the write that it is
 pub record MarksBy (doc : Doc) (k : ℕ) (q : Identity) (now : List Entry) (name : ℕ) (given : Version) (written : Node) (reason : ℕ) : Type 0 where
   pub adds : add k q (Mark name given written (try_node q name given now)) now ≡ mark doc k q name now
   pub is : IsWrite (write.Mark reason) name written (try_node q name given now) (Mark name given written (try_node q name given now))
 
-pub marks_by : (doc : Doc) → IsOwn doc → (k : ℕ) (q : Identity) (before : List Deed) (h now : List Entry) (looked : ℕ → Bool) (c : Cluster) (x : Health) (s : Store) (t : Told) (name : ℕ) (given : Version)
+pub marks_by : (doc : Doc) (k : ℕ) (q : Identity) (before : List Deed) (h now : List Entry) (looked : ℕ → Bool) (c : Cluster) (x : Health) (s : Store) (t : Told) (name : ℕ) (given : Version)
     (node written : Node) (reason second at : ℕ) → IsPassing doc k q before h now looked c x s t → Some (given, node) ≡ seen_node q name now
-    → MarkUnknown reason ≡ verdict_of (mark_of doc q k name node (add k q Pass h)) → at ≡ wall doc q.process k → second ≡ whole_second at → written ≡ with_mark second node
+    → MarkUnknown reason ≡ verdict_of (mark_of doc q k name node now) → at ≡ wall doc q.process k → second ≡ whole_second at → written ≡ with_mark second node
     → MarksBy doc k q now name given written reason
-marks_by doc own k q before h now looked c x s t name given node written reason second at p sees says time second_is written_is =
-    let found = mark_some doc own k q name node h now p.probes reason says in
+marks_by doc k q before h now looked c x s t name given node written reason second at p sees says time second_is written_is =
+    let found = mark_some doc k q name node now reason says in
     let is : written ≡ with_mark (whole_second (wall doc q.process k)) node = written_is ∙ ap (λ n. with_mark n node) (second_is ∙ ap whole_second time) in
     record {
       adds = sym (mark_is doc k q name now (given, node) (Some (with_mark (whole_second (wall doc q.process k)) node)) (sym sees) found.0 ∙ ap (λ w. mark_as k q name given (Some w) now) (sym is));
@@ -136,8 +167,8 @@ lease_shown q name h = by_held (seen q (node_lease name) h)
     by_held None = refl
     by_held (Some x) = refl
 
-pub passed_renewal : (q : Identity) (k : ℕ) (h : List Entry) (n : ℕ) → renewal q n (add k q Pass h) ≡ renewal q n h
-passed_renewal q k h n = ap lease_renewal (sym (lease_shown q n (add k q Pass h)) ∙ ap (of_kind lease_in) ((pass_change q k h).shown (node_lease n)) ∙ lease_shown q n h)
+pub passed_lease : (q : Identity) (k : ℕ) (h : List Entry) (n : ℕ) → lease_of (seen_lease q n (add k q Pass h)) ≡ lease_of (seen_lease q n h)
+passed_lease q k h n = ap lease_of (sym (lease_shown q n (add k q Pass h)) ∙ ap (of_kind lease_in) ((pass_change q k h).shown (node_lease n)) ∙ lease_shown q n h)
 
 pub named_passed : (q : Identity) (k : ℕ) (h : List Entry) (names : List ℕ) → AreNamed (λ n. has (seen_node q n h)) names → AreNamed (λ n. has (seen_node q n (add k q Pass h))) names
 named_passed q k h names s = record { ascend = s.ascend; named = λ n. s.named n ∙ ap has (sym (passed_seen q k h n)) }
@@ -150,10 +181,10 @@ begin_looking doc k q before h names v c x s t w old running health view are wri
       now = add k q Pass h;
       passing = record {
         running = running;
-        health = pass-same doc k q h (λ n. false) (looked_of names names) x (λ n. sym (and_not (is_listed names n))) health;
-        leases = passed_renewal q k h;
+        health = pass-same doc q h (add k q Pass h) (λ n. false) (looked_of names names) x (λ n. sym (and_not (is_listed names n))) (record { rule = health.rule; nodes = health.nodes });
+        leases = passed_lease q k h;
         pods = pods_begun q k h;
-        probes = λ name. refl;
+        alike = λ name out. alike-same q name (add k q Pass h);
       };
       view = view;
       follows = sym (marks_of_seen doc k q (add k q Pass h) names (named_passed q k h names are));
@@ -201,10 +232,10 @@ next_looking doc k q before h names all ns n v c d x y s r t u w z old mid new i
       now = mark doc k q n l.now;
       passing = record {
         running = passing.running;
-        health = pass-same doc k q h (and_looked n (looked_of names all)) (looked_of names ns) y (λ m. ap (λ xs. and_looked n (looked_of names xs) m) is ∙ looked_next names n ns ascends.0 within m) passing.health;
+        health = pass-same doc q h (mark doc k q n l.now) (and_looked n (looked_of names all)) (looked_of names ns) y (λ m. ap (λ xs. and_looked n (looked_of names xs) m) is ∙ looked_next names n ns ascends.0 within m) passing.health;
         leases = passing.leases;
         pods = passing.pods;
-        probes = passing.probes;
+        alike = λ m out. passing.alike m (ap (λ xs. and_looked n (looked_of names xs) m) is ∙ looked_next names n ns ascends.0 within m ∙ out);
       };
       view = mark_view doc k q n l.now v l.view;
       follows = ap (λ xs. for_each (mark doc k q) xs l.now) (sym is) ∙ l.follows;
@@ -235,10 +266,10 @@ end_looking doc k q before h names rest v c x s t w old new is l =
     subst (λ g. IsPassing doc k q before h g (λ n. is_listed names n) c x s t × WritesStand doc q h g w × HavePassCost doc q k h (add k q Pass h) g old new) (sym (ap (λ xs. for_each (mark doc k q) xs l.now) is) ∙ l.follows) (
       record {
         running = l.passing.running;
-        health = pass-same doc k q h (looked_of names rest) (λ n. is_listed names n) x (λ n. ap (λ xs. looked_of names xs n) is ∙ and_true (is_listed names n)) l.passing.health;
+        health = pass-same doc q h l.now (looked_of names rest) (λ n. is_listed names n) x (λ n. ap (λ xs. looked_of names xs n) is ∙ and_true (is_listed names n)) l.passing.health;
         leases = l.passing.leases;
         pods = l.passing.pods;
-        probes = l.passing.probes;
+        alike = λ n out. l.passing.alike n (ap (λ xs. looked_of names xs n) is ∙ and_true (is_listed names n) ∙ out);
       },
       l.writes,
       l.cost,

@@ -5,17 +5,18 @@ use Rattle.std.proofs.lemmas.Bool.Decides.{nat_tests}
 use Rattle.kube_objects.specs.declared.node.Node.{Node}
 use Rattle.kube_objects.specs.declared.node.ZoneState.{ZoneState}
 use Rattle.kube_objects.specs.declared.deed.Deed.{Deed}
+use Rattle.kube_objects.specs.declared.rules.BucketRule.{BucketRule}
+use Rattle.kube_objects.specs.declared.rules.BucketRule.TheVariants.{Empty, Full}
 use Rattle.kube_objects.specs.Clocks.{local}
 use Rattle.kube_objects.specs.Document.{Doc, of_millis}
-use Rattle.kube_objects.specs.Entry.{Entry, Identity, Place, Tick, Mark, Pass, Zone, entry, Ticks, Mode}
-use Rattle.kube_objects.specs.Health.{at_pass, before_pass, is_found, is_pass_due, last_pass, marked_since, pass_period, pods_to_write, work_of}
+use Rattle.kube_objects.specs.Entry.{Entry, Identity, Place, Tick, Pass, Zone, entry, Ticks, Mode}
+use Rattle.kube_objects.specs.Health.{at_pass, before_pass, is_found, is_of_beat, is_pass_due, is_pass_tick, last_pass, marked_since, pass_period, pods_to_write, work_of}
 use Rattle.kube_objects.specs.Modes.{all_full, mode, nodes, place_of, places, rate_in, size_in, state_in}
 use Rattle.kube_objects.specs.Newest.{has, newest, only_if, or_else, when}
 use Rattle.kube_objects.specs.Seen.{is_synced, node_names, seen_node}
 use Rattle.kube_objects.specs.Tick.{add, is_same_mode, mark, marks, pass, set_mode, set_zones, zone, whole_pass}
-use Rattle.kube_objects.specs.Tries.{try_node}
-use Rattle.kube_objects.specs.Tokens.{base, is_rated, is_zone, rated}
-use Rattle.node_health.proofs.Frames.{SaysSame, health-same, says-same, unheard-kind}
+use Rattle.kube_objects.specs.Tokens.{base, is_full, is_full_by, is_rated, is_zone, rated}
+use Rattle.node_health.proofs.Frames.{health-same, unheard-kind}
 use Rattle.node_health.specs.Kept.{is_listed}
 use Rattle.node_health.specs.Stands.{HealthStands}
 use Rattle.node_health.specs.declared.health.Health.{Health}
@@ -26,7 +27,6 @@ use Rattle.taint_zones.specs.Limits.{LimitsStand, limit_at}
 use Rattle.taint_zones.specs.declared.zones.Zones.{Zones}
 use Rattle.controller_core.specs.Working.{pods_counted, pods_passed}
 use Rattle.controller_core.specs.Zoned.{ArePassed}
-use Rattle.controller_core.proofs.Between.{says_more}
 use Rattle.controller_core.proofs.Passing.Looking.{named_passed}
 use Rattle.controller_core.proofs.Passing.Marks.{mark_either, mark_view}
 use Rattle.term_state.proofs.Aside.{same_aside, refused_moved}
@@ -91,6 +91,16 @@ module _ (doc : Doc) (k : ℕ) (q : Identity) (h : List Entry) where
   mode_base on true g place = refl
   mode_base on false g place = refl
 
+  mode_full : (on b : Bool) (g : List Entry) (place : Place) → is_full doc q place (if b then g else add k q (Mode on) g) ≡ is_full doc q place g
+  mode_full on true g place = refl
+  mode_full on false g place = refl
+
+  marks_full : (g : List Entry) (place : Place) → is_full doc q place (marks doc k q g) ≡ is_full doc q place g
+  marks_full g place =
+      every (mark doc k q) (λ f. is_full doc q place f ≡ is_full doc q place g)
+      (λ name f s. mark_either doc k q name f (λ x. is_full doc q place x ≡ is_full doc q place g) s (λ given written. s))
+      (node_names g) g refl
+
   mode_nodes : (on b : Bool) (g : List Entry) → nodes q (if b then g else add k q (Mode on) g) ≡ nodes q g
   mode_nodes on true g = refl
   mode_nodes on false g = nodes_moded q k g on
@@ -113,6 +123,13 @@ module _ (doc : Doc) (k : ℕ) (q : Identity) (h : List Entry) where
       let on = all_full doc (nodes q g) in
       mode_base on (is_same_mode on (mode q g)) g place ∙ marks_left.base place ∙ base_passed q k h place
 
+  moded_full : (rule : BucketRule) (place : Place) → is_full_by rule doc q place moded ≡ is_full_by rule doc q place h
+  moded_full Empty place = refl
+  moded_full Full place =
+      let g = marks doc k q (add k q Pass h) in
+      let on = all_full doc (nodes q g) in
+      mode_full on (is_same_mode on (mode q g)) g place ∙ marks_full (add k q Pass h) place
+
   pub are_passed : (zones : Zones) → LimitsStand doc q h zones → ArePassed doc q moded zones
   are_passed zones s =
       record {
@@ -122,17 +139,12 @@ module _ (doc : Doc) (k : ℕ) (q : Identity) (h : List Entry) where
               rated = (s place).rated ∙ sym (moded_rated place ∙ ap (λ b. cond b (rated q place h) None) zone);
               rate = (s place).rate;
               base = subst (λ (b : ℕ). IfSome (limit_at zones place) (λ limit. limit.bucket.base ≡ local doc q.process b)) (sym (moded_base place)) (s place).base;
+              full = subst (λ b. IfSome (limit_at zones place) (λ limit. limit.bucket.full ≡ b)) (sym (moded_full doc.settings.rules.bucket place)) (s place).full;
             };
         gone = λ place none. moded_rated place ∙ ap (λ (n : ℕ). cond (nat_lt 0 n) (rated q place h) None) (sym (moded_size place) ∙ none);
       }
 
--- ---- health through the marks and the zones' entries
-
-pub marks_say : (doc : Doc) (k : ℕ) (q : Identity) (h : List Entry) → SaysSame q h (marks doc k q h)
-marks_say doc k q h =
-    every (mark doc k q) (SaysSame q h)
-    (λ name g s. mark_either doc k q name g (λ f. SaysSame q h f) s (λ given written. says_more q k h g (Mark name given written (try_node q name given g)) refl s))
-    (node_names h) h (says-same q h)
+-- ---- health through the zones' entries
 
 -- the view is that of the marks
 pub marks_view : (doc : Doc) (k : ℕ) (q : Identity) (h : List Entry) (v : View) → IsView doc k q h v → IsView doc k q (marks doc k q h) v
@@ -211,6 +223,9 @@ pass_last doc k q h = pass_rest doc k q (λ g. last_pass q g ≡ Some k) more (a
     more : (t : Tick) (g : List Entry) → is_passing t ≡ true → last_pass q g ≡ Some k → last_pass q (add k q t g) ≡ Some k
     more Pass g is last = now g
     more t g is last = last
+
+pub pass_tick : (doc : Doc) (k : ℕ) (q : Identity) (h : List Entry) → is_pass_tick k q (whole_pass doc k q h) ≡ true
+pass_tick doc k q h = ap (is_of_beat k) (pass_last doc k q h) ∙ (let itself : (k == k) ≡ true = grind (arith, nat_tests) in itself)
 
 pub rest_cost : (doc : Doc) (k : ℕ) (q : Identity) (g : List Entry) → tick_cost q k g ≤ tick_cost q k (set_zones doc k q (set_mode doc k q g))
 rest_cost doc k q g =

@@ -77,6 +77,7 @@ zoning_begins doc k q before h counts on zones settings reading told kept owed n
         rated = sym (owed.passed.gone place (none_is (size_in place (nodes q h)) (sym (there place (nodes q h)) ∙ is)));
         rate = tt;
         base = tt;
+        full = tt;
       });
     }
 

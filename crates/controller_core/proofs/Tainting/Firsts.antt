@@ -3,6 +3,9 @@ use Rattle.std.proofs.Common.{◌≡◌, ◌∙◌, inl, inr, ℕ, ◌<◌, ◌�
 use Rattle.std.proofs.lemmas.Bool.{eqb-true}
 use Rattle.std.proofs.lemmas.Bool.Decides.{nat_tests}
 use Rattle.std.specs.Option.{option_map}
+use Rattle.kube_objects.specs.declared.rules.BucketRule.{BucketRule}
+use Rattle.kube_objects.specs.declared.rules.BucketRule.TheVariants.{Empty, Full}
+use Rattle.kube_objects.specs.Tokens.{is_full_by}
 use Rattle.kube_objects.specs.declared.call.Answer.{Answer}
 use Rattle.kube_objects.specs.declared.call.Answer.TheVariants as answer
 use Rattle.kube_objects.specs.Clocks.{local}
@@ -30,7 +33,7 @@ use Rattle.tick_laws.specs.Judged.{key_if, waits_since}
 use Rattle.tick_laws.proofs.Heads.{Precedes, head_least}
 use Rattle.tick_laws.proofs.Named.{node_is_named, node_names_ascend}
 use Rattle.tick_laws.proofs.Orders.{same_place}
-use Rattle.tick_laws.proofs.Tainting.{IsWaiting, accepted_waits, heading, heading_base, heading_base_elsewhere, heading_change, heading_own, heading_since, heading_since_elsewhere, since_waits, taint_adds, waiting}
+use Rattle.tick_laws.proofs.Tainting.{IsWaiting, accepted_waits, heading, heading_base, heading_base_elsewhere, heading_full, heading_full_by, heading_change, heading_own, heading_since, heading_since_elsewhere, since_waits, taint_adds, waiting}
 use Rattle.tick_laws.proofs.Tried.{refused_waits}
 use Rattle.controller_core.specs.declared.taint.head.Lacking.{Lacking}
 use Rattle.controller_core.specs.Attempts.{headed, lacking_of, requeued}
@@ -146,18 +149,28 @@ module _ (doc : Doc) (k : ℕ) (q : Identity) (h : List Entry) (p : Place) (name
   -- ---- the token is taken
 
   limit_elsewhere : (zone : entry.Place) (x : Option Limit) → LimitStands doc q h zone x → place_eq (entry_place p) zone ≡ false → LimitStands doc q reached zone x
-  limit_elsewhere zone None s apart = record { rated = s.rated; rate = tt; base = tt }
+  limit_elsewhere zone None s apart = record { rated = s.rated; rate = tt; base = tt; full = tt }
   limit_elsewhere zone (Some limit) s apart =
       record {
         rated = s.rated;
         rate = s.rate;
         base = s.base ∙ ap (local doc q.process) (sym (heading_base_elsewhere doc k q (entry_place p) h name wanted w zone apart));
+        full = s.full ∙ sym (heading_full_by doc k q (entry_place p) h name wanted w doc.settings.rules.bucket zone apart);
       }
 
   limit_here : (now : ℕ) → now ≡ local doc q.process k → (x : Option Limit) → LimitStands doc q h (entry_place p) x → LimitStands doc q reached (entry_place p) (after_token now x)
-  limit_here now reading None s = record { rated = s.rated; rate = tt; base = tt }
+  limit_here now reading None s = record { rated = s.rated; rate = tt; base = tt; full = tt }
   limit_here now reading (Some limit) s =
-      record { rated = s.rated; rate = s.rate; base = reading ∙ ap (local doc q.process) (sym (heading_base doc k q (entry_place p) h name wanted w)) }
+      record {
+        rated = s.rated;
+        rate = s.rate;
+        base = reading ∙ ap (local doc q.process) (sym (heading_base doc k q (entry_place p) h name wanted w));
+        full = sym (by_rule doc.settings.rules.bucket);
+      }
+    where
+      by_rule : (rule : BucketRule) → is_full_by rule doc q (entry_place p) reached ≡ false
+      by_rule Empty = refl
+      by_rule Full = heading_full doc k q (entry_place p) h name wanted w
 
   pub limits_reached : (old new : Zones) (now : ℕ) → now ≡ local doc q.process k → LimitsStand doc q h old → ((zone : entry.Place) → limit_at new zone ≡ taken_at p now zone (limit_at old zone))
       → LimitsStand doc q reached new

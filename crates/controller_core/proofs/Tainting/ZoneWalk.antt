@@ -1,18 +1,17 @@
 -- The walk over zones.
-use Rattle.std.proofs.Common.{◌≡◌, ◌∙◌, inl, inr, ℕ, ◌+◌, ◌-◌, ◌*◌, ◌<◌, Bool, true, false, cond, List, [], ◌∷◌, Option, Some, None, refl, sym, ap, subst, arith, Less, Equal, Greater}
+use Rattle.std.proofs.Common.{◌≡◌, ◌∙◌, inl, inr, ℕ, ◌+◌, ◌-◌, ◌*◌, ◌<◌, Bool, true, false, cond, List, [], ◌∷◌, Option, Some, None, IfSome, refl, sym, ap, subst, arith, Less, Equal, Greater}
 use Rattle.std.proofs.lemmas.Bool.Decides.{nat_tests}
 use Rattle.std.proofs.lemmas.Cmp.{tied_itself}
 use Rattle.std.specs.Ordering.{is_eq, is_lt, nat_cmp, ordering_reverse, ordering_then}
 use Rattle.std.specs.declared.cmp.Ordering.{Ordering}
 use Rattle.kube_objects.specs.declared.deed.Deed.{Deed}
+use Rattle.kube_objects.specs.declared.rules.JudgeRule.TheVariants as judges
 use Rattle.kube_objects.specs.Document.{Doc}
 use Rattle.kube_objects.specs.Entry as entry
 use Rattle.kube_objects.specs.Entry.{Entry, Identity}
 use Rattle.kube_objects.specs.Modes.{nodes, place_cmp, place_eq, places}
-use Rattle.kube_objects.specs.Own.{IsOwn}
 use Rattle.kube_objects.specs.Tainting.{queued, waits}
-use Rattle.kube_objects.specs.Tick.{for_each, taint, tainted}
-use Rattle.kube_objects.proofs.Own.{tainted-own}
+use Rattle.kube_objects.specs.Tick.{for_each, taint, tainted, tainted_by}
 use Rattle.history_laws.proofs.Plainly.{false_is}
 use Rattle.object_store.specs.declared.store.Store.{Store}
 use Rattle.taint_zones.specs.declared.place.Place.{Place}
@@ -116,11 +115,11 @@ abbrev pub entry_at : Option Place → Option entry.Place
 entry_at None = None
 entry_at (Some place) = Some (entry_place place)
 
-after_is : (c : Option Place) (zone : Place) → IsAfter c zone → is_after place_cmp (entry_at c) (entry_place zone) ≡ true
+pub after_is : (c : Option Place) (zone : Place) → IsAfter c zone → is_after place_cmp (entry_at c) (entry_place zone) ≡ true
 after_is None zone later = refl
 after_is (Some c) zone later = later
 
-is_later : (c : Option Place) (zone : entry.Place) → is_after place_cmp (entry_at c) zone ≡ true → IsAfter c (of_place zone)
+pub is_later : (c : Option Place) (zone : entry.Place) → is_after place_cmp (entry_at c) zone ≡ true → IsAfter c (of_place zone)
 is_later None zone later = tt
 is_later (Some c) zone later = later
 
@@ -139,20 +138,20 @@ place_apart a b less = ap is_eq less
 -- ---- h is the history at the start, now the one that is reached, and c the zone that the walk is at
 
 pub record Walking (doc : Doc) (q : Identity) (k : ℕ) (before : List Deed) (h now : List Entry) (c : Option Place) (z : Zones) (t : Cluster) (s : Store) (v : View) (told : Told) : Type 0 where
-  pub own : IsOwn doc
+  pub at_ticks : doc.settings.rules.judge ≡ judges.Tick
   pub heading : Heading doc q k before now z t s told
   pub view : IsView doc k q now v
   pub follows : for_each (taint doc k q) (after place_cmp (entry_at c) (places (nodes q h))) now ≡ tainted doc k q h
   pub elsewhere : (zone : entry.Place) → is_after place_cmp (entry_at c) zone ≡ true → (m : ℕ) → waits q zone m now ≡ waits q zone m h
 
-pub begin_walk : (doc : Doc) (q : Identity) (k : ℕ) (before : List Deed) (h : List Entry) (z : Zones) (t : Cluster) (s : Store) (v : View) (told : Told) → IsOwn doc → Heading doc q k before h z t s told → IsView doc k q h v
+pub begin_walk : (doc : Doc) (q : Identity) (k : ℕ) (before : List Deed) (h : List Entry) (z : Zones) (t : Cluster) (s : Store) (v : View) (told : Told) → doc.settings.rules.judge ≡ judges.Tick → Heading doc q k before h z t s told → IsView doc k q h v
     → Walking doc q k before h h None z t s v told
-begin_walk doc q k before h z t s v told own heading view =
+begin_walk doc q k before h z t s v told at_ticks heading view =
     record {
-      own = own;
+      at_ticks = at_ticks;
       heading = heading;
       view = view;
-      follows = ap (λ zones. for_each (taint doc k q) zones h) (after_none place_cmp places_strict (places (nodes q h))) ∙ sym (tainted-own doc own k q h);
+      follows = ap (λ zones. for_each (taint doc k q) zones h) (after_none place_cmp places_strict (places (nodes q h))) ∙ sym (ap (λ r. tainted_by r doc k q h) at_ticks);
       elsewhere = λ zone later m. refl;
     }
 
@@ -161,7 +160,7 @@ pub next_walk : (doc : Doc) (q : Identity) (k : ℕ) (before : List Deed) (h now
     → Walking doc q k before h (taint doc k q (entry_place p) now) (Some p) y u r v more
 next_walk doc q k before h now c p z y t u s r v told more w (later, between) heading =
     record {
-      own = w.own;
+      at_ticks = w.at_ticks;
       heading = heading;
       view = view_ticked doc k q now (taint doc k q (entry_place p) now) v (taint_ticked doc k q (entry_place p) now) w.view;
       follows = sym (walk_to place_cmp places_strict (taint doc k q) (entry_at c) (entry_place p) (places (nodes q h)) now (after_is c p later) (places_ascend (nodes q h)) idle out) ∙ w.follows;
@@ -205,6 +204,6 @@ abbrev pub zones_left : Option Place → ℕ
 zones_left None = 0
 zones_left (Some place) = 18446744073709551616 - number place
 
-pub fewer_left : (p : Place) (next : Option Place) (queues : Queues) → p.region < 4294967296 → p.zone < 4294967296 → IsNextZone queues (Some p) next → zones_left next < zones_left (Some p)
-fewer_left p None queues region zone is = omega (arith, region, zone)
-fewer_left p (Some n) queues region zone (later, between) = omega (arith, region, zone, number_grows p n zone later)
+pub fewer_left : (p : Place) (next : Option Place) → p.region < 4294967296 → p.zone < 4294967296 → IfSome next (λ next. IsAfter (Some p) next) → zones_left next < zones_left (Some p)
+fewer_left p None region zone is = omega (arith, region, zone)
+fewer_left p (Some n) region zone later = omega (arith, region, zone, number_grows p n zone later)

@@ -1,9 +1,8 @@
 // Untainting or swapping one node.
-ghost use Rattle.std.specs.Prelude.{◌≡◌, ℕ, true, List, OnOk, IfOk};
+ghost use Rattle.std.specs.Prelude.{◌≡◌, ℕ, true, false, List, OnOk, IfOk};
 ghost use Rattle.kube_objects.specs.Clocks.{wall};
 ghost use Rattle.kube_objects.specs.Document.{Doc};
 ghost use Rattle.kube_objects.specs.Entry.{Entry, Identity};
-ghost use Rattle.kube_objects.specs.Own.{IsOwn};
 ghost use Rattle.kube_objects.specs.Tick as tick;
 ghost use Rattle.kube_objects.specs.declared.deed.Deed.{Deed};
 ghost use Rattle.node_taints.specs.Wanting.{wants_of};
@@ -30,7 +29,8 @@ pub(crate) fn clean_one<L>(
     name: u32,
 ) -> Result<(), NoMemory>
     ensures { (doc : Doc) (k : ℕ) (q : Identity) (before : List Deed) (h : List Entry)
-        → IsOwn doc → MidTick doc q k before h cluster.old store.old told.old → IsView doc k q h view.entry.now → is_dirty q name h ≡ true
+        → MidTick doc q k before h cluster.old store.old told.old → IsView doc k q h view.entry.now → is_dirty q name h ≡ true
+        → tick.is_stripped doc.settings.rules.first_sight k q name h ≡ false
         → OnOk result (MidTick doc q k before (tick.clean doc k q name h) cluster.new store.new told.new
         × HaveCost q k h (tick.clean doc k q name h) (spent cluster.old steps.old) (spent cluster.new steps.new)) }
 {

@@ -1,15 +1,19 @@
 // Looks at the nodes.
 ghost use Rattle.std.specs.Prelude.{◌≡◌, ℕ, Bool, true, false, List, Some, OnOk};
 ghost use Rattle.kube_objects.specs.Document.{Doc};
-ghost use Rattle.kube_objects.specs.Entry.{Entry, Identity, Pass};
-ghost use Rattle.kube_objects.specs.Health.{renewal};
+ghost use Rattle.kube_base.specs.declared.numbers.Version.{Version};
+ghost use Rattle.kube_objects.specs.Entry.{Entry, Identity, Mark, Pass};
+ghost use Rattle.kube_objects.specs.Health as health_words;
 ghost use Rattle.kube_objects.specs.Newest.{has};
-ghost use Rattle.kube_objects.specs.Seen.{is_synced, seen_node};
+ghost use Rattle.kube_objects.specs.Seen.{is_synced, seen_lease, seen_node};
 ghost use Rattle.kube_objects.specs.Stored as stored_words;
 ghost use Rattle.kube_objects.specs.Tick.{add};
 ghost use Rattle.kube_objects.specs.Tick as model;
 ghost use Rattle.kube_objects.specs.declared.deed.Deed.{Deed};
-ghost use Rattle.node_health.specs.Stands.{HealthStands, IsGraceOf, and_looked};
+ghost use Rattle.kube_objects.specs.declared.node.Node.{Node};
+ghost use Rattle.kube_objects.specs.declared.rules.ProbeRule.TheVariants as probes;
+ghost use Rattle.node_health.specs.Kept.{kept, rule_of};
+ghost use Rattle.node_health.specs.Stands.{HealthStands, IsGraceOf, IsNoted, PassStands, and_looked};
 ghost use Rattle.term_state.specs.ClusterStands.{ClusterStands};
 ghost use Rattle.term_state.specs.MidTick.{IsView, MidTick};
 ghost use Rattle.term_state.specs.Sights.{spent};
@@ -19,9 +23,9 @@ ghost use Rattle.node_health.specs.Kept as spec;
 ghost use Rattle.watch_cache.specs.Told.{AreNamed};
 
 use crate::pass::marking::{is_ready, with_mark};
-use crate::pass::work::PodWrites;
-use kube_base::{KUBE_NODE_LEASE, NoMemory, Steps, Wall, whole_second};
-use kube_objects::{Key, Kind, NumberList};
+use crate::pass::work::{PodWrites, is_accepted};
+use kube_base::{KUBE_NODE_LEASE, NoMemory, Steps, whole_second};
+use kube_objects::{Answer, Key, Kind, Lease, NumberList};
 use node_health::{Grace, Health, Verdict};
 use object_store::Store;
 use term_state::{Cluster, NodeWrite, Told, View, try_write};
@@ -36,13 +40,25 @@ fn node_lease(name: u32) -> Key
     }
 }
 
-// The renew time of the node's Lease, as it is seen.
-fn renew_time(cluster: &Cluster, name: u32) -> Option<Wall>
-    ensures { (q : Identity) (h : List Entry) → ClusterStands q h cluster.now → is_synced q h ≡ true → result ≡ renewal q name h }
+// The node's Lease, as it is seen.
+fn lease_of(cluster: &Cluster, name: u32) -> Option<Lease>
+    ensures { (q : Identity) (h : List Entry) → ClusterStands q h cluster.now → is_synced q h ≡ true → result ≡ health_words.lease_of (seen_lease q name h) }
 {
     match cluster.lease(&node_lease(name)) {
         None => None,
-        Some((_, lease)) => lease.renewed,
+        Some((_, lease)) => Some(*lease),
+    }
+}
+
+// What is kept of a node that was looked at, after a try of a mark.
+fn note_accepted(health: &mut Health, name: u32, lease: Option<Lease>, answer: Option<Answer>)
+    ensures { (doc : Doc) (k : ℕ) (q : Identity) (h g : List Entry) (looked : ℕ → Bool) (given : Version) (written : Node)
+        → PassStands doc q h g looked health.old → looked name ≡ true
+        → (rule_of health.old ≡ probes.Record → IsNoted q g name written lease (kept health.old name))
+        → PassStands doc q h (add k q (Mark name given written answer) g) looked health.new }
+{
+    if is_accepted(answer) {
+        health.note_mark(name, lease);
     }
 }
 
@@ -66,11 +82,11 @@ fn look<L>(
         cluster.new health.new store.new told.new × WritesStand doc q h (model.mark doc k q name now) writes.new
         × HavePassCost doc q k h now (model.mark doc k q name now) (spent cluster.old steps.old) (spent cluster.new steps.new)) }
 {
-    let renewed = renew_time(cluster, name);
+    let lease = lease_of(cluster, name);
     let Some((given, node)) = cluster.node(name) else {
         return Ok(());
     };
-    match health.look(name, node, renewed, view.now, grace)? {
+    match health.look(name, node, lease, view.now, grace)? {
         Verdict::Keep => Ok(()),
         Verdict::MarkUnknown(reason) => {
             let ready = is_ready(node);
@@ -86,6 +102,7 @@ fn look<L>(
                 written,
                 NodeWrite::Mark(reason),
             )?;
+            note_accepted(health, name, lease, answer);
             writes.note_mark(name, ready, answer, cluster, steps)
         }
     }

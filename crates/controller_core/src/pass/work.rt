@@ -28,8 +28,8 @@ pub(crate) struct PodWrites {
     pub(crate) count: u64,
 }
 
-// Whether a try was accepted.
-fn is_accepted(answer: Option<Answer>) -> bool
+/// Whether a try was accepted.
+pub(crate) fn is_accepted(answer: Option<Answer>) -> bool
     ensures { result ≡ is_accepted answer }
 {
     match answer {

@@ -8,7 +8,7 @@ ghost use Rattle.kube_objects.specs.Modes.{mode, nodes};
 ghost use Rattle.kube_objects.specs.Tick as model;
 ghost use Rattle.kube_objects.specs.Tokens.{is_rated, rated};
 ghost use Rattle.kube_objects.specs.declared.deed.Deed.{Deed};
-ghost use Rattle.taint_zones.specs.Limits.{LimitStands, LimitsStand};
+ghost use Rattle.taint_zones.specs.Limits.{LimitStands, LimitsStand, new_bucket, with_rate};
 ghost use Rattle.taint_zones.specs.Places.{entry_place};
 ghost use Rattle.taint_zones.specs.Waiting.{since};
 ghost use Rattle.taint_zones.specs.declared.place.Place.{Place};
@@ -18,7 +18,7 @@ ghost use Rattle.zone_counts.specs.Counted.{zone_counts};
 ghost use Rattle.zone_counts.specs.Settings.{AreSettings};
 
 use kube_base::{Local, NoMemory};
-use kube_objects::{Act, TickSettings, ZoneState};
+use kube_objects::{Act, BucketRule, TickSettings, ZoneState};
 use rate_bucket::Bucket;
 use std::alloc::Global;
 use std::collections::BTreeMap;
@@ -27,28 +27,55 @@ use term_state::{Told, View};
 use zone_counts::ZoneCount;
 use zone_state::Policies;
 
-/// The limit of a zone after a pass, by its limit before; a new zone and a new rate empty the bucket.
-fn limit_after(old: Option<Limit>, state: ZoneState, rate: u32, now: Local) -> Limit
+// The bucket of a new zone.
+fn new_bucket(rule: BucketRule, rate: u32, now: Local) -> Bucket
+    requires { now.0 ≤ most_local }
+    ensures { result ≡ new_bucket rule rate now.0 }
+{
+    match rule {
+        BucketRule::Empty => Bucket::start(rate, now),
+        BucketRule::Full => Bucket::filled(rate, now),
+    }
+}
+
+// The bucket of a zone that gets a rate, which may be another one.
+fn with_rate(rule: BucketRule, old: Bucket, rate: u32, now: Local) -> Bucket
+    requires { now.0 ≤ most_local }
+    ensures { result ≡ with_rate rule old rate now.0 }
+{
+    let mut bucket = old;
+    match rule {
+        BucketRule::Empty => bucket.swap(rate, now),
+        BucketRule::Full => bucket.carry(rate, now),
+    }
+    bucket
+}
+
+/// The limit of a zone after a pass, by its limit before. The bucket of a new zone is empty or full by the rule; a new rate empties it, or leaves
+/// the token there that is there.
+fn limit_after(
+    rule: BucketRule,
+    old: Option<Limit>,
+    state: ZoneState,
+    rate: u32,
+    now: Local,
+) -> Limit
     requires { now.0 ≤ most_local }
     ensures { (doc : Doc) (k : ℕ) (q : Identity) (h : List Entry) (place : Zone) → LimitStands doc q h place old
-        → now.0 ≡ local doc q.process k
+        → rule ≡ doc.settings.rules.bucket → now.0 ≡ local doc q.process k
         → LimitStands doc q (model.zone_as k q place state rate h) place (Some result) }
 {
     match old {
         None => Limit {
             state,
             rate,
-            bucket: Bucket::start(rate, now),
+            bucket: new_bucket(rule, rate, now),
         },
-        Some(old) => {
-            let mut bucket = old.bucket;
-            bucket.swap(rate, now);
-            Limit {
-                state,
-                rate,
-                bucket,
-            }
-        }
+        Some(old) => Limit {
+            state,
+            rate,
+            bucket: with_rate(rule, old.bucket, rate, now),
+        },
     }
 }
 
@@ -98,6 +125,7 @@ pub(crate) fn set_zones(
         → AreSettings doc settings.now → view.entry.now.now.0 ≡ local doc q.process k
         → OnOk result (IsTold q k before (model.set_zones doc k q h) told.new × LimitsStand doc q (model.set_zones doc k q h) zones.new) }
     ensures queues { (zone : Place) (node : ℕ) → since zones.new.queues zone node ≡ since zones.old.queues zone node }
+    ensures pushes { zones.new.pushes ≡ zones.old.pushes }
 {
     let mut kept = BTreeMap::new(alloc);
     let mut rest = counts;
@@ -106,7 +134,8 @@ pub(crate) fn set_zones(
         let state = zone.state(settings.unhealthy_percent);
         let rate = zone.rate(on, settings, policies);
         tell(is_rated(&old, state, rate), zone.place, state, rate, told)?;
-        kept.insert(zone.place, limit_after(old, state, rate, view.now))?;
+        let limit = limit_after(settings.bucket, old, state, rate, view.now);
+        kept.insert(zone.place, limit)?;
         rest = others;
     }
     zones.limits = kept;

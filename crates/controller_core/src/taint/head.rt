@@ -6,7 +6,6 @@ ghost use Rattle.kube_objects.specs.Entry.{Entry, Identity};
 ghost use Rattle.kube_objects.specs.Entry as entry_words;
 ghost use Rattle.kube_objects.specs.Clocks.{wall};
 ghost use Rattle.kube_objects.specs.Newest.{has};
-ghost use Rattle.kube_objects.specs.Own.{IsOwn};
 ghost use Rattle.kube_objects.specs.Seen.{is_synced, seen_node};
 ghost use Rattle.kube_objects.specs.Tainting.{waits};
 ghost use Rattle.kube_objects.specs.Tick as tick;
@@ -42,7 +41,7 @@ pub(crate) fn taint_first<L>(
 ) -> Result<(), NoMemory>
     requires { view.now.now.0 ≤ most_local }
     ensures { (doc : Doc) (q : Identity) (k : ℕ) (before : List Deed) (h : List Entry)
-        → IsOwn doc → Heading doc q k before h zones.old cluster.old store.old told.old → IsView doc k q h view.entry.now
+        → Heading doc q k before h zones.old cluster.old store.old told.old → IsView doc k q h view.entry.now
         → OnOk result (Heading doc q k before (tick.taint doc k q (entry_place place) h) zones.new cluster.new store.new told.new
         × HaveCost q k h (tick.taint doc k q (entry_place place) h) (spent cluster.old steps.old) (spent cluster.new steps.new)) }
 {

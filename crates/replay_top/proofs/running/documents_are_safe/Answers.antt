@@ -10,6 +10,7 @@ returns c =
       exclusive = λ bytes d read premise. c.lease_is_safe.ensures.exclusive (doc_of d) premise (sound (doc_of d) (lawful bytes d read));
       spacing = λ bytes d read premise.
           c.taints_are_spaced.ensures (doc_of d) premise (sound (doc_of d) (lawful bytes d read)) (lawful bytes d read).settings.secondary;
+      spacing_in_rows = λ bytes d read. c.turns_are_spaced_in_rows.ensures (doc_of d) (sound (doc_of d) (lawful bytes d read)) (lawful bytes d read).settings.secondary;
       not_early = λ d. c.evictions_are_timely.ensures.not_early (doc_of d);
       prompt = λ bytes d read. c.evictions_are_timely.ensures.prompt (doc_of d) (sound (doc_of d) (lawful bytes d read)).2;
       limit = λ d. c.evictions_are_timely.ensures.limited (doc_of d);

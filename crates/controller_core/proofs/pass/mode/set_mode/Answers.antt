@@ -12,14 +12,14 @@ use Rattle.controller_core.proofs.Passing.Moding.{four_ok, mode_stays, mode_turn
 use Rattle.controller_core.proofs.pass.mode.set_mode.Goals as goal
 
 pub returns-then-on-mode-clause-stands : goal.returns-then-on-mode-clause-stands
-returns-then-on-mode-clause-stands c doc k q before h store running health view are percent =
+returns-then-on-mode-clause-stands c doc k q before h store running health view found are percent =
     let full : c.all_full-on.result ≡ all_full doc (nodes q h) = c.all_full-on.ensures doc (nodes q h) are percent in
     let same : c.all_full-on.result ≡ c.mode.result = search rules in
     let is = mode_stays doc k q h c.all_full-on.result full (same ∙ c.mode.ensures q h no_node no_pod running.cluster) in
     subst (λ g. MidTick doc q k before g c.args.cluster.now store c.args.told.now × HealthStands doc q g c.args.health.now) (sym is) (running, health)
 
 pub returns-clause-stands : goal.returns-clause-stands
-returns-clause-stands c doc k q before h store running health view are percent =
+returns-clause-stands c doc k q before h store running health view found are percent =
     let full : c.all_full-on.result ≡ all_full doc (nodes q h) = c.all_full-on.ensures doc (nodes q h) are percent in
     let on = c.all_full-on.result in
     let apart : c.all_full-on.result ≡ c.mode.result → ⊥ = search rules in
@@ -36,5 +36,5 @@ returns-clause-stands c doc k q before h store running health view are percent =
     c.set_mode.ensures.retained
     (λ cluster moved sighted retained. subst (λ g. MidTick doc q k before g c.set_mode.new.self store c.add.new.self × HealthStands doc q g c.hear_at_end.new.health) (sym is) (
       running_after doc q k before h on _ c.set_mode.new.self store _ c.add.new.self running cluster retained.from sighted moved (c.in_ok-add.ensures q k before h (Mode on) running.told refl),
-      c.hear_at_end.ensures doc k q h health view.reading,
+      c.hear_at_end.ensures doc k q h health found view.reading,
     ))

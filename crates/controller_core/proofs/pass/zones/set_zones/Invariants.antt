@@ -11,6 +11,7 @@ invariant-loop-zone g l =
       zoning : (doc : Doc) (k : ℕ) (q : Identity) (before : List Deed) (h : List Entry)
           → IsOwed doc k q before h l.counts l.on l.fn.zones l.settings l.view.now.0 l.fn.told → Zoning doc k q before h l.rest l.kept l.zones l.told;
       queues : l.zones.queues ≡ l.fn.zones.queues;
+      pushes : l.zones.pushes ≡ l.fn.zones.pushes;
     }
 
 abbrev pub decreases-loop-zone : goal.decreases-loop-zone

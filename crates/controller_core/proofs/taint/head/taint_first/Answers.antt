@@ -19,33 +19,33 @@ use Rattle.controller_core.proofs.Tainting.ZoneWalk.{zone_idle}
 use Rattle.controller_core.proofs.taint.head.taint_first.Goals as goal
 
 pub returns-in_default : goal.returns-in_default
-returns-in_default g c doc q k before h own s v =
+returns-in_default g c doc q k before h s v =
     subst (λ more. Heading doc q k before more c.args.zones.now c.args.cluster.now c.args.store.now c.args.told.now × HaveCost q k h more (spent c.args.cluster.now c.args.steps.now) (spent c.args.cluster.now c.args.steps.now))
     (sym (zone_idle doc k q h c.args.zones.now.queues (entry_place c.args.place) s.queues c.in_default.ensures.none)) (s, omega arith)
 
 pub returns-in_default-2 : goal.returns-in_default-2
-returns-in_default-2 g c doc q k before h own s v =
+returns-in_default-2 g c doc q k before h s v =
     let f = first_is q h c.args.zones.now.queues c.args.place c.in-Some.name s.queues c.in-Some.ensures.first in
     absurd (none_is _
     (sym c.in_default-2.is ∙ c.in_ok-lacking.ensures doc k q h (entry_place c.args.place) f.wanted f.waiting.x s.running.cluster s.running.synced v.time f.waits f.waiting.sees))
 
 pub returns : goal.returns
-returns g c doc q k before h own s v =
+returns g c doc q k before h s v =
     let p = c.args.place in
     let name = c.in-Some.name in
     let f = first_is q h c.args.zones.now.queues p name s.queues c.in-Some.ensures.first in
     let w = f.waiting in
     let t = tries_first doc k q h (entry_place p) name f c.in-Some-2.lacking
     (sym c.in-Some-2.is ∙ c.in_ok-lacking.ensures doc k q h (entry_place p) f.wanted w.x s.running.cluster s.running.synced v.time f.waits w.sees)
-    (sym (c.try_take.ensures.there doc q k h own s.limits v.reading) ∙ c.if-not-try_take.false) in
+    (sym (c.try_take.ensures.there doc q k h s.limits v.reading) ∙ c.if-not-try_take.false) in
     let queues : QueuesStand q h c.try_take.new.self.queues = λ zone n. c.try_take.ensures.queues (of_place zone) n ∙ s.queues zone n in
-    subst (λ more. OnOk c.attempt.result (Heading doc q k before more (record { limits = c.try_take.new.self.limits; queues = c.attempt.new.queues }) c.attempt.new.cluster c.attempt.new.store c.attempt.new.told
+    subst (λ more. OnOk c.attempt.result (Heading doc q k before more (record { limits = c.try_take.new.self.limits; queues = c.attempt.new.queues; pushes = c.try_take.new.self.pushes }) c.attempt.new.cluster c.attempt.new.store c.attempt.new.told
     × HaveCost q k h more (spent c.args.cluster.now c.args.steps.now) (spent c.attempt.new.cluster c.attempt.new.steps))) t.adds
     (on_ok_weaker c.attempt.result
     (λ all. (
       record {
         running = all.0;
-        limits = limits_reached doc k q h p name f.wanted w c.args.zones.now (record { limits = c.try_take.new.self.limits; queues = c.attempt.new.queues }) c.args.view.now.now.0 v.reading s.limits
+        limits = limits_reached doc k q h p name f.wanted w c.args.zones.now (record { limits = c.try_take.new.self.limits; queues = c.attempt.new.queues; pushes = c.try_take.new.self.pushes }) c.args.view.now.now.0 v.reading s.limits
             (c.try_take.ensures.taken c.if-not-try_take.false);
         queues = queues_reached doc k q h p name f.wanted w c.try_take.new.self.queues c.attempt.new.queues queues all.2;
         fresh = λ place n. heading_fresh doc k q (entry_place p) h name f.wanted w place n (s.fresh place n);

@@ -4,6 +4,7 @@ use Rattle.std.proofs.lemmas.Result.{on_ok_weaker}
 use Rattle.kube_objects.specs.declared.deed.Deed.{Deed}
 use Rattle.kube_objects.specs.Document.{Doc}
 use Rattle.kube_objects.specs.Entry.{Entry, Identity}
+use Rattle.kube_objects.specs.Health.{is_of_beat}
 use Rattle.kube_objects.specs.Seen.{is_synced}
 use Rattle.kube_objects.specs.Tainting.{before_tick, waits}
 use Rattle.kube_objects.specs.Tick.{sync, tick, phases}
@@ -15,7 +16,6 @@ use Rattle.term_state.specs.MidTick.{IsMoved}
 use Rattle.term_state.specs.Sights.{touched_len}
 use Rattle.term_state.proofs.Sighted.{untouched_len}
 use Rattle.term_state.proofs.Viewing.{view_ticked}
-use Rattle.tick_laws.specs.Judged.{waits_since}
 use Rattle.tick_laws.specs.Since.{AreReached}
 use Rattle.tick_laws.specs.Steps.{tick_cost}
 use Rattle.tick_laws.proofs.Phases.{reached_after_tick, sync_heads, sync_limits}
@@ -26,16 +26,17 @@ use Rattle.tick_laws.proofs.Waiting.{no_heads_start}
 use Rattle.controller_core.specs.declared.term.Term.{Term}
 use Rattle.controller_core.specs.TermStands.{Went, acted}
 use Rattle.controller_core.proofs.Allowed.{allowance_synced, synced_beats}
-use Rattle.controller_core.proofs.Between.{last_stands, limits_stand, sync_says, told_synced, unsynced_none}
+use Rattle.controller_core.proofs.Between.{held_stands, last_stands, limits_stand, sync_says, told_synced, unsynced_none}
 use Rattle.controller_core.proofs.Evicting.Settled.{settled_none}
 use Rattle.controller_core.proofs.FirstSync.{settles_ticked}
+use Rattle.controller_core.proofs.HeadsKept.{heads_begun}
 use Rattle.controller_core.proofs.term.Term.begin.Goals as goal
 
 went_same : (doc : Doc) (k : ℕ) (q : Identity) (before : List Deed) (h g : List Entry) (t : Term) (s : Store) (o : Told) → g ≡ h → Went doc k q before h t s o → Went doc k q before g t s o
 went_same doc k q before h g t s o is w = subst (λ f. Went doc k q before f t s o) (sym is) w
 
 pub returns-then-not-is_synced : goal.returns-then-not-is_synced
-returns-then-not-is_synced g c doc k q before h s st told v beats upto led start small =
+returns-then-not-is_synced g c doc k q before h s st told v beats upto led start unpassed small =
     let one = c.in_ok-sync.ensures.stands doc k q h (s.settles led) s.cluster st s.reached v s.from in
     let seen = c.in_ok-sync.ensures.sights doc k q h (s.settles led) s.cluster st s.reached v start s.from s.sights in
     let none : touched_len c.args.self.now.cluster ≡ 0 = untouched_len c.args.self.now.cluster (settled_none doc.settings.rules.evict_from doc q h no_pod c.args.self.now.cluster s.sights) in
@@ -53,6 +54,7 @@ returns-then-not-is_synced g c doc k q before h s st told v beats upto led start
               health = s.health;
               limits = s.limits;
               queues = s.queues;
+              held = s.held;
               last = s.last;
               range = s.range;
               settles = s.settles;
@@ -65,7 +67,7 @@ returns-then-not-is_synced g c doc k q before h s st told v beats upto led start
     )
 
 pub returns : goal.returns
-returns g c doc k q before h s st told v beats upto led start small =
+returns g c doc k q before h s st told v beats upto led start unpassed small =
     let f = sync doc k q h in
     let one = c.in_ok-sync.ensures.stands doc k q h (s.settles led) s.cluster st s.reached v s.from in
     let seen = c.in_ok-sync.ensures.sights doc k q h (s.settles led) s.cluster st s.reached v start s.from s.sights in
@@ -87,6 +89,7 @@ returns g c doc k q before h s st told v beats upto led start small =
           health = two.0.health;
           limits = two.0.limits;
           queues = two.0.queues;
+          held = two.0.held;
           last = two.0.last;
           range = two.0.range;
           settles = two.0.settles;
@@ -108,11 +111,13 @@ returns g c doc k q before h s st told v beats upto led start small =
         synced = synced;
       };
       allowance = allowance_synced doc k q c.args.self.now.allowance h s.allowance;
-      health = health-same doc q h f c.args.self.now.health (sync_says doc s.settings.own k q h) s.health;
-      limits = limits_stand doc q h f c.args.self.now.zones (sync_limits doc s.settings.own k q h) s.limits;
-      queues = λ place n. s.queues place n ∙ ap (waits_since q place n) (sym (beneath ∙ start));
-      heads = sync_heads doc s.settings.own k q h (no_heads_start q k h start);
-      last = last_stands doc q h f c.args.self.now.last (sync_limits doc s.settings.own k q h).passed ((sync_limits doc s.settings.own k q h).period doc) s.last;
+      health = health-same doc q h f c.args.self.now.health (sync_says doc k q h) s.health;
+      limits = limits_stand doc q h f c.args.self.now.zones (sync_limits doc k q h) s.limits;
+      queues = heads_begun doc k q h f c.args.self.now.zones (sync_limits doc k q h) (beneath ∙ start) s.queues;
+      held = held_stands q h f c.args.self.now.held (sync_limits doc k q h).known s.held;
+      passed = ap (is_of_beat k) (sync_limits doc k q h).passed ∙ unpassed;
+      heads = sync_heads doc k q h (no_heads_start q k h start);
+      last = last_stands doc q h f c.args.self.now.last (sync_limits doc k q h).passed ((sync_limits doc k q h).period doc) s.last;
       range = s.range;
       settles = settles_ticked doc q k h f c.args.self.now.settles (sync_ticked doc k q h) s.settles;
       settings = s.settings;

@@ -19,6 +19,7 @@ returns c doc k step q version h s is =
       health = led.health;
       limits = led.limits;
       queues = led.queues;
+      held = led.held;
       last = led.last;
       range = led.range;
       settles = led.settles;

@@ -10,11 +10,11 @@ use Rattle.controller_core.proofs.Evicting.Settled.{settled_kept}
 use Rattle.controller_core.proofs.term.Term.tick.Goals as goal
 
 pub returns : goal.returns
-returns g c doc k q h s st v acts beats upto led start small =
+returns g c doc k q h s st v acts beats upto led start unpassed small =
     let names = subst (λ x. Names x c.identity-incarnation.result) acts c.identity-incarnation.ensures in
     let who : actor.Proc c.identity-incarnation.result.0 c.identity-incarnation.result.1 ≡ actor_of q = λ i. actor.Proc (record { 0 = names.0 i }) (names.1 i) in
     let told = subst (λ n. IsTold q n (printed h) h c.new-told.result) v.beat (c.new-told.ensures.stands q h who) in
-    let both = c.in_ok-begin.ensures doc k q (printed h) h s st told v beats upto led start small in
+    let both = c.in_ok-begin.ensures doc k q (printed h) h s st told v beats upto led start unpassed small in
     let w = both.0 in (
       record {
         term = record {
@@ -26,6 +26,7 @@ returns g c doc k q h s st v acts beats upto led start small =
           health = w.term.health;
           limits = w.term.limits;
           queues = w.term.queues;
+          held = w.term.held;
           last = w.term.last;
           range = w.term.range;
           settles = w.term.settles;

@@ -23,7 +23,7 @@ returns-clause-early c doc k q h s fits early =
       due_from doc k q h last stands ∙ kept_due last.at.0 (pass_period doc q h) last.period (local doc q.process k) stands.period fits
           ∙ not_yet (last.at.0 + last.period) (local doc q.process k) later,
       λ place due.
-          let r = head_reading doc s.settings.own k q h place due in
+          let r = head_reading doc k q h place due in
           let le = c.first_ready.ensures.all doc q h place r.0 s r.2 in
           omega (arith, le, r.1, early),
     )
@@ -35,7 +35,7 @@ returns-clause-there c doc k q h s fits le =
     either (c.first_ready.ensures.there doc q h s)
     (λ given. inl (due_from doc k q h last stands ∙ kept_due last.at.0 (pass_period doc q h) last.period (local doc q.process k) stands.period fits
     ∙ le_true (last.at.0 + last.period) (local doc q.process k) (omega (arith, ap (λ at. at.0) given, le, fits, c.saturating_add.ensures))))
-    (λ head. inr (head.0, reading_head doc s.settings.own k q h head.0 c.first_ready.result.0 head.1 le))
+    (λ head. inr (head.0, reading_head doc k q h head.0 c.first_ready.result.0 head.1 le))
 
 pub returns-clause-reading : goal.returns-clause-reading
 returns-clause-reading c doc q h s =

@@ -6,14 +6,14 @@ use Rattle.taint_zones.proofs.Tokening.{limit_kept, limit_taken, no_token, token
 use Rattle.taint_zones.proofs.zones.Zones.try_take.Goals as goal
 
 pub returns-in-Some-clause-there : goal.returns-in-Some-clause-there
-returns-in-Some-clause-there c doc q k h own s reading =
-    token_is doc own q k h (entry_place c.args.place) c.in-Some.limit.now c.args.now.0 c.try_take.result
+returns-in-Some-clause-there c doc q k h s reading =
+    c.try_take.ensures.taken ∙ token_is doc q k h (entry_place c.args.place) c.in-Some.limit.now c.args.now.0
     (subst (LimitStands doc q h (entry_place c.args.place)) (sym c.get_mut.ensures.value ∙ ap option_copied_mut c.in-Some.is) (s (entry_place c.args.place)))
-    reading c.try_take.ensures.taken
+    reading
 
 pub returns-in-None-clause-there : goal.returns-in-None-clause-there
-returns-in-None-clause-there c doc q k h own s reading =
-    no_token doc own q k h (entry_place c.args.place)
+returns-in-None-clause-there c doc q k h s reading =
+    no_token doc q k h (entry_place c.args.place)
     (subst (LimitStands doc q h (entry_place c.args.place)) (sym c.get_mut.ensures.value ∙ ap option_copied_mut c.in-None.is) (s (entry_place c.args.place)))
 
 pub returns-in-Some-clause-kept : goal.returns-in-Some-clause-kept

@@ -35,7 +35,7 @@ returns-clause-stands g c doc k p h s store at watch passes can =
     let awake : is_paused doc p k ≡ false = ap (is_paused doc p) (sym at) ∙ sym (c.is_paused.ensures doc p s.pauses) ∙ c.if-is_paused.false in
     let term = sym (ap (λ o. in_term_if_up doc k p o h) up) ∙ sym (c.acting.ensures.in_term doc k p i h s.role s.clock at) ∙ some in
     let view = view-is doc k q h self.clock _ s.clock watch passes at c.local-now.ensures.value c.wall_at-wall.ensures.value in
-    let went = (c.in_ok-printed.ensures doc k q h (subst (TermStands doc q h) (sym c.deref_mut.ensures.value) (s.term.each i up).term) store view who can.in_beats can.upto (leads-in doc k q h term) (can.fresh q refl) (can.few q)).0 in
+    let went = (c.in_ok-printed.ensures doc k q h (subst (TermStands doc q h) (sym c.deref_mut.ensures.value) (s.term.each i up).term) store view who can.in_beats can.upto (leads-in doc k q h term) (can.fresh q refl) (can.unpassed q refl) (can.few q)).0 in
     on_ok_weaker c.append.result
     (λ told. subst (Ticked doc k p h _ c.tick.new.store c.args.deeds.now) (sym told)
     (ticked-acting doc k p h self c.tick.new.self c.tick.new.store c.args.deeds.now c.in_ok-printed.printed (acting-ticks doc s.timing.own k p i h can.goes awake up term) up s went))

@@ -1,0 +1,3 @@
+pub mod PushWalk
+pub mod Turns
+pub mod Wants
