@@ -18,7 +18,7 @@ import os
 import sys
 import time
 
-from beside import bounds, by_rules, grid, page, plane, plane_tables, release_tables, scenarios_by_rules, tables, wave_tables
+from beside import bounds, by_rules, grid, page, plane, plane_tables, release_tables, releases_by_rules, scenarios_by_rules, tables, wave_tables
 from beside.fast_elections import SETTINGS
 from beside.profile import Profile
 from beside.program import NoAnswer, Program
@@ -83,10 +83,11 @@ def of_rules(own, program, profile, is_written):
               if it != wanted.get(name) and not is_written]
     for name, it in counts.items():
         faults += unnamed(name, it, profile)
-    found = scenarios_by_rules.compared(functools.lru_cache(None)(plane.Scenario), program)
+    scenario_of = functools.lru_cache(None)(plane.Scenario)
+    found = scenarios_by_rules.compared(scenario_of, program)
     print(f"by upstream's rules, {len(found)} scenarios: {scenarios_by_rules.told(found)}", flush=True)
     made = {"by rules": by_rules.both(own, counts), "differences by rules": by_rules.differences(counts), "evictions": by_rules.evictions(program),
-            **scenarios_by_rules.tables(found)}
+            **scenarios_by_rules.tables(found), **releases_by_rules.tables(scenario_of, plane.NEW_NAMES, program)}
     return sum(it["cases"] for it in counts.values()), made, [*faults, *scenarios_by_rules.faults(found, profile)]
 
 

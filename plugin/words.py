@@ -74,6 +74,7 @@ def add_kubectl(group):
 def add_facts(group):
     group.add_argument('--controller', action='append', default=[], metavar='NAME', help='a host of the control plane; instead of those found')
     group.add_argument('--clock', action='append', default=[], metavar='NAME=1.02', help="a controller's clock goes so fast")
+    group.add_argument('--release-on-cancel', action='store_true', help='leaders give their Lease back whenever they end, as ReleaseOnCancel has them do')
     for name, (value, told) in FACTS.items():
         group.add_argument('--' + name, metavar=value, help=told)
     for flag, told in cluster_flags.told():
@@ -125,6 +126,7 @@ def kubectl_flags(given):
 def cluster_words(given):
     """The words of tools/from-cluster, but for --from-manifest, whose file may be another."""
     words = ['--%s=%s' % (name, each) for name in ('controller', 'clock') for each in value(given, name)]
+    words += ['--release-on-cancel'] if given.release_on_cancel else []
     words += ['--%s=%s' % (name, value(given, name)) for name in FACTS if name != 'from-manifest' and value(given, name) is not None]
     words += ['%s=%s' % (flag, value(given, flag[2:])) for flag, _ in cluster_flags.told() if value(given, flag[2:]) is not None]
     words += ['--for=' + given.length] if given.length else []

@@ -1,15 +1,16 @@
 """Whose rules a document goes by: those of the cluster's version, as Kubernetes was seen to do, or the project's own."""
+from cluster_flags import Wrong
 from cluster_told import few
 from cluster_versions import BETWEEN, NEW, OLD
 
 OWN, UPSTREAM_OLD, UPSTREAM_NEW = 'own', '1.20', '1.36'
 CHOICES = (OWN, UPSTREAM_OLD, UPSTREAM_NEW)
-# Those of 1.36 by name: the word for them says besides how a leader gives its Lease back, which is not built yet.
+NO_RELEASE = {'release': 'stop', 'inRelease': 'still'}  # as kube-controller-manager has it, unless a gate of 1.36 is on
+# Each without and with ReleaseOnCancel.
 KEYS = {
-    OWN: {},
-    UPSTREAM_OLD: {'rules': '1.20'},
-    UPSTREAM_NEW: {'retries': 'ticks', 'respect': 'record', 'firstSyncMillis': 700, 'probe': 'record', 'judge': 'pass', 'firstSight': 'strip', 'queue': 'again',
-                   'bucket': 'full', 'evictFrom': 'seen', 'evictBurst': 15, 'evictRate': 10_000, 'readyMillis': 100, 'readyBurst': 15},
+    OWN: ({}, {}),
+    UPSTREAM_OLD: ({'rules': '1.20'}, {'rules': '1.20', 'release': 'own', 'inRelease': 'acts'}),
+    UPSTREAM_NEW: ({'rules': '1.36', **NO_RELEASE}, {'rules': '1.36'}),
 }
 FIRST_SYNC, WAITS = 700, [1_600]
 # With beats of at most so many milliseconds it can be said that looks at nodes come so much later each time.
@@ -21,19 +22,17 @@ def are(names):
 
 
 class Rules:
-    def __init__(self, named, version):
-        self.named, self.version = named, version
+    def __init__(self, named, version, is_releasing=False):
+        self.named, self.version, self.is_releasing = named, version, is_releasing
         self.name = named or (UPSTREAM_NEW if version.number >= NEW else UPSTREAM_OLD)
+        if is_releasing and self.is_own():
+            raise Wrong('--release-on-cancel: by --rules own leaders release at a stop alone')
 
     def is_own(self):
         return self.name == OWN
 
     def keys(self):
-        return KEYS[self.name]
-
-    def of_controllers(self):
-        """What each controller has besides."""
-        return {'waits': WAITS} if self.name == UPSTREAM_NEW else {}
+        return KEYS[self.name][self.is_releasing]
 
     def looks(self, beat, monitor, graces):
         """The period of looks and the graces of a real controller, whose looks come some milliseconds later each time, so that a grace that is a multiple of
@@ -63,5 +62,7 @@ class Rules:
         told.row('rules', self.name, why, 'your words' if self.named else self.known())
         told.row('firstSyncMillis', FIRST_SYNC, 'by these rules, on a small plane; a large cluster takes seconds', 'run: 1.20.2')
         told.row('waits', WAITS[0], 'by these rules: the middle of what a candidate draws, 1,000 to 2,200', 'read in 1.20.2 and 0.36.4')
-        if self.name == UPSTREAM_NEW:
-            told.say('the rules of 1.36 are written out, but for how a leader gives its Lease back: no document says that yet')
+        if self.is_releasing:
+            told.row('release at an end', 'by ' + ('a Get and an Update' if self.name == UPSTREAM_NEW else 'an Update'), '--release-on-cancel', 'your words')
+        elif self.name == UPSTREAM_NEW:
+            told.row('release at an end', 'none', 'a gate of 1.36 can turn it on: --release-on-cancel', 'changelog of 1.36')

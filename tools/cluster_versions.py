@@ -80,5 +80,3 @@ class Version:
         told.say('Kubernetes %s (%s)%s: %s%s' % (self.text(), self.why(), '' if self.named else '; --kubernetes says another', ', '.join(taken), unverified))
         if self.mixed:
             told.say('the kubelets have several versions, and a list does not tell that of the control plane: the newest was taken')
-        if self.number >= NEW:
-            told.row('release at an end', 'none', 'a gate of 1.36 can turn it on; then premise=yes can be wrong', 'changelog of 1.36; run')

@@ -53,9 +53,12 @@ def mark(words):
 
 def marks(rows):
     """All marks, as a count of lane's kind, lane's name, line and mark's kind. Events of the script stand in two lanes."""
-    count, left = Counter(), {}
+    count, left, over = Counter(), {}, set()
     for number, beat, actor, words in rows:
-        count[(*subject(actor, words), number, mark(words))] += 1
+        kind = mark(words)
+        count[(*subject(actor, words), number, 'release' if kind == 'update' and actor in over else kind)] += 1
+        if words[0] in ('crash', 'stop', 'end'):
+            over.add(actor)
         if actor == 'script' and words[0] != 'stall' and not words[1].startswith('lease/'):
             sort, _, name = words[1].partition('/')
             count[(sort, name, number, words[0])] += 1

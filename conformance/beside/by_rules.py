@@ -1,14 +1,14 @@
 """The recorded sets by upstream's rules: the same answers beside documents of version 4 that say these rules."""
 from collections import namedtuple
 
-from . import elections, fitted_waits, health, stories, tolerations
+from . import elections, emptied_rounds, ends, fitted_waits, health, releases, stories, tolerations
 from .documents import document
 from .elector import GridElector, TicksElector
 from .fast_elections import SETTINGS
 from .recorded import NEW, SETS, cases_of
 from .tables import seconds, table
 from .tally import Tally, row_of, unnamed
-from .upstream_rules import RULES_OF_0_36, RULES_OF_1_20, RuledProgram
+from .upstream_rules import RELEASES_OF_0_36, RELEASES_OF_1_20, RULES_OF_0_36, RULES_OF_1_20, RuledProgram
 
 OTHER_ATTEMPT = unnamed("another instant of an attempt, by upstream's own rule")
 # A set's own way to judge its cases, None for the same as by the own rules; keys that its documents have in place of those of the rules; and what
@@ -16,9 +16,19 @@ OTHER_ATTEMPT = unnamed("another instant of an attempt, by upstream's own rule")
 Set = namedtuple("Set", "judge keys said", defaults=(None, {}, ""))
 AT_ONCE = {"firstSyncMillis": 0}  # caches were full at the lead
 ALONE = {**AT_ONCE, "firstSight": "keep", "evictBurst": 0}  # each case was one call, with no looks at nodes
+OWN, REREAD = (f"`release` `{it['release']}` and `inRelease` `{it['inRelease']}` where the Lease is released" for it in (RELEASES_OF_1_20, RELEASES_OF_0_36))
+
+
+def two_release(cases, program):
+    return releases.two_leaders_by_rules(cases, program, SETTINGS, RELEASES_OF_0_36)
+
+
 OF_ITS_OWN = {
     "election_timeouts": Set(lambda cases, program: elections.instants(cases, program, GridElector, lambda case, number: OTHER_ATTEMPT)),
     "election_failover": Set(lambda cases, program: fitted_waits.election_failover(cases, program, {}), said="`waits` fitted"),
+    "election_two_release": Set(lambda cases, program: releases.two_leaders_by_rules(cases, program, {}, RELEASES_OF_1_20), said=OWN),
+    "election_emptied": Set(lambda cases, program: emptied_rounds.by_rules(cases, program, "own"), said="`release` `own`"),
+    "election_ends": Set(lambda cases, program: ends.election_ends(cases, program, {}, RELEASES_OF_1_20), said=OWN),
     "tolerates": Set(keys=ALONE),
     "matching": Set(tolerations.matching_at_sight, ALONE),
     "zones": Set(keys=AT_ONCE),
@@ -28,6 +38,10 @@ OF_ITS_OWN = {
     "runs": Set(stories.runs_by_rules, AT_ONCE, "`waits` [1000]"),
     f"{NEW}election_timeouts": Set(lambda cases, program: elections.instants(cases, program, TicksElector, lambda case, number: OTHER_ATTEMPT)),
     f"{NEW}election_failover": Set(lambda cases, program: fitted_waits.election_failover(cases, program, SETTINGS), said="`waits` fitted"),
+    f"{NEW}election_two_release": Set(two_release, said=REREAD),
+    f"{NEW}election_two_release_long": Set(two_release, said=REREAD),
+    f"{NEW}election_emptied": Set(lambda cases, program: emptied_rounds.by_rules(cases, program, "reread"), said="`release` `reread`"),
+    f"{NEW}election_ends": Set(lambda cases, program: ends.election_ends(cases, program, SETTINGS, RELEASES_OF_0_36), said=REREAD),
 }
 WAITS = {"runs": [1000]}  # by which the second leader leads when it did there
 

@@ -2,6 +2,7 @@
 from .elections import premise_of
 from .fast_elections import SETTINGS
 from .tally import EXACT, differs, unnamed
+from .upstream_rules import NO_RELEASES
 
 CALL_TIMEOUT = 5_000
 EMPTIES = differs("emptied lease", "premise=yes here, and there the next leader's Lease is emptied, and a third one leads beside it")
@@ -16,6 +17,14 @@ def rounds_by_lease(cases):
 
 def election_emptied(cases, program):
     return [verdict_of(premise_of(lease, CALL_TIMEOUT, program, SETTINGS), found) for lease, found in rounds_by_lease(cases).items()]
+
+
+def by_rules(cases, program, release):
+    """A lease for which the first line says yes is long enough for every release to find the leader's own Lease."""
+    keys = {**SETTINGS, **NO_RELEASES, "release": release}
+    verdicts = {("yes", False): EXACT, ("no", True): EXACT}
+    judged = ((premise_of(lease, CALL_TIMEOUT, program, keys), any(it["emptied_ms"] >= 0 for it in found)) for lease, found in rounds_by_lease(cases).items())
+    return [verdicts.get(it, unnamed("a release that meets another's Lease and premise=yes, or none and premise=no")) for it in judged]
 
 
 def verdict_of(premise, rounds):

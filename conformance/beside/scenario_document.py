@@ -8,16 +8,18 @@ RETRY_SECONDS = 2
 AFTER_SECONDS = 0.15  # so long after the last renewal a fitted rival asks for the first time
 MOST_DELAY = 6000
 WOKEN_SECONDS = 0.1
+RELEASED_SECONDS = 1
 # Built with a time of day that is ahead, which no note tells.
 CLOCKS_AHEAD = (("en6", "kcm-a"),)
 AHEAD_MILLIS = 30_000
 
 
 class ScenarioDocument:
-    """With `is_fitted` both controllers have retry periods of their own, by which the rival takes over when the real one did."""
+    """With `is_fitted` both controllers have retry periods of their own, by which the rival takes over when the real one did. Where `releases`
+    says how leaders release, one that the log shows to release nothing after its signal has crashed: it had looked at the Lease before."""
 
-    def __init__(self, scenario, is_fitted):
-        self.scenario, self.millis = scenario, scenario.settings["beatMillis"]
+    def __init__(self, scenario, is_fitted, releases=False):
+        self.scenario, self.millis, self.releases = scenario, scenario.settings["beatMillis"], releases
         self.events, self.own = [], {}
         for note in scenario.notes:
             self.take(note)
@@ -51,10 +53,14 @@ class ScenarioDocument:
 
     def take_end(self, note):
         """A signal that an elector handles by a release is a stop. In a pause that does nothing, so it stands right after it."""
-        is_stop = note["sig"] == "SIGTERM" and self.scenario.is_releasing()
+        is_stop = note["sig"] == "SIGTERM" and self.scenario.is_releasing() and (not self.releases or self.is_released(note))
         woken = (it["at"] for it in self.scenario.signals("SIGCONT") if it["who"] == note["who"] and 0 < it["at"] - note["at"] < WOKEN_SECONDS)
         second = next((at + 2 * self.millis / 1000 for at in woken), note["at"]) if is_stop else note["at"]
         self.add(second, "stop" if is_stop else "crash", f"kcm-{note['who']}")
+
+    def is_released(self, note):
+        writes = (it for it in self.scenario.renewals() if it.user == f"kcm-{note['who']}" and not it.spec().get("holderIdentity"))
+        return any(0 <= it.received - self.scenario.base - note["at"] < RELEASED_SECONDS for it in writes)
 
     def take_server_stall(self, note):
         """What is sent while the API server stands still arrives when it goes on."""

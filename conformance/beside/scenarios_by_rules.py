@@ -8,15 +8,17 @@ import os
 from collections import defaultdict
 
 from . import plane
+from .acts import emptied
 from .alignment import aligned
 from .causes import Rule, fits, is_over
+from .held_looks import with_look
 from .plane import Pair, by_key, ends, foretold, is_pod_of_wave
 from .plane_tables import at, grouped_by
 from .recorded import TOP
 from .recorded_elections import user_of, with_elections
 from .scenario_document import ScenarioDocument, with_late_reply
 from .tables import table
-from .upstream_rules import RULES_OF_0_36, RULES_OF_1_20
+from .upstream_rules import RELEASES_OF_0_36, RULES_OF_0_36, RULES_OF_1_20
 
 NAMES = (*plane.NAMES, *plane.NEW_NAMES)
 # Looks at nodes come some ms later each time there: 5.002 to 5.010 s after each other in these logs.
@@ -48,12 +50,13 @@ WHY = [
 
 
 def document_of(scenario):
-    rules = RULES_OF_0_36 if scenario.is_elector() else {**RULES_OF_1_20, **BETWEEN_LOOKS}
+    releases = RELEASES_OF_0_36 if scenario.is_releasing() else {}
+    rules = {**RULES_OF_0_36, **releases} if scenario.is_elector() else {**RULES_OF_1_20, **BETWEEN_LOOKS}
     if scenario.name in EXAMPLES:
         with open(os.path.join(os.path.dirname(TOP), "examples", EXAMPLES[scenario.name], "document.json"), encoding="utf-8") as file:
             made = json.load(file)
         return dict(made, settings={**made["settings"], **rules})
-    made = ScenarioDocument(scenario, False).made()
+    made = ScenarioDocument(scenario, False, bool(releases)).made()
     return with_elections(dict(made, version=4, settings={**made["settings"], **rules}), scenario)
 
 
@@ -62,7 +65,8 @@ def by_rules(scenario, program):
     made = document_of(scenario)
     trace = program.replay(made)
     if scenario.of("proxy"):
-        trace = program.replay(with_late_reply(made, scenario, trace))
+        made = with_late_reply(made, scenario, trace)
+        trace = program.replay(with_look(made, scenario, program) if scenario.is_releasing() else made)
     millis = made["settings"]["beatMillis"]
     return [(beat * millis / 1000, actor if is_other(actor) else user_of(actor) + "_1", deed) for beat, actor, deed in trace]
 
@@ -115,7 +119,8 @@ class Compared:
         self.there = by_kind(observed)
         self.here = {rules: by_kind(events) for rules, events in told.items()}
         for rules, events in told.items():
-            self.there["end"], self.here[rules]["end"] = ends(scenario, events)
+            exits, self.here[rules]["end"] = ends(scenario, events)
+            self.there["end"] = sorted(exits + [it.until for it in emptied(scenario) if it.until is not None])
         if not self.there["end"]:
             for found in self.here.values():
                 found["end"] = []  # nobody waited for an exit

@@ -2,8 +2,12 @@
 from .program import Program
 
 RULES_OF_1_20 = {"rules": "1.20"}
-# Those of client-go 0.36 are the elections' own; how its leaders give their Lease back isn't among them.
+# Those of client-go 0.36 are the elections' own.
 RULES_OF_0_36 = {"retries": "ticks", "respect": "record"}
+# How a leader gives its Lease back where `ReleaseOnCancel` is on.
+RELEASES_OF_1_20 = {"release": "own", "inRelease": "acts"}
+RELEASES_OF_0_36 = {"release": "reread", "inRelease": "acts"}
+NO_RELEASES = {"release": "stop", "inRelease": "still"}
 
 
 class RuledProgram(Program):

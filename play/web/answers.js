@@ -39,7 +39,7 @@ export class Answers {
   leaders(answer, pinned) {
     const yes = isRuledOut(answer), two = twoLead(answer), then = pinned.trace === undefined ? null : isRuledOut(pinned);
     const tell = ruled => (ruled ? 'ruled out' : 'not ruled out');
-    const rest = yes ? 'premise=yes, whatever the network does; with ReleaseOnCancel it takes more' : 'premise=no: nothing is promised';
+    const rest = yes ? 'premise=yes, whatever the network does, with leaders that release as the settings say' : 'premise=no: nothing is promised';
     const parts = [then === null ? null : differs(tell(yes), tell(then), words => words)];
     if (two) parts.unshift(make('button', { type: 'button', className: 'loud', onclick: () => this.host.goToOverlap() }, 'two lead for ' + time(two) + ' here'));
     else if (two === 0 && !yes) parts.unshift(make('span', {}, 'not here: two lead for 0 s'));

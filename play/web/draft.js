@@ -2,7 +2,7 @@
 
 const VERSION_OF_TIMINGS = 2, VERSION_OF_PAUSES = 3, VERSION_OF_STALLS = 4, VERSION_OF_RULES = 4, LONG_NUMBER = /[0-9]{16}/;
 const RULES = ['rules', 'retries', 'respect', 'firstSyncMillis', 'probe', 'judge', 'firstSight', 'queue', 'bucket', 'evictFrom', 'evictBurst', 'evictRate',
-  'readyMillis', 'readyBurst'];
+  'release', 'inRelease', 'readyMillis', 'readyBurst'];
 const OWN_TIMINGS = ['leaseDurationSeconds', 'renewDeadlineMillis', 'retryPeriodMillis', 'callTimeoutMillis'];
 
 // Numbers that a double can't hold are kept as they are written.

@@ -35,13 +35,13 @@ const SECTIONS = [
 // Settings that are a word, by section and with how each is called.
 const CHOICES = [[1, 'ratePolicy', 'rate policy'], [2, 'rules', 'whose rules, all at once'], [2, 'retries', 'after a failed renewal'],
   [2, 'respect', 'whose lease duration'], [2, 'probe', 'silent by'], [2, 'judge', 'nodes are judged at each'], [2, 'firstSight', 'taints at first sight'], [2, 'queue', 'a queue has a node'],
-  [2, 'bucket', 'a bucket begins'], [2, 'evictFrom', 'tolerations count from']];
+  [2, 'bucket', 'a bucket begins'], [2, 'evictFrom', 'tolerations count from'], [2, 'release', 'a Lease is given back'], [2, 'inRelease', 'and meanwhile the leader']];
 const KUBERNETES = 'default of Kubernetes';
-// What is in Kubernetes 1.20, which are the defaults of a document with the rules of that name.
-const UPSTREAM = '1.20';
+// What is in Kubernetes 1.20, and in 1.36, which are the defaults of a document with the rules of that name.
 const IN_1_20 = { retries: 'grid', respect: 'own', firstSyncMillis: 700, probe: 'record', judge: 'pass', firstSight: 'strip', queue: 'again', bucket: 'full',
   evictFrom: 'seen', evictBurst: 30, evictRate: 20000, readyMillis: 100, readyBurst: 15 };
-const NOT_BUILT = ['1.36'];
+const IN_1_36 = { ...IN_1_20, retries: 'ticks', respect: 'record', evictBurst: 15, evictRate: 10000, release: 'reread', inRelease: 'acts', fastRenew: true };
+const PRESETS = { '1.20': IN_1_20, '1.36': IN_1_36 };
 
 export class Panel {
   // The host has `document`, `opened`, `known`, `preview(document, dial)`, `keep(words)`, `change(document, words)`, `showEvent(place)`.
@@ -89,7 +89,7 @@ export class Panel {
 
   // The default of a setting, by the rules of the document.
   usual(document, key) {
-    return document.settings.rules === UPSTREAM && key in IN_1_20 ? IN_1_20[key] : this.host.known.settings[key].default;
+    return (PRESETS[document.settings.rules] || {})[key] ?? this.host.known.settings[key].default;
   }
 
   // Upstream's defaults. How long a call waits has none of its own there: it is the renew deadline, in newer versions half of it.
@@ -111,9 +111,9 @@ export class Panel {
 
   // A list of words at the end of a section.
   choice(part, key, called) {
-    const { description, enum: all } = this.host.known.settings[key], words = all.filter(word => !NOT_BUILT.includes(word));
+    const { description, enum: all } = this.host.known.settings[key];
     const select = make('select', { onchange: event => this.host.change(withSetting(this.host.document, key, event.target.value), called) },
-      ...words.map(word => make('option', { value: word }, word)));
+      ...all.map(word => make('option', { value: word }, word)));
     part.append(make('label', { className: 'row', title: description }, called + ' ', select));
     return { key, select };
   }
@@ -185,7 +185,7 @@ export class Panel {
     const { document, isDragging } = this.host;
     if (!isDragging && document.objects !== this.objects) this.buildPods();
     for (const dial of this.dials) if (!(isDragging && dial === this.host.dragged)) dial.sync(document);
-    this.fast.checked = document.settings.fastRenew === true;
+    this.fast.checked = document.settings.fastRenew ?? this.usual(document, 'fastRenew');
     for (const { key, select } of this.choices) select.value = document.settings[key] || this.usual(document, key);
     this.events.show(document);
   }

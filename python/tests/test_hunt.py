@@ -92,6 +92,13 @@ def test_waits() -> None:
     assert paused['version'] == 4
 
 
+def test_settings() -> None:
+    bounds = read_bounds({'settings': [{'release': 'stop'}, {'release': 'own', 'inRelease': 'acts'}]}, DOCUMENT)
+    assert bounds.settings == ({'release': 'stop'}, {'release': 'own', 'inRelease': 'acts'})
+    added = document_of(Script({}, (), settings=bounds.settings[1]), DOCUMENT)
+    assert added['version'] == 4 and added['settings'] == {**DOCUMENT['settings'], 'release': 'own', 'inRelease': 'acts'}
+
+
 def test_pauses_of_one_process_keep_their_distance() -> None:
     def pause(beat: int, beats: int, process: str = 'a') -> dict[str, Any]:
         return {'beat': beat, 'type': 'pause', 'process': process, 'beats': beats}

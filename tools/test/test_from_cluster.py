@@ -315,11 +315,13 @@ def test_upstream_rules(program):
     same('short beats', [fine[key] for key in ('monitorPeriodMillis', 'gracePeriodMillis')], [5_002, 40_000])
     same('a grace that is no multiple', document('--node-monitor-grace-period=42s')['settings']['gracePeriodMillis'], 42_000)
     newer = document('--kubernetes=1.36')
-    same('1.36 by its keys', [newer['settings'].get(key) for key in ('rules', 'retries', 'respect', 'queue', 'evictBurst')], [None, 'ticks', 'record', 'again', 15])
-    same('its waits', {str(each['waits']) for each in newer['controllers']}, {'[1600]'})
-    has('what it lacks', make('--kubernetes=1.36').stderr, 'but for how a leader gives its Lease back')
-    same('the rules of another version', [document('--kubernetes=1.36', '--rules=1.20')['settings']['rules'], document('--rules=1.36')['settings']['retries']], ['1.20', 'ticks'])
-    for each in (made, newer):
+    keys = ('rules', 'release', 'inRelease')
+    same('1.36 without its gate', [newer['settings'].get(key) for key in keys], ['1.36', 'stop', 'still'])
+    releasing, older = document('--kubernetes=1.36', '--release-on-cancel'), document('--release-on-cancel')
+    same('and with it', [[each['settings'].get(key) for key in keys] for each in (releasing, older)], [['1.36', None, None], ['1.20', 'own', 'acts']])
+    has('by the own rules not', make('--rules=own', '--release-on-cancel').stderr, 'by --rules own leaders release at a stop alone')
+    same('the rules of another version', [document('--kubernetes=1.36', '--rules=1.20')['settings']['rules'], document('--rules=1.36')['settings']['rules']], ['1.20', '1.36'])
+    for each in (made, newer, releasing, older):
         same('taken', lines(program, 'check', each)[0][:27], 'ok controllers=3 kubelets=7')
     has('what is tainted already', make().stderr, 'worker-4 is tainted already', '--rules own counts from the taint')
     same('by the own rules not', 'tainted already' in make('--rules=own').stderr, False)

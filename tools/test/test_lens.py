@@ -16,6 +16,12 @@ import lens_frame
 
 DAY = 86400
 
+# by preset whose lease duration is respected, how a leader gives up its Lease, and whether it acts meanwhile
+PRESETS = {'own': ('record', 'stop', 'still'), '1.20': ('own', 'stop', 'still'), '1.36': ('record', 'reread', 'acts')}
+
+# the calls after its deadline by which a release may reach the store, or let its leader act
+CALLS = {('reread', 'still'): 1, ('own', 'acts'): 1, ('checked', 'acts'): 2, ('reread', 'acts'): 2}
+
 
 def timings(dice):
     """A lease, renew deadline, retry period and call timeout that go together, mostly not far from the premise's edge."""
@@ -32,13 +38,38 @@ def rate(dice):
     return dice.choice((1000000, 1000000, 500000, 2000000, 999999, 1000001, dice.randint(990000, 1010000), dice.randint(500000, 2000000)))
 
 
+def releases(dice):
+    """A rule of releases, and whether a leader acts in one."""
+    release = dice.choice(('stop', 'own', 'checked', 'reread', 'reread'))
+    return release, 'still' if release == 'stop' else dice.choice(('still', 'acts'))
+
+
+def rules(dice):
+    """Keys of version 4."""
+    found = {}
+    if dice.random() < 0.2:
+        found['rules'] = dice.choice(sorted(PRESETS))
+    if dice.random() < 0.5:
+        found['respect'] = dice.choice(('own', 'own', 'record'))
+    if dice.random() < 0.7:
+        found['release'], found['inRelease'] = releases(dice)
+    return found
+
+
+def event(dice, version, beat, names):
+    kind = dice.choice(('rate', 'rate', 'rate', 'crash', 'start', 'loss', 'delay', 'delay') + ('pause', 'pause') * (version > 2))
+    says = {'rate': {'ratePpm': rate(dice)}, 'loss': {'requests': dice.random() < 0.5, 'replies': dice.random() < 0.3},
+            'delay': {'requestBeats': dice.randint(1, 9), 'replyBeats': dice.choice((1, 2, 3, 3, 3, 4, 6000))}, 'pause': {'beats': dice.choice((1, 2, 3, 30))}}
+    return {'beat': beat, 'type': kind, 'process': dice.choice(names), **says.get(kind, {})}
+
+
 def document(dice):
     """A document that is mostly read."""
     end = dice.randint(0, 60)
     settings = {'endBeat': end, 'beatMillis': dice.choice((1, 7, 100, 1000, dice.randint(1, 1000)))}
-    version = dice.choice((2, 2, 4))
-    if version == 4 and dice.random() < 0.8:
-        settings['respect'] = dice.choice(('own', 'own', 'record'))
+    version = dice.choice((2, 2, 3, 4, 4, 4))
+    if version == 4:
+        settings.update(rules(dice))
     if dice.random() < 0.6:
         settings.update(timings(dice))
     controllers = []
@@ -53,10 +84,7 @@ def document(dice):
     names = [c['name'] for c in controllers] + ['kubelet/n1'] * len(kubelets)
     events = []
     for beat in sorted(dice.randint(0, end) for _ in range(dice.randint(0, 9))):
-        if dice.random() < 0.8:
-            events.append({'beat': beat, 'type': 'rate', 'process': dice.choice(names), 'ratePpm': rate(dice)})
-        else:
-            events.append({'beat': beat, 'type': dice.choice(('crash', 'start')), 'process': dice.choice(names)})
+        events.append(event(dice, version, beat, names))
     return {'version': version, 'settings': settings, 'controllers': controllers, 'kubelets': kubelets, 'events': events}
 
 
@@ -95,29 +123,53 @@ class Reference:
     def timing(self, place, key, default):
         return self.doc['controllers'][place].get(key, self.doc['settings'].get(key, default))
 
+    def rule(self, place, key):
+        preset = PRESETS[self.doc['settings'].get('rules', 'own')]
+        return self.doc['settings'].get(key, preset[place])
+
     def lease(self, place):
         """The seconds that others wait: the controller's lease, or the shortest of all where each goes by its own."""
         leases = [self.timing(each, 'leaseDurationSeconds', 15) for each in range(len(self.rates))]
-        return min(leases) if self.doc['settings'].get('respect') == 'own' else leases[place]
+        return min(leases) if self.rule(0, 'respect') == 'own' else leases[place]
 
-    def longest_pause(self, place):
-        """The beats of the longest pause that the document itself has for a controller; 0 is none."""
+    def calls(self):
+        return CALLS.get((self.rule(1, 'release'), self.rule(2, 'inRelease')), 0)
+
+    def pauses(self, place):
+        """The beats of the pauses that the document itself has for a controller."""
         name = self.doc['controllers'][place]['name']
-        return max((event['beats'] for event in self.doc.get('events', []) if event['type'] == 'pause' and event['process'] == name), default=0)
+        return [event['beats'] for event in self.doc.get('events', []) if event['type'] == 'pause' and event['process'] == name]
 
     def bound(self, place, more):
         """What the lease must be longer than, in milliseconds, with one more pause of so many beats; 0 is none."""
-        pause = max(more, self.longest_pause(place))
-        waits = sum(self.timing(place, key, default) for key, default in
-                    (('callTimeoutMillis', 2000), ('retryPeriodMillis', 2000), ('renewDeadlineMillis', 10000)))
-        stands = (pause + 1) * self.beat if pause else 0
+        timeout, retry, renew = (self.timing(place, key, default) for key, default in
+                                 (('callTimeoutMillis', 2000), ('retryPeriodMillis', 2000), ('renewDeadlineMillis', 10000)))
+        pauses = sorted(self.pauses(place) + [more] * (more > 0))[-2:] if self.calls() else [max([more, *self.pauses(place)])]
+        waits = timeout + retry + renew + min(self.calls() * timeout, renew)
+        stands = sum((pause + 1) * self.beat for pause in pauses if pause)
         return Fraction(waits * self.fastest, min(self.rates[place])) + Fraction(stands * self.fastest, 1000000)
+
+    def late(self):
+        """The place of the first event that loses a reply to a controller or delays it by more than 3 beats, where leaders act in their releases."""
+        names = [controller['name'] for controller in self.doc['controllers']]
+        if self.rule(2, 'inRelease') != 'acts':
+            return None
+        return next((place for place, event in enumerate(self.doc.get('events', [])) if event.get('process') in names
+                     and (event['type'] == 'loss' and event['replies'] or event['type'] == 'delay' and event['replyBeats'] > 3)), None)
+
+    def late_line(self):
+        if self.late() is None:
+            return []
+        found = self.doc['events'][self.late()]
+        name = found['process']
+        return [f"late-reply=/events/{self.late()} beat={found['beat']} controller={name}: no lease is enough, since {name} acts in its release"
+                ' until it has the answer']
 
     def line(self, place):
         lease = self.lease(place)
         bound = self.bound(place, 0)
         must = -(-bound.numerator // bound.denominator)
-        least = next((str(s) + 's' for s in self.near(bound) if s * 1000 > bound), 'none')
+        least = next((str(s) + 's' for s in self.near(bound) if s * 1000 > bound), 'none') if self.late() is None else 'none'
         stall = f'{self.beat * self.last(lambda n: lease * 1000 > self.bound(place, n))}ms' if lease * 1000 > bound else 'none'
         name = self.doc['controllers'][place]['name']
         return f'{name} lease={lease * 1000}ms must-exceed={must}ms slack={lease * 1000 - must}ms least-lease={least} longest-stall={stall}'
@@ -140,8 +192,8 @@ class Reference:
         return low
 
     def text(self):
-        safe = all(self.lease(p) * 1000 > self.bound(p, 0) for p in range(len(self.rates)))
-        lines = [self.line(place) for place in range(len(self.rates))]
+        safe = self.late() is None and all(self.lease(p) * 1000 > self.bound(p, 0) for p in range(len(self.rates)))
+        lines = [self.line(place) for place in range(len(self.rates))] + self.late_line()
         return '\n'.join(lines + ['safe' if safe else 'unsafe']) + '\n', safe
 
 

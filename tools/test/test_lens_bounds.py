@@ -32,6 +32,7 @@ class Calm:
     far: int
     slow: Fraction
     fast: Fraction
+    releases_by_stop: bool = True
 
     def enough(self, time):
         """So many beats are enough for a time on each clock."""
@@ -137,7 +138,7 @@ class Nodes:
     has_own_evictions: bool = True
 
     def are_marked(self, calm):
-        return self.are_posted and not self.has_work and 2 * calm.far * self.post[1] <= self.timeout
+        return calm.releases_by_stop and self.are_posted and not self.has_work and 2 * calm.far * self.post[1] <= self.timeout
 
     def are_tainted(self, calm):
         return self.are_marked(calm) and self.has_own_judgement and self.rate > 0
@@ -180,7 +181,7 @@ class Bounds:
 def all_stay(calm, everyone, by_own=False):
     """Whether each stays that may lead; `by_own` where each respects a record for its own lease's time alone."""
     shortest = min(one.lease for one in everyone)
-    return all(stays(calm, replace(one, lease=shortest) if by_own else one) for one in everyone)
+    return calm.releases_by_stop and all(stays(calm, replace(one, lease=shortest) if by_own else one) for one in everyone)
 
 
 def bounds_of(calm, everyone, place, is_fast=False, by_own=False):
@@ -188,7 +189,8 @@ def bounds_of(calm, everyone, place, is_fast=False, by_own=False):
     seen = lambda one: replace(leader, lease=one.lease) if by_own else leader
     leader, others = everyone[place], [one for at, one in enumerate(everyone) if at != place]
     millis = lambda beats: beats * calm.beat
-    are_answered, is_calm = all(replies_count(calm, one) for one in everyone), all_stay(calm, everyone, by_own)
+    are_answered = calm.releases_by_stop and all(replies_count(calm, one) for one in everyone)
+    is_calm = all_stay(calm, everyone, by_own)
     after, again = (others if is_calm else []), others or [leader]
     crashes, stops = [crash(calm, seen(one), one, is_fast) for one in after], [stop(calm, one) for one in after]
     widest = lambda pairs: (millis(min(least for least, _ in pairs)), millis(max(most for _, most in pairs))) if pairs else None
@@ -280,9 +282,15 @@ def controller_members(name, found):
 
 # Documents
 
+# the keys of version 4 that the bounds go by, as Kubernetes has them
+OF_1_20 = {'respect': 'own', 'probe': 'record', 'judge': 'pass', 'firstSight': 'strip', 'bucket': 'full', 'evictFrom': 'seen', 'evictBurst': 30, 'readyMillis': 100}
+PRESETS = {'own': {}, '1.20': OF_1_20, '1.36': {**OF_1_20, 'respect': 'record', 'release': 'reread', 'evictBurst': 15, 'fastRenew': True}}
+
+
 def seconds_of(doc, controller):
     value = {key: Fraction(controller.get(key, doc['settings'].get(key, default))) for key, default in DEFAULTS.items()}
-    waits = [wait for one in doc['controllers'] for wait in one.get('waits', [1000])]
+    usual = [1000 if doc['settings'].get('rules', 'own') == 'own' else 1600]
+    waits = [wait for one in doc['controllers'] for wait in one.get('waits', usual)]
     retry = value['retryPeriodMillis'] / 1000
     return Controller(controller['name'], value['leaseDurationSeconds'], value['renewDeadlineMillis'] / 1000, retry, value['callTimeoutMillis'] / 1000,
                       retry * max(waits) / 1000, retry * min(waits) / 1000)
@@ -314,12 +322,12 @@ def tolerations(doc):
 
 
 def told_of_document(doc):
-    settings, controllers, kubelets = doc['settings'], doc['controllers'], doc.get('kubelets', [])
+    settings, controllers, kubelets = {**PRESETS[doc['settings'].get('rules', 'own')], **doc['settings']}, doc['controllers'], doc.get('kubelets', [])
     beat = settings.get('beatMillis', 100)
     passes = lambda ppm: Fraction(beat * ppm, 1000 * 1000000)
     far, rates = of_processes(doc, controllers, [one['name'] for one in controllers])
     posted, posts = of_processes(doc, kubelets, ['kubelet/' + one['node'] for one in kubelets])
-    calm = Calm(beat, 1, far, passes(min(rates)), passes(max(rates)))
+    calm = Calm(beat, 1, far, passes(min(rates)), passes(max(rates)), settings.get('release', 'stop') == 'stop')
     everyone, by_own = [seconds_of(doc, one) for one in controllers], settings.get('respect') == 'own'
     of = lambda key, default: Fraction(settings.get(key, default))
     nodes = Nodes((passes(min(posts)), passes(max(posts))) if posts else (1, 1), of('callTimeoutMillis', 2000) / 1000,
@@ -330,10 +338,10 @@ def told_of_document(doc):
                   has_own_evictions=settings.get('evictFrom', 'added') == 'added' and settings.get('evictBurst', 0) == 0)
     margin = test_lens.Reference(doc)
     waited = lambda one: min(each.lease for each in everyone) if by_own else one.lease
-    safe = all(waited(one) * 1000 > margin.bound(place, 0) for place, one in enumerate(everyone))
+    safe = margin.late() is None and all(waited(one) * 1000 > margin.bound(place, 0) for place, one in enumerate(everyone))
     return Told(f'delay={beat}ms..{far * beat}ms',
                 [(one.name, bounds_of(calm, everyone, place, bool(settings.get('fastRenew', False)), by_own)) for place, one in enumerate(everyone)], nodes,
-                Calm(beat, 1, max(far, posted), calm.slow, calm.fast), tolerations(doc), all_stay(calm, everyone, by_own), safe,
+                replace(calm, far=max(far, posted)), tolerations(doc), all_stay(calm, everyone, by_own), safe,
                 [('beatMillis', beat), ('leastDelayMillis', beat), ('delayMillis', far * beat)])
 
 

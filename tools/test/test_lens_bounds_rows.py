@@ -114,6 +114,18 @@ UNBOUND = [({'readyMillis': 1}, ['node unknown none', 'node tainted ahead=0 none
             [line for line in LINES.splitlines() if line.startswith('pods ')]),
            ({'readyBurst': 15, 'evictRate': 0, 'evictFrom': 'added', 'evictBurst': 0}, NODES, [line for line in LINES.splitlines() if line.startswith('pods ')])]
 
+# Where leaders release their Leases otherwise than at stops alone nothing is told. A lease of 15 s isn't more than the 16 or 18 s that are asked for where a
+# release asks first.
+RELEASES = (({'release': 'stop', 'inRelease': 'still'}, None), ({'release': 'own'}, 'nobody-leads'), ({'release': 'checked'}, 'nobody-leads'),
+            ({'release': 'reread'}, 'leads'), ({'release': 'reread', 'inRelease': 'acts'}, 'leads'))
+
+
+def untold(word):
+    """The lines of a document of which nothing is told."""
+    leaders = [f'{name} {line}' for name in ('c1', 'c2', 'c3')
+               for line in (f'crash {word} none', f'stop {word} none', 'cut-off none', 'calm leads none stays-from none')]
+    return ['delay=100ms..100ms', *leaders, 'node unknown none', 'node tainted ahead=0 none', *NO_PODS, 'may-end']
+
 
 def answer(program, words, text=''):
     ran = subprocess.run([program, 'bounds', *words], input=text, stdout=subprocess.PIPE, text=True, check=False)
@@ -151,6 +163,10 @@ def main():
         found = answer(program, [], json.dumps({**DOCUMENT, 'version': 4, 'settings': {'endBeat': 100, **settings}}))
         lines = [line for line in LINES.splitlines() if not line.startswith(('node ', 'pods '))]
         if found != (0, '\n'.join(lines[:-1] + nodes + pods + lines[-1:]) + '\n'):
+            wrong.append((settings, found))
+    for settings, word in RELEASES:
+        found = answer(program, [], json.dumps({**DOCUMENT, 'version': 4, 'settings': {'endBeat': 100, **settings}}))
+        if found != ((0, LINES) if word is None else (1, '\n'.join(untold(word)) + '\n')):
             wrong.append((settings, found))
     print(f'{len(wrong)} differ', *wrong[:3], sep='\n')
     sys.exit(1 if wrong else 0)

@@ -94,13 +94,16 @@ def margin_wanted(doc, replay):
     if said.startswith('refused '):
         return said
     *lines, last = said.splitlines()
-    controllers = []
+    controllers, late = [], None
     for line in lines:
         name, *words = line.split()
+        if name.startswith('late-reply='):
+            late = [('event', int(name.split('/')[-1])), ('beat', int(words[0].split('=')[1])), ('name', words[1].split('=')[1].rstrip(':'))]
+            continue
         lease, must, slack, least, stall = (number_if(word.split('=')[1]) for word in words)
         controllers.append([('name', name), ('leaseMillis', lease), ('mustExceedMillis', must), ('slackMillis', slack), ('leastLeaseSeconds', least),
                             ('longestStallMillis', stall)])
-    return [[('controllers', controllers), ('safe', last == 'safe')]]
+    return [[('controllers', controllers), ('lateReply', late), ('safe', last == 'safe')]]
 
 
 class Flags:
@@ -110,6 +113,7 @@ class Flags:
         self.dice, self.timings = dice, test_lens.timings(dice)
         self.skew = dice.choice((0, 0, 1, 1000, 20000, 499999, 500000, dice.randint(0, 500000)))
         self.beat = dice.choice((1, 7, 100, 1000, dice.randint(1, 1000)))
+        self.release, self.acting = test_lens.releases(dice)
         self.is_given = self.timings['renewDeadlineMillis'] > 600000 or dice.random() < 0.6
         if not self.is_given:
             self.timings['callTimeoutMillis'] = self.timings['renewDeadlineMillis']
@@ -119,7 +123,7 @@ class Flags:
         times = [('lease', 'leader-elect-lease-duration', 'leaseDurationSeconds'), ('renew', 'leader-elect-renew-deadline', 'renewDeadlineMillis'),
                  ('retry', 'leader-elect-retry-period', 'retryPeriodMillis')] + [('timeout', 'timeout', 'callTimeoutMillis')] * self.is_given
         flags = [(self.dice.choice((own, other)), f'{self.timings[key]}{"s" if own == "lease" else "ms"}') for own, other, key in times]
-        flags += [('skew', f'{self.skew}ppm'), ('beat', f'{self.beat}ms')]
+        flags += [('skew', f'{self.skew}ppm'), ('beat', f'{self.beat}ms'), ('release', self.release), ('in-release', self.acting)]
         self.dice.shuffle(flags)
         groups = [[f'--{name}={value}'] if self.dice.random() < 0.5 else [f'--{name}', value] for name, value in flags]
         groups.insert(self.dice.randint(0, len(groups)), ['--json'])
@@ -127,16 +131,18 @@ class Flags:
 
     def at(self, skew):
         """The reference for the document of these settings and a skew: the slowest controller, and the fastest."""
-        return test_lens.Reference({'settings': {'endBeat': 0, 'beatMillis': self.beat, **self.timings},
-                                    'controllers': [{'name': 'slow', 'ratePpm': 1000000 - skew}, {'name': 'fast', 'ratePpm': 1000000 + skew}]})
+        return test_lens.Reference({'settings': {'endBeat': 0, 'beatMillis': self.beat, 'release': self.release, 'inRelease': self.acting, **self.timings},
+                                    'controllers': [{'name': 'slow', 'ratePpm': 1000000 - skew}, {'name': 'fast', 'ratePpm': 1000000 + skew}],
+                                    'events': [{'beat': 0, 'type': 'loss', 'process': 'slow', 'requests': False, 'replies': True}]})
 
     def is_safe(self, skew):
-        return skew < 1000000 and self.timings['leaseDurationSeconds'] * 1000 > max(self.at(skew).bound(place, 0) for place in (0, 1))
+        return self.acting == 'still' and skew < 1000000 and self.timings['leaseDurationSeconds'] * 1000 > max(self.at(skew).bound(place, 0) for place in (0, 1))
 
     def wanted(self):
         lease, must, slack, least, stall = (number_if(word.split('=')[1]) for word in self.at(self.skew).line(0).split()[1:])
         greatest = test_lens.Reference.last(self.is_safe) if self.is_safe(0) else None
         return [[('timeoutMillis', self.timings['callTimeoutMillis']), ('timeoutIsRenewDeadline', not self.is_given), ('skewPpm', self.skew),
+                 ('release', self.release), ('inRelease', self.acting),
                  ('leaseMillis', lease), ('mustExceedMillis', must), ('slackMillis', slack), ('leastLeaseSeconds', least), ('longestStallMillis', stall),
                  ('greatestSkewPpm', greatest), ('safe', self.is_safe(self.skew))]]
 

@@ -1,16 +1,18 @@
 -- The reading from which each part of a turn but for the tick adds something; it is read from the history alone.
 -- Source: profile; for the elector client-go, package `leaderelection`, for a kubelet's rounds KEP-589.
-use Rattle.std.specs.Prelude.{◌≡◌, ◌↔◌, ℕ, ◌+◌, nat_lt, min, Bool, true, false, List, Option, Some, None}
+use Rattle.std.specs.Prelude.{◌≡◌, ◌↔◌, ℕ, ◌+◌, nat_lt, min, not, Bool, true, false, List, Option, Some, None}
+use Rattle.kube_objects.specs.declared.rules.ReleaseRule.{ReleaseRule}
+use Rattle.kube_objects.specs.declared.rules.ReleaseRule.TheVariants.{Stop}
 use Rattle.kube_objects.specs.Clocks.{local}
-use Rattle.kube_objects.specs.Document.{Doc, call_timeout, restart_delay}
+use Rattle.kube_objects.specs.Document.{Doc, call_timeout, renew_deadline, restart_delay}
 use Rattle.kube_objects.specs.Elector.{deadline, timer}
 use Rattle.kube_objects.specs.Entry.{Entry, Identity, Call}
 use Rattle.kube_objects.specs.Identities.{identity}
 use Rattle.kube_objects.specs.Kubelet.{has_round, round_timer, is_post_call}
-use Rattle.kube_objects.specs.Process.{alive, call_in, ended}
+use Rattle.kube_objects.specs.Newest.{only_if}
+use Rattle.kube_objects.specs.Process.{alive, call_in, ended, is_releasing, release_begun}
 use Rattle.kube_objects.specs.Turns.{just_expired, is_fast_call}
 use Rattle.history.specs.Steps.{restart, expire, finish, attempts, elector_turn, rounds, kubelet_turn}
-use Rattle.kube_objects.specs.Own.{IsOwn}
 
 -- whether a reading, a time of day or a beat is before another; None is never reached
 abbrev pub is_early : ℕ → Option ℕ → Bool
@@ -47,24 +49,36 @@ RestartsWake = (doc : Doc) (k p : ℕ) (h : List Entry) → restart doc k p h �
 
 -- ---- an expiry
 
--- the least reading at which a call that waits has expired
+-- the reading at which the release is over that a call is of
+abbrev pub release_at : Doc → Identity → Option ℕ → Option ℕ
+release_at doc q None = None
+release_at doc q (Some begun) = Some (local doc q.process begun + renew_deadline doc q.process)
+
+-- the least reading at which a call that waits has expired, or its release is over
 abbrev pub late_at : Doc → Identity → Option Call → Option ℕ
 late_at doc q None = None
-late_at doc q (Some call) = Some (local doc q.process call.sent + call_timeout doc q.process + 1)
+late_at doc q (Some call) =
+    sooner (release_at doc q (release_begun doc.settings.rules.release call.kind))
+    (Some (local doc q.process call.sent + call_timeout doc q.process + 1))
 
 abbrev pub expiry_at : Doc → ℕ → List Entry → Option ℕ
 expiry_at doc p h = if_up p (λ q. late_at doc q (call_in q h)) (alive p h)
 
 abbrev pub ExpiriesWake : Type 0
-ExpiriesWake = (doc : Doc) → IsOwn doc → (k p : ℕ) (h : List Entry) → expire doc k p h ≡ h ↔ is_early (local doc p k) (expiry_at doc p h) ≡ true
+ExpiriesWake = (doc : Doc) → (k p : ℕ) (h : List Entry) → expire doc k p h ≡ h ↔ is_early (local doc p k) (expiry_at doc p h) ≡ true
 
 -- ---- the end of a term
 
+-- not while its release runs
+abbrev pub ends_at : ReleaseRule → (releasing : Bool) → Option ℕ → Option ℕ
+ends_at Stop releasing at = at
+ends_at _ releasing at = only_if (not releasing) at
+
 abbrev pub deadline_at : Doc → ℕ → List Entry → Option ℕ
-deadline_at doc p h = if_up p (λ q. deadline doc q h) (alive p h)
+deadline_at doc p h = if_up p (λ q. ends_at doc.settings.rules.release (is_releasing q h) (deadline doc q h)) (alive p h)
 
 abbrev pub DeadlinesWake : Type 0
-DeadlinesWake = (doc : Doc) → IsOwn doc → (k p : ℕ) (h : List Entry) → finish doc k p h ≡ h ↔ is_early (local doc p k) (deadline_at doc p h) ≡ true
+DeadlinesWake = (doc : Doc) → (k p : ℕ) (h : List Entry) → finish doc k p h ≡ h ↔ is_early (local doc p k) (deadline_at doc p h) ≡ true
 
 -- ---- an attempt
 
@@ -93,7 +107,7 @@ elector_reading doc p h = sooner (restart_at doc p h) (sooner (expiry_at doc p h
 
 abbrev pub ElectorsWake : Type 0
 ElectorsWake =
-    (doc : Doc) → IsOwn doc → (k p : ℕ) (h : List Entry) → LostNoUpdate k p h
+    (doc : Doc) → (k p : ℕ) (h : List Entry) → LostNoUpdate k p h
     → elector_turn doc k p h ≡ h ↔ is_early (local doc p k) (elector_reading doc p h) ≡ true
 
 -- ---- a kubelet's round
@@ -122,5 +136,5 @@ kubelet_reading doc p h = sooner (expiry_at doc p h) (round_at doc p h)
 
 abbrev pub KubeletsWake : Type 0
 KubeletsWake =
-    (doc : Doc) → IsOwn doc → (k p : ℕ) (h : List Entry) → LostNoPost k p h
+    (doc : Doc) → (k p : ℕ) (h : List Entry) → LostNoPost k p h
     → kubelet_turn doc k p h ≡ h ↔ is_early (local doc p k) (kubelet_reading doc p h) ≡ true

@@ -1,5 +1,5 @@
-//! When a beat adds an entry to the history: laws of every document, kubelets and a leader's ticks included; when a turn waits, of those that go
-//! by the project's own rules in all that nothing runs yet. Each is the contract of a function with an empty body.
+//! When a beat adds an entry to the history: laws of every document, kubelets, a leader's ticks and its releases included. Each is the contract
+//! of a function with an empty body.
 #![tactic(auto)]
 
 ghost use Rattle.agenda_laws.specs.Ahead.{NoTurnsAreFirst, TurnsAreAdded, TheSoonestIsNext};

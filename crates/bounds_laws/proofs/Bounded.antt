@@ -8,6 +8,7 @@ use Rattle.kube_objects.specs.declared.rules.RespectRule.TheVariants.{Record, Ow
 use Rattle.kube_objects.specs.declared.script.Proc.{Proc}
 use Rattle.kube_objects.specs.Document.{Doc, end_beat, field, process_at, is_controller, of_millis, of_seconds, call_timeout, retry_period, renew_deadline}
 use Rattle.kube_objects.specs.Entry.{Identity}
+use Rattle.kube_objects.specs.Own.{ReleasesByStop}
 use Rattle.kube_objects.specs.Pauses.{is_paused}
 use Rattle.history.specs.History.{history}
 use Rattle.history.specs.Safe.{Acts}
@@ -37,13 +38,13 @@ use Rattle.script_reader.specs.Lawful.{IsLawfulDoc}
 use Rattle.lens_bounds.specs.declared.calm.Calm.{Calm}
 use Rattle.lens_bounds.specs.declared.elections.Handover.{Handover}
 use Rattle.lens_bounds.specs.Documents.{calm_of}
-use Rattle.lens_bounds.specs.Elections.{enough, wait, least_wait, retry, gets, acts_on, own_term, longest_term, longest_lease, as_respected, shortest_lease, handed_over, others, followers, replies_count, renews, outlasts, stays_by, lead, stay}
+use Rattle.lens_bounds.specs.Elections.{enough, wait, least_wait, retry, gets, acts_on, own_term, longest_term, longest_lease, as_respected, shortest_lease, handed_over, others, followers, replies_count, renews, outlasts, stays_by, all_count, lead, all_stay, stay}
 use Rattle.bounds_laws.specs.Undisturbed.{far_of, LeadsUndisturbed, IsOther, GivesUp, IsWell, MayFollow, LeadsWell, StaysWell}
 use Rattle.bounds_laws.specs.Elections.{CrashesAreBounded, StopsAreBounded, ActsAreBounded, LeadsAreBounded, StaysAreBounded}
 use Rattle.bounds_laws.proofs.Reaching.{Standing, at_place}
 use Rattle.bounds_laws.proofs.Steady.{steady, undisturbed, runs_least, runs_most, some_far, reply_within}
 use Rattle.bounds_laws.proofs.Waiting.{blocked_is, wait_is, least_is}
-use Rattle.bounds_laws.proofs.Settings.{some_slow, some_fast, period_some, waits, in_time, counts_of, all_renew, bears, others_renew, others_renew_around}
+use Rattle.bounds_laws.proofs.Settings.{some_slow, some_fast, rules_where_leads, rules_where_stays, period_some, waits, in_time, counts_of, all_renew, bears, others_renew, others_renew_around}
 use Rattle.bounds_laws.proofs.Replies.{replies_come, released}
 use Rattle.bounds_laws.proofs.Folding.{IsWithin, other_within, alone, term_within, lease_within}
 use Rattle.bounds_laws.proofs.Telling.{crash_is, stop_is, acts_on_is, leads_is, stays_from_is, millis_most, millis_least, enough_beats}
@@ -88,23 +89,26 @@ same_replies c Record seconds x = refl
 same_replies c Own seconds x = refl
 
 -- where whoever leads stays, replies count
-each_replies : (c : Calm) (least : ℕ) (ps : List Proc) → list_all (λ p. stays_by c (as_respected c.respect least p)) ps ≡ true → lead c ps ≡ true
+each_replies : (c : Calm) (least : ℕ) (ps : List Proc) → list_all (λ p. stays_by c (as_respected c.respect least p)) ps ≡ true → list_all (replies_count c) ps ≡ true
 each_replies c least [] stays = refl
 each_replies c least (p ∷ ps) stays =
     let x : Proc = as_respected c.respect least p in
     let one : stays_by c x ≡ true = and_left (stays_by c x) (list_all (λ p. stays_by c (as_respected c.respect least p)) ps) stays in
     let more : list_all (λ p. stays_by c (as_respected c.respect least p)) ps ≡ true = and_right (stays_by c x) (list_all (λ p. stays_by c (as_respected c.respect least p)) ps) stays in
-    and_both (replies_count c p) (lead c ps)
+    and_both (replies_count c p) (list_all (replies_count c) ps)
     (sym (same_replies c c.respect least p) ∙ and_left (replies_count c x) (renews c x) (and_left (replies_count c x && renews c x) (outlasts c x) one)) (each_replies c least ps more)
 
 leads_where_stays : (doc : Doc) → stay (calm_of doc) doc.controllers ≡ true → lead (calm_of doc) doc.controllers ≡ true
-leads_where_stays doc = each_replies (calm_of doc) (shortest_lease doc.controllers) doc.controllers
+leads_where_stays doc is =
+    and_both (calm_of doc).releases_by_stop (all_count (calm_of doc) doc.controllers)
+    (and_left (calm_of doc).releases_by_stop (all_stay (calm_of doc) doc.controllers) is)
+    (each_replies (calm_of doc) (shortest_lease doc.controllers) doc.controllers (and_right (calm_of doc).releases_by_stop (all_stay (calm_of doc) doc.controllers) is))
 
 -- by a later beat
 followed_later : (doc : Doc) (b m n e : ℕ) (q : Identity) → m ≤ n → IsFollowed doc b m e q → IsFollowed doc b n e q
 followed_later doc b m n e q le f = record { c = f.c; other = f.other; j = f.j; to = omega (arith, f.to, le); success = f.success; stays = f.stays }
 
-module _ (doc : Doc) (lawful : IsLawfulDoc doc) where
+module _ (doc : Doc) (lawful : IsLawfulDoc doc) (rules : ReleasesByStop doc) where
   some_beat : 1 ≤ doc.settings.beat_millis
   some_beat = lawful.settings.beat_least
 
@@ -117,8 +121,8 @@ module _ (doc : Doc) (lawful : IsLawfulDoc doc) where
     leads_until : LeadsUntil doc 1 far b e q
     leads_until = record {
       role = l.role;
-      steady = steady doc lawful q.process l.role 0 (b - 1) l.own;
-      others = λ p role other. steady doc lawful p role 0 e (l.others p role other);
+      steady = steady doc lawful q.process l.role rules 0 (b - 1) l.own;
+      others = λ p role other. steady doc lawful p role rules 0 e (l.others p role other);
       goes = l.goes;
       within = l.within;
       long = l.long;
@@ -134,11 +138,11 @@ module _ (doc : Doc) (lawful : IsLawfulDoc doc) where
         lasting = div_ceil (retry_period doc q.process + renew_deadline doc q.process) (calm_of doc).slow
 
         hears : Hears doc far b e q.process
-        hears = record { replies = λ k from to. (reply_within doc lawful q.process l.role (suc k) (with_events doc k) (events_position doc k)).1; awake = awake }
+        hears = record { replies = λ k from to. (reply_within doc lawful q.process l.role rules (suc k) (with_events doc k) (events_position doc k)).1; awake = awake }
 
         on : k + 2 ≤ b + 2 * far + lasting
         on =
-            leaders_act_on doc 1 far b e q (sound-document doc lawful) (omega arith) (some_far doc lawful q.process l.role) l.end (period_some doc lawful q.process l.role) leads_until quiet hears (calm_of doc).slow lasting (runs_least doc lawful q.process l.role b e)
+            leaders_act_on doc 1 far b e q (sound-document doc lawful) rules (omega arith) (some_far doc lawful q.process l.role) l.end (period_some doc lawful q.process l.role) leads_until quiet hears (calm_of doc).slow lasting (runs_least doc lawful q.process l.role b e)
             (rounded_is (calm_of doc).slow (retry_period doc q.process + renew_deadline doc q.process) (some_slow doc lawful)).0 k to acting
 
         same : lasting ≡ div_ceil (of_millis (own_term leader)) (calm_of doc).slow
@@ -226,7 +230,7 @@ module _ (doc : Doc) (lawful : IsLawfulDoc doc) where
         crash_by : (p n : ℕ) → IsOther doc b q p → b ≤ n → h.crash_most ≤ n - b → n ≤ e → IsFollowed doc b n e q
         crash_by p n o from le to =
             followed_later doc b (b + most + wait (calm_of doc) x + last_ways doc far) n e q by_n
-            (successors_lead doc 1 far b e q leads_until bearing quiet (replies_come doc lawful q.process l.role b b (omega arith) l.awake) (others_renew doc lawful stays b e q)
+            (successors_lead doc 1 far b e q leads_until bearing quiet (replies_come doc lawful rules q.process l.role b b (omega arith) l.awake) (others_renew doc lawful stays b e q)
             p (calm_of doc).slow (calm_of doc).fast (wait (calm_of doc) x) (least_wait (calm_of doc) x) (rival p o) (wait_is doc lawful p o.role (some_slow doc lawful)) (least_is doc lawful p o.role (some_fast doc lawful))
             lasting most (rounded_is (calm_of doc).slow (blocked_for doc p q.process) (some_slow doc lawful)).0 ((bounds_are_exact (least_wait (calm_of doc) x + 2 * 1) (wait (calm_of doc) x + 2 * far) lasting).0 (omega arith)).1 (omega (arith, by_n, to)))
           where
@@ -256,12 +260,12 @@ module _ (doc : Doc) (lawful : IsLawfulDoc doc) where
 
       module _ (stop : IsStopped doc b e q) (gives : GivesUp doc b e q) (h : Handover) (h_is : others (calm_of doc) q.process leader doc.controllers ≡ Some h) where
         stop_before : (k : ℕ) → IsLead doc b e q k → 4 ≤ k - b
-        stop_before k is = omega (arith, releases_last doc 1 far b e q leads_until bearing stop (released doc lawful b e q l.role l.goes gives) k is)
+        stop_before k is = omega (arith, releases_last doc 1 far b e q leads_until bearing stop (released doc lawful rules b e q l.role l.goes gives) k is)
 
         stop_by : (p n : ℕ) → IsOther doc b q p → b ≤ n → h.stop_most ≤ n - b → n ≤ e → IsFollowed doc b n e q
         stop_by p n o from le to =
             followed_later doc b (b + wait (calm_of doc) (at_place doc p o.role).proc + (6 * far - 1)) n e q by_n
-            (releases_are_followed doc 1 far b e q leads_until bearing stop (released doc lawful b e q l.role l.goes gives) (replies_come doc lawful q.process l.role (suc b) b (omega arith) l.awake)
+            (releases_are_followed doc 1 far b e q leads_until bearing stop (released doc lawful rules b e q l.role l.goes gives) (replies_come doc lawful rules q.process l.role (suc b) b (omega arith) l.awake)
             (others_renew_around doc lawful stays b e q) p (calm_of doc).slow (calm_of doc).fast (wait (calm_of doc) (at_place doc p o.role).proc) (rival p o) (wait_is doc lawful p o.role (some_slow doc lawful)) (omega (arith, by_n, to)))
           where
             by_n : b + wait (calm_of doc) (at_place doc p o.role).proc + (6 * far - 1) ≤ n
@@ -275,7 +279,7 @@ module _ (doc : Doc) (lawful : IsLawfulDoc doc) where
 
     calm_span : IsCalm doc 1 (far_of doc) a e
     calm_span = record {
-      each = λ p role. ⊎_elim (λ s. inl (steady doc lawful p role a e s)) (λ quiet. inr quiet) (w.each p role);
+      each = λ p role. ⊎_elim (λ s. inl (steady doc lawful p role rules a e s)) (λ quiet. inr quiet) (w.each p role);
       requests = w.requests;
       replies = w.replies;
     }
@@ -290,7 +294,7 @@ module _ (doc : Doc) (lawful : IsLawfulDoc doc) where
       candidate : IsCandidate doc 1 (far_of doc) a e p later (calm_of doc).slow (calm_of doc).fast
       candidate = record {
         role = f.role;
-        steady = steady doc lawful p f.role a e f.undisturbed;
+        steady = steady doc lawful p f.role rules a e f.undisturbed;
         waits = waits doc lawful p f.role;
         up = f.up;
         runs_least = runs_least doc lawful p f.role (a - 1) e;
@@ -378,7 +382,7 @@ module _ (doc : Doc) (lawful : IsLawfulDoc doc) where
 
         s : SomebodyActs doc 1 (far_of doc) a e (a + first + most_for p 0 f time + 4 * far_of doc)
         s =
-            takeovers_are_bounded doc 1 (far_of doc) a e (sound-document doc lawful) calm_span in_time_all (omega arith) (some_far doc lawful p f.role) end p 0 (calm_of doc).slow (calm_of doc).fast
+            takeovers_are_bounded doc 1 (far_of doc) a e (sound-document doc lawful) rules calm_span in_time_all (omega arith) (some_far doc lawful p f.role) end p 0 (calm_of doc).slow (calm_of doc).fast
             (lost p 0 f) (wait (calm_of doc) x) (least_wait (calm_of doc) x) (candidate p 0 f) (beats p 0 f) first (omega arith) (omega arith) (omega arith)
             time (div_ceil time (calm_of doc).slow) (most_for p 0 f time) lasts (rounded_is (calm_of doc).slow time (some_slow doc lawful)).0 (greatest_for p 0 f time) (omega (arith, by_n, to))
 
@@ -428,7 +432,7 @@ module _ (doc : Doc) (lawful : IsLawfulDoc doc) where
 
           s : IsSettled doc 1 (far_of doc) a e (a + first + most_for p old f time + 4 * far_of doc)
           s =
-              calm_spans_settle doc 1 (far_of doc) a e (sound-document doc lawful) calm_span in_time_all (omega arith) (some_far doc lawful p f.role) end (λ r role steady. all_renew doc lawful stays a e r role)
+              calm_spans_settle doc 1 (far_of doc) a e (sound-document doc lawful) rules calm_span in_time_all (omega arith) (some_far doc lawful p f.role) end (λ r role steady. all_renew doc lawful stays a e r role)
               old (λ r role steady. ends_by r role) p old (calm_of doc).slow (calm_of doc).fast (lost p old f) (wait (calm_of doc) x) (least_wait (calm_of doc) x) (candidate p old f) (beats p old f) (omega arith)
               first (omega arith) (omega arith) (omega arith) time (div_ceil time (calm_of doc).slow) (most_for p old f time) lasts all_last (rounded_is (calm_of doc).slow time (some_slow doc lawful)).0 (greatest_for p old f time)
               (omega (arith, by_n, to))
@@ -438,28 +442,29 @@ module _ (doc : Doc) (lawful : IsLawfulDoc doc) where
 pub crashes_are_bounded : CrashesAreBounded
 crashes_are_bounded doc lawful b e q leader leader_is l quiet s told =
     let t = crash_is doc q.process leader s told in (
-      λ k is. millis_least doc t.h.crash_least s.least (k - b) t.least_is (crash_before doc lawful b e q leader leader_is l t.holds quiet t.h t.found_is k is),
-      λ p n o from le to. crash_by doc lawful b e q leader leader_is l t.holds quiet t.h t.found_is p n o from (enough_beats doc t.h.crash_most s.most (n - b) lawful.settings.beat_least t.most_is le) to,
+      λ k is. millis_least doc t.h.crash_least s.least (k - b) t.least_is (crash_before doc lawful (rules_where_stays doc t.holds) b e q leader leader_is l t.holds quiet t.h t.found_is k is),
+      λ p n o from le to. crash_by doc lawful (rules_where_stays doc t.holds) b e q leader leader_is l t.holds quiet t.h t.found_is p n o from (enough_beats doc t.h.crash_most s.most (n - b) lawful.settings.beat_least t.most_is le) to,
     )
 
 pub stops_are_bounded : StopsAreBounded
 stops_are_bounded doc lawful b e q leader leader_is l stop gives s told =
     let t = stop_is doc q.process leader s told in (
-      λ k is. millis_least doc 4 s.least (k - b) t.least_is (stop_before doc lawful b e q leader leader_is l t.holds stop gives t.h t.found_is k is),
-      λ p n o from le to. stop_by doc lawful b e q leader leader_is l t.holds stop gives t.h t.found_is p n o from (enough_beats doc t.h.stop_most s.most (n - b) lawful.settings.beat_least t.most_is le) to,
+      λ k is. millis_least doc 4 s.least (k - b) t.least_is (stop_before doc lawful (rules_where_stays doc t.holds) b e q leader leader_is l t.holds stop gives t.h t.found_is k is),
+      λ p n o from le to. stop_by doc lawful (rules_where_stays doc t.holds) b e q leader leader_is l t.holds stop gives t.h t.found_is p n o from (enough_beats doc t.h.stop_most s.most (n - b) lawful.settings.beat_least t.most_is le) to,
     )
 
 pub acts_are_bounded : ActsAreBounded
 acts_are_bounded doc lawful b e q leader leader_is l quiet awake time told k from to acting =
-    millis_most doc (acts_on (calm_of doc) (own_term leader)) time (k + 1 - b) (acts_on_is doc q.process leader time told).1 (acts_for doc lawful b e q leader leader_is l quiet awake k from to acting)
+    let t = acts_on_is doc q.process leader time told in
+    millis_most doc (acts_on (calm_of doc) (own_term leader)) time (k + 1 - b) t.1 (acts_for doc lawful (rules_where_leads doc t.0) b e q leader leader_is l quiet awake k from to acting)
 
 pub leads_are_bounded : LeadsAreBounded
 leads_are_bounded doc lawful a e w end place leader role leader_is time told p n f lasts from le to =
     let t = leads_is doc place leader time told in
-    leads_by doc lawful a e w end place leader role leader_is t.0 p n f from (enough_beats doc (followers (calm_of doc) leader doc.controllers (others (calm_of doc) place leader doc.controllers)).leads time (n - a) lawful.settings.beat_least t.1 le) to lasts
+    leads_by doc lawful (rules_where_leads doc t.0) a e w end place leader role leader_is t.0 p n f from (enough_beats doc (followers (calm_of doc) leader doc.controllers (others (calm_of doc) place leader doc.controllers)).leads time (n - a) lawful.settings.beat_least t.1 le) to lasts
 
 pub stays_are_bounded : StaysAreBounded
 stays_are_bounded doc lawful a e w end place leader role leader_is time told p n f lasts from le to =
     let t = stays_from_is doc place leader time told in
-    stays_by_beat doc lawful a e w end place leader role leader_is (leads_where_stays doc t.0) t.0 p n f from
+    stays_by_beat doc lawful (rules_where_stays doc t.0) a e w end place leader role leader_is (leads_where_stays doc t.0) t.0 p n f from
     (enough_beats doc (followers (calm_of doc) leader doc.controllers (others (calm_of doc) place leader doc.controllers)).stays_from time (n - a) lawful.settings.beat_least t.1 le) to lasts

@@ -8,6 +8,7 @@ use Rattle.kube_objects.specs.Document.{Doc, is_controller}
 use Rattle.kube_objects.specs.Entry.{Entry, Identity, Fact, First, Event, Starts, Stops, Sends, Answers, Delivers, Expires, Leads, Ends, Crashes, Stalls, Ticks, entry, StepsDown, ReleaseBegins, ReleaseEnds, ReleaseStops}
 use Rattle.kube_objects.specs.Identities.{of_process}
 use Rattle.kube_objects.specs.Newest.{when, has, or_else}
+use Rattle.kube_objects.specs.Own.{ReleasesByStop}
 use Rattle.kube_objects.specs.Pauses.{pause_end, is_paused, resume, held_up}
 use Rattle.kube_objects.specs.Wire.{back_of, arrival, request_arrival, reply_arrival, request_delay, reply_delay, loses_requests, loses_replies}
 use Rattle.kube_objects.specs.Stalls.{is_stalled, awake, at_store}
@@ -23,7 +24,6 @@ use Rattle.call_laws.proofs.Placing.{messages_travel}
 use Rattle.takeover_laws.proofs.Rounds.{sent_is}
 use Rattle.silence_laws.specs.Silence.{IsReleased}
 use Rattle.succession_laws.specs.Successions.{RepliesCome}
-use Rattle.document_laws.proofs.SoundDocuments.{sound-document}
 use Rattle.script_reader.specs.Lawful.{IsLawfulDoc}
 use Rattle.bounds_laws.specs.Undisturbed.{far_of, GivesUp}
 use Rattle.bounds_laws.proofs.Steady.{request_within, reply_within}
@@ -36,10 +36,10 @@ comes_then doc p k awake = by_end (pause_end doc p k) awake
     by_end None awake = refl
     by_end (Some j) awake = absurd (true_is awake)
 
-module _ (doc : Doc) (lawful : IsLawfulDoc doc) (p : ℕ) (role : is_controller doc p ≡ true) (m last : ℕ) (upto : m ≤ suc last) (awake : (k : ℕ) → k ≤ last + far_of doc → is_paused doc p k ≡ false) where
+module _ (doc : Doc) (lawful : IsLawfulDoc doc) (rules : ReleasesByStop doc) (p : ℕ) (role : is_controller doc p ≡ true) (m last : ℕ) (upto : m ≤ suc last) (awake : (k : ℕ) → k ≤ last + far_of doc → is_paused doc p k ≡ false) where
   module _ (k : ℕ) (early : k < m) (h : List Entry) (at : IsTail h (history doc m)) where
     way : (1 ≤ reply_delay p h) × (reply_delay p h ≤ far_of doc)
-    way = reply_within doc lawful p role m h at
+    way = reply_within doc lawful p role rules m h at
 
     by_loss : (lost : Bool) → IfSome (held_up doc p (arrival lost k (reply_delay p h))) (λ n. n < m + far_of doc)
     by_loss true = tt
@@ -103,7 +103,7 @@ module _ (doc : Doc) (lawful : IsLawfulDoc doc) (p : ℕ) (role : is_controller 
       low = tail_trans place.before (x ∷ place.before) (history doc m) (inr (tail_all place.before)) place.position
 
       travels : IfSome (back_of x.actor x.fact) (λ b. b.comes ≡ reply_arrival doc b.who.process x.beat place.before)
-      travels = (messages_travel doc (sound-document doc lawful).2 m x place.before place.position).1
+      travels = (messages_travel doc rules m x place.before place.position).1
 
       none_at : {A : Type 0} (o : Option A) (P : A → Type 0) → has o ≡ false → IfSome o P
       none_at None P is = tt
@@ -112,12 +112,12 @@ module _ (doc : Doc) (lawful : IsLawfulDoc doc) (p : ℕ) (role : is_controller 
       first : (x.beat ≡ 0) × (x.step ≡ 0) → IfSome (back_of x.actor x.fact) (λ b. IfSome b.comes (λ n. n < m + far_of doc))
       first is =
           none_at (back_of x.actor x.fact) (λ b. IfSome b.comes (λ n. n < m + far_of doc))
-          (no_answer x.actor x.fact x.beat x.step place.before (are_made doc (sound-document doc lawful).2 m x place.before place.position) is)
+          (no_answer x.actor x.fact x.beat x.step place.before (are_made doc rules m x place.before place.position) is)
 
 -- a release that arrives travels as the document's delays have it
-pub released : (doc : Doc) → IsLawfulDoc doc → (b e : ℕ) (q : Identity) → is_controller doc q.process ≡ true → ((k : ℕ) → k ≤ e → is_stalled doc k ≡ false) → GivesUp doc b e q
+pub released : (doc : Doc) → IsLawfulDoc doc → ReleasesByStop doc → (b e : ℕ) (q : Identity) → is_controller doc q.process ≡ true → ((k : ℕ) → k ≤ e → is_stalled doc k ≡ false) → GivesUp doc b e q
     → IsReleased doc 1 (far_of doc) b e q
-released doc lawful b e q role goes g = record {
+released doc lawful rules b e q role goes g = record {
   call = g.call;
   at = g.at;
   kind = g.kind;
@@ -140,12 +140,12 @@ released doc lawful b e q role goes g = record {
     low = tail_trans place.before (x ∷ place.before) (history doc (suc b)) (inr (tail_all place.before)) place.position
 
     way : (1 ≤ request_delay q.process place.before) × (request_delay q.process place.before ≤ far_of doc)
-    way = request_within doc lawful q.process role (suc b) place.before low
+    way = request_within doc lawful q.process role rules (suc b) place.before low
 
     arrives : Some g.at ≡ at_store doc (arrival (loses_requests q.process place.before) b (request_delay q.process place.before))
     arrives =
         (subst (λ o. IfSome o (λ s. (s.call.sent ≡ b) × (s.arrives ≡ request_arrival doc s.who.process b place.before))) (sent_is x q g.call (Some g.at) refl refl)
-        (messages_travel doc (sound-document doc lawful).2 (suc b) x place.before place.position).0).1
+        (messages_travel doc rules (suc b) x place.before place.position).0).1
 
     at_by : g.at ≤ e
     at_by =

@@ -1,15 +1,20 @@
 -- What a document's settings bear, where whoever leads stays.
-use Rattle.std.proofs.Common.{◌≡◌, ◌<◌, ◌≤◌, ℕ, zero, suc, ◌+◌, ◌-◌, ◌*◌, ◌&&◌, Bool, true, List, [], ◌∷◌, All, slice_get, Some, sym, ap, ◌∙◌, subst, arith}
+use Rattle.std.proofs.Common.{◌≡◌, ◌<◌, ◌≤◌, ℕ, zero, suc, ◌+◌, ◌-◌, ◌*◌, ◌&&◌, Bool, true, List, [], ◌∷◌, All, slice_get, Some, refl, sym, ap, ◌∙◌, subst, arith}
 use Rattle.std.specs.Int.{div_ceil}
 use Rattle.std.specs.List.{list_all}
 use Rattle.std.proofs.lemmas.Bool.{leb-true, ltb-true}
 use Rattle.std.proofs.lemmas.List.Elements.{All-head, All-tail}
+use Rattle.kube_objects.specs.declared.rules.ReleaseActing.{ReleaseActing}
+use Rattle.kube_objects.specs.declared.rules.ReleaseActing.TheVariants as acting
+use Rattle.kube_objects.specs.declared.rules.ReleaseRule.{ReleaseRule}
+use Rattle.kube_objects.specs.declared.rules.ReleaseRule.TheVariants as releases
 use Rattle.kube_objects.specs.declared.rules.RespectRule.{RespectRule}
 use Rattle.kube_objects.specs.declared.rules.RespectRule.TheVariants.{Record, Own}
 use Rattle.kube_objects.specs.declared.script.Proc.{Proc}
 use Rattle.kube_objects.specs.Document.{Doc, end_beat, field, is_controller, of_millis, of_seconds, retry_period, renew_deadline}
 use Rattle.kube_objects.specs.Entry.{Identity}
-use Rattle.history_laws.proofs.Plainly.{some_is, none_is, and_left, and_right}
+use Rattle.kube_objects.specs.Own.{ReleasesByStop}
+use Rattle.history_laws.proofs.Plainly.{true_is, some_is, none_is, and_left, and_right}
 use Rattle.span_laws.proofs.Quotients.{rounded_is}
 use Rattle.takeover_laws.specs.Calm.{IsInTime}
 use Rattle.takeover_laws.specs.Waits.{longest_wait, blocked_for}
@@ -20,8 +25,8 @@ use Rattle.release_laws.specs.Releases.{OthersRenewAround}
 use Rattle.document_laws.proofs.SoundDocuments.{sound-document}
 use Rattle.script_reader.specs.Lawful.{IsLawful, IsLawfulDoc}
 use Rattle.lens_bounds.specs.declared.calm.Calm.{Calm}
-use Rattle.lens_bounds.specs.Documents.{calm_of}
-use Rattle.lens_bounds.specs.Elections.{IsCalm, retry, replies_count, renews, outlasts, stays_by, as_respected, shortest_lease, lead, stay}
+use Rattle.lens_bounds.specs.Documents.{is_stop, is_still, calm_of}
+use Rattle.lens_bounds.specs.Elections.{IsCalm, retry, replies_count, renews, outlasts, stays_by, as_respected, shortest_lease, all_count, lead, all_stay, stay}
 use Rattle.lens_bounds.proofs.Reaches.{calm-is}
 use Rattle.bounds_laws.specs.Undisturbed.{far_of}
 use Rattle.bounds_laws.proofs.Reaching.{Standing, at_place}
@@ -33,6 +38,29 @@ each_of : (f : Proc → Bool) (ps : List Proc) (i : ℕ) (x : Proc) → list_all
 each_of f [] i x all is = absurd (none_is x is)
 each_of f (p ∷ ps) zero x all is = ap f (sym (some_is p x is)) ∙ and_left (f p) (list_all f ps) all
 each_of f (p ∷ ps) (suc i) x all is = each_of f ps i x (and_right (f p) (list_all f ps) all) is
+
+-- the numbers are there where leaders give up their Leases at stops alone
+stop_is : (rule : ReleaseRule) → is_stop rule ≡ true → rule ≡ releases.Stop
+stop_is releases.Stop is = refl
+stop_is releases.Own is = absurd (true_is (sym is))
+stop_is releases.Checked is = absurd (true_is (sym is))
+stop_is releases.Reread is = absurd (true_is (sym is))
+
+still_is : (rule : ReleaseActing) → is_still rule ≡ true → rule ≡ acting.Still
+still_is acting.Still is = refl
+still_is acting.Acts is = absurd (true_is (sym is))
+
+rules_of : (doc : Doc) → (calm_of doc).releases_by_stop ≡ true → ReleasesByStop doc
+rules_of doc is = record {
+  release = stop_is doc.settings.rules.release (and_left (is_stop doc.settings.rules.release) (is_still doc.settings.rules.in_release) is);
+  still = still_is doc.settings.rules.in_release (and_right (is_stop doc.settings.rules.release) (is_still doc.settings.rules.in_release) is);
+}
+
+pub rules_where_leads : (doc : Doc) → lead (calm_of doc) doc.controllers ≡ true → ReleasesByStop doc
+rules_where_leads doc is = rules_of doc (and_left (calm_of doc).releases_by_stop (all_count (calm_of doc) doc.controllers) is)
+
+pub rules_where_stays : (doc : Doc) → stay (calm_of doc) doc.controllers ≡ true → ReleasesByStop doc
+rules_where_stays doc is = rules_of doc (and_left (calm_of doc).releases_by_stop (all_stay (calm_of doc) doc.controllers) is)
 
 each_lawful : (ps : List Proc) (i : ℕ) (x : Proc) → All IsLawful ps → slice_get ps i ≡ Some x → IsLawful x
 each_lawful [] i x all is = absurd (none_is x is)
@@ -163,11 +191,15 @@ module _ (doc : Doc) (lawful : IsLawfulDoc doc) where
   -- ---- of all controllers
 
   pub counts_of : lead (calm_of doc) doc.controllers ≡ true → (p : ℕ) (role : is_controller doc p ≡ true) → replies_count (calm_of doc) (x p role) ≡ true
-  counts_of is p role = each_of (replies_count (calm_of doc)) doc.controllers p (x p role) is (place p role).own
+  counts_of is p role =
+      each_of (replies_count (calm_of doc)) doc.controllers p (x p role)
+      (and_right (calm_of doc).releases_by_stop (all_count (calm_of doc) doc.controllers) is) (place p role).own
 
   module _ (is : stay (calm_of doc) doc.controllers ≡ true) where
     pub stays_of : (p : ℕ) (role : is_controller doc p ≡ true) → stays_by (calm_of doc) (as_respected (calm_of doc).respect (shortest_lease doc.controllers) (x p role)) ≡ true
-    stays_of p role = each_of (λ p. stays_by (calm_of doc) (as_respected (calm_of doc).respect (shortest_lease doc.controllers) p)) doc.controllers p (x p role) is (place p role).own
+    stays_of p role =
+        each_of (λ p. stays_by (calm_of doc) (as_respected (calm_of doc).respect (shortest_lease doc.controllers) p)) doc.controllers p (x p role)
+        (and_right (calm_of doc).releases_by_stop (all_stay (calm_of doc) doc.controllers) is) (place p role).own
 
     pub all_in_time : (a e p : ℕ) → is_controller doc p ≡ true → IsInTime doc (far_of doc) a e p
     all_in_time a e p role = in_time p role (replies p role (stays_of p role)) a e
@@ -178,6 +210,7 @@ module _ (doc : Doc) (lawful : IsLawfulDoc doc) where
     abbrev pub bears : (b e : ℕ) → e ≤ end_beat doc → (q : Identity) → is_controller doc q.process ≡ true → Bears doc 1 (far_of doc) b e q
     bears b e end q role = record {
       sound = sound-document doc lawful;
+      rules = rules_where_stays doc is;
       one = omega arith;
       ways = some_far doc lawful q.process role;
       end = end;

@@ -9,7 +9,7 @@ use Rattle.kube_objects.specs.Document.{Doc, beat_micros, is_controller}
 use Rattle.kube_objects.specs.Entry.{Entry, Fact, First, Event as Happens, Starts, Stops, Sends, Answers, Delivers, Expires, Leads, Ends, Crashes, Stalls, Ticks, StepsDown, ReleaseBegins, ReleaseEnds, ReleaseStops}
 use Rattle.kube_objects.specs.Newest.{when, or_else}
 use Rattle.kube_objects.specs.Wire.{of_event, in_force, request_delay_of, reply_delay_of, request_delay, reply_delay}
-use Rattle.kube_objects.specs.Own.{IsOwn}
+use Rattle.kube_objects.specs.Own.{ReleasesByStop}
 use Rattle.history.specs.History.{history}
 use Rattle.history.specs.Steps.{stamp}
 use Rattle.history_laws.specs.Tails.{IsTail}
@@ -21,7 +21,6 @@ use Rattle.call_laws.specs.Answering.{with_events}
 use Rattle.call_laws.proofs.Answering.{events_position}
 use Rattle.call_laws.proofs.Making.{MadeAs, are_made}
 use Rattle.takeover_laws.specs.Calm.{Passes, IsSteady}
-use Rattle.document_laws.proofs.SoundDocuments.{sound-document}
 use Rattle.script_reader.specs.Lawful.{IsLawfulDoc, IsLawfulWhat, AreLawfulFrom}
 use Rattle.lens_bounds.specs.Documents.{reach_of, calm_of}
 use Rattle.lens_bounds.proofs.Reaches.{reach-some}
@@ -30,7 +29,7 @@ use Rattle.bounds_laws.proofs.Reaching.{Has, event_within, rate_within}
 
 -- ---- what is in force is what an event of the script says
 
-module _ (doc : Doc) (rules : IsOwn doc) (f : What → Option ℕ) (P : ℕ → Type 0) (each : (k : ℕ) (u : What) → Scripted doc k u → IfSome (f (stamp doc k u)) P) where
+module _ (doc : Doc) (rules : ReleasesByStop doc) (f : What → Option ℕ) (P : ℕ → Type 0) (each : (k : ℕ) (u : What) → Scripted doc k u → IfSome (f (stamp doc k u)) P) where
   by_fact : (k step : ℕ) (who : Actor) (d : Fact) (h : List Entry) → MadeAs doc k step who d h → IfSome (of_event f d) P
   by_fact k step who (Happens w version) h made = subst (λ w. IfSome (f w) P) (sym made.3) (each k made.1 made.2)
   by_fact k step who (First key object) h made = tt
@@ -114,30 +113,6 @@ module _ (doc : Doc) (lawful : IsLawfulDoc doc) (p : ℕ) (role : is_controller 
   or_one None x = (omega arith, some_far)
   or_one (Some n) x = x
 
-  pub request_within : (m : ℕ) (h : List Entry) → IsTail h (history doc m) → IsWithinReach doc (request_delay p h)
-  request_within m h at = or_one (in_force (request_delay_of p) h) (in_force_is doc (sound-document doc lawful).2 (request_delay_of p) (IsWithinReach doc) requests m h at)
-
-  pub reply_within : (m : ℕ) (h : List Entry) → IsTail h (history doc m) → IsWithinReach doc (reply_delay p h)
-  reply_within m h at = or_one (in_force (reply_delay_of p) h) (in_force_is doc (sound-document doc lawful).2 (reply_delay_of p) (IsWithinReach doc) replies m h at)
-
-  passes : (k : ℕ) → IsHeard doc p k → Passes doc 1 (far_of doc) p k
-  passes k s =
-      let ask = request_within (suc k) (with_events doc k) (events_position doc k) in
-      let back = reply_within (suc k) (with_events doc k) (events_position doc k) in
-      record {
-        requests = s.requests;
-        replies = s.replies;
-        request_least = ask.0;
-        request_most = ask.1;
-        reply_least = back.0;
-        reply_most = back.1;
-        awake = s.awake;
-        goes = s.goes;
-      }
-
-  pub steady : (a e : ℕ) → IsUndisturbed doc a e p → IsSteady doc 1 (far_of doc) a e p
-  steady a e s = record { passes = λ k from to. passes k (s.heard k from to); crashes = s.crashes; stops = s.stops; ends = s.ends }
-
   -- ---- clocks
 
   pub runs_least : (a e : ℕ) → RunsAtLeast doc p a e (calm_of doc).slow
@@ -145,6 +120,33 @@ module _ (doc : Doc) (lawful : IsLawfulDoc doc) (p : ℕ) (role : is_controller 
 
   pub runs_most : (a e : ℕ) → RunsAtMost doc p a e (calm_of doc).fast
   runs_most a e j from to = mul-le-mul_left (beat_micros doc) (rate_within doc p role j).greatest
+
+  -- ---- messages
+
+  module _ (rules : ReleasesByStop doc) where
+    pub request_within : (m : ℕ) (h : List Entry) → IsTail h (history doc m) → IsWithinReach doc (request_delay p h)
+    request_within m h at = or_one (in_force (request_delay_of p) h) (in_force_is doc rules (request_delay_of p) (IsWithinReach doc) requests m h at)
+
+    pub reply_within : (m : ℕ) (h : List Entry) → IsTail h (history doc m) → IsWithinReach doc (reply_delay p h)
+    reply_within m h at = or_one (in_force (reply_delay_of p) h) (in_force_is doc rules (reply_delay_of p) (IsWithinReach doc) replies m h at)
+
+    passes : (k : ℕ) → IsHeard doc p k → Passes doc 1 (far_of doc) p k
+    passes k s =
+        let ask = request_within (suc k) (with_events doc k) (events_position doc k) in
+        let back = reply_within (suc k) (with_events doc k) (events_position doc k) in
+        record {
+          requests = s.requests;
+          replies = s.replies;
+          request_least = ask.0;
+          request_most = ask.1;
+          reply_least = back.0;
+          reply_most = back.1;
+          awake = s.awake;
+          goes = s.goes;
+        }
+
+    pub steady : (a e : ℕ) → IsUndisturbed doc a e p → IsSteady doc 1 (far_of doc) a e p
+    steady a e s = record { passes = λ k from to. passes k (s.heard k from to); crashes = s.crashes; stops = s.stops; ends = s.ends }
 
 pub undisturbed : (doc : Doc) (a e p : ℕ) → IsSteady doc 1 (far_of doc) a e p → IsUndisturbed doc a e p
 undisturbed doc a e p s = record {

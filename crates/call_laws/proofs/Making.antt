@@ -19,7 +19,7 @@ use Rattle.kube_objects.specs.Process.{alive, starts, call_in, last_call, counte
 use Rattle.kube_objects.specs.Stamps.{stamped}
 use Rattle.kube_objects.specs.Stored.{election, node_lease}
 use Rattle.kube_objects.specs.Wire.{Sent, Back, next_call, request_arrival, reply_arrival, send}
-use Rattle.kube_objects.specs.Own.{IsOwn}
+use Rattle.kube_objects.specs.Own.{ReleasesByStop}
 use Rattle.history.specs.History.{put_all, history}
 use Rattle.history.specs.Steps.{stamp, event_version}
 use Rattle.history_laws.specs.Tails.{IsTail}
@@ -172,21 +172,21 @@ made_keeps doc = record {
   starts = λ k step p h s. made_more doc _ h (p, refl) s;
   crashes = λ k p i h up s. made_more doc _ h refl s;
   stalls = λ k id beats i h scripted up s. made_more doc _ h tt s;
-  stops = λ k id i h scripted up s. made_more doc _ h refl s;
-  releases = λ k id i before request scripted up awake is was s.
+  stops = λ k id i h scripted up free s. made_more doc _ h refl s;
+  releases = λ k id i before request scripted up awake is stop was s.
       sends doc k 1 (record { process = id.0; incarnation = i }) Release request (stopped_at k id i before) (inl refl) (λ role. inl (record { kind_is = refl; before = _; is = refl })) (λ role three. absurd (omega (arith, three))) s;
   answers = λ k x h at s. made_more doc _ h (record { step_is = refl; s = x; by = refl; arriving = at; call_is = refl; reply_is = refl; comes_is = refl; written_is = refl }) s;
   ignores = λ k b h coming is s. made_more doc _ h tt s;
-  counts = λ k b waiting h coming is s. made_more doc _ h (record { step_is = refl; b = b; by = refl; coming = coming; reply_is = refl; counted_is = is }) s;
-  follows = λ k b waiting h request coming is role follows was s.
+  counts = λ k b waiting h coming is of s. made_more doc _ h (record { step_is = refl; b = b; by = refl; coming = coming; reply_is = refl; counted_is = is }) s;
+  follows = λ k b waiting h request coming is role of follows was s.
       sends doc k 3 b.who Plain request (after_reply k b waiting h) (inr (inl refl)) (λ role. inr ((counted_is doc b.who k b.call.number h waiting is).up, replied k b waiting h, omega arith, λ call. refl)) (λ role three. record { waiting = waiting; reply = b.reply; before = h; is = refl; follows = follows }) s;
-  leads = λ k b waiting h version coming is role follows was s. made_more doc _ (after_reply k b waiting h) tt s;
+  leads = λ k b waiting h version coming is role of follows was s. made_more doc _ (after_reply k b waiting h) tt s;
   asks = λ k b waiting h request coming is role asked was s.
       sends doc k 3 b.who Plain request (after_reply k b waiting h) (inr (inl refl)) (λ role. inr ((counted_is doc b.who k b.call.number h waiting is).up, replied k b waiting h, omega arith, λ call. refl)) (other_role doc b.who.process (3 ≡ 3 → Replied doc k b.who request (after_reply k b waiting h)) role) s;
   turns = record {
     restarts = λ k p h s. made_more doc _ h (p, refl) s;
-    expires = λ k p i call h up waits late s. made_more doc _ h (record { q = record { process = p; incarnation = i }; by = refl; up = up; waits = waits; late = late }) s;
-    ends = λ k p i at h role up is before s. made_more doc _ h (record { step_is = refl; q = record { process = p; incarnation = i }; by = refl; up = up; at = at; deadline_is = is; late = before }) s;
+    expires = λ k p i call h up waits late of s. made_more doc _ h (record { q = record { process = p; incarnation = i }; by = refl; up = up; waits = waits; late = late }) s;
+    ends = λ k p i at h role up is before stop s. made_more doc _ h (record { step_is = refl; q = record { process = p; incarnation = i }; by = refl; up = up; at = at; deadline_is = is; late = before }) s;
     polls = λ k p i h role up awake waits s. sends doc k 4 (record { process = p; incarnation = i }) Plain (Get election) h (inr (inr refl)) (λ role. inr (up, waits, omega arith, λ call. refl)) (λ role three. absurd (omega (arith, three))) s;
     attempts = λ k p i h role up awake waits s.
         let q : Identity = record { process = p; incarnation = i } in
@@ -206,6 +206,6 @@ puts_made doc (x ∷ xs) h s =
     let e = script_entry 0 0 (First x.0 (stamped (whole_second (store_wall doc 0)) x.1)) in
     puts_made doc xs (e ∷ h) (made_more doc e h refl s)
 
-pub are_made : (doc : Doc) → IsOwn doc → (k : ℕ) (x : Entry) (before : List Entry) → IsTail (x ∷ before) (history doc k) → IsMade doc x before
+pub are_made : (doc : Doc) → ReleasesByStop doc → (k : ℕ) (x : Entry) (before : List Entry) → IsTail (x ∷ before) (history doc k) → IsMade doc x before
 are_made doc own k =
-    walk_history doc (λ k step h. AreMade doc h) (made_keeps doc) (no_release doc (λ k step h. AreMade doc h) (ap (λ r. r.release) own.rules)) (puts_made doc doc.objects [] (λ x before at. absurd (tail_of_empty x before at))) k
+    walk_history doc (λ k step h. AreMade doc h) (made_keeps doc) (no_release doc (λ k step h. AreMade doc h) own.release) (puts_made doc doc.objects [] (λ x before at. absurd (tail_of_empty x before at))) k

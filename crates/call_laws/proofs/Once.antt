@@ -9,7 +9,7 @@ use Rattle.kube_objects.specs.InFlight.{is_due, and_request, requests_due}
 use Rattle.kube_objects.specs.Newest.{count, added}
 use Rattle.kube_objects.specs.Process.{begun, is_send}
 use Rattle.kube_objects.specs.Wire.{Sent, Back, sent_of, back_of, sent_as, back_as}
-use Rattle.kube_objects.specs.Own.{IsOwn}
+use Rattle.kube_objects.specs.Own.{ReleasesByStop}
 use Rattle.history.specs.History.{history}
 use Rattle.history.specs.Steps.{answer_all, answered}
 use Rattle.history_laws.specs.Tails.{IsTail}
@@ -189,7 +189,7 @@ asker_as doc k e g x who (ReleaseBegins at_deadline) actor fact made is = absurd
 asker_as doc k e g x who ReleaseEnds actor fact made is = absurd (none_is x is)
 asker_as doc k e g x who ReleaseStops actor fact made is = absurd (none_is x is)
 
-asker : (doc : Doc) → IsOwn doc → (k : ℕ) (e : Entry) (g : List Entry) (x : Back) → IsTail (e ∷ g) (history doc k) → back_of e.actor e.fact ≡ Some x → Asker doc k e g x
+asker : (doc : Doc) → ReleasesByStop doc → (k : ℕ) (e : Entry) (g : List Entry) (x : Back) → IsTail (e ∷ g) (history doc k) → back_of e.actor e.fact ≡ Some x → Asker doc k e g x
 asker doc own k e g x at is = asker_as doc k e g x e.actor e.fact refl refl (are_made doc own k e g at) is
 
 -- ---- answers of one beat

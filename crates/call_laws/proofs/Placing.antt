@@ -7,7 +7,7 @@ use Rattle.kube_objects.specs.Document.{Doc, processes}
 use Rattle.kube_objects.specs.Identities.{identity_of}
 use Rattle.kube_objects.specs.Entry.{Entry, Identity, Call, actor_of, Fact, First, Event as Happens, Starts, Stops, Sends, Answers, Delivers, Expires, Leads, Ends, Crashes, Stalls, Ticks, StepsDown, ReleaseBegins, ReleaseEnds, ReleaseStops}
 use Rattle.kube_objects.specs.Wire.{of_event, in_force, request_arrival, reply_arrival, sent_as, sent_of, back_as, back_of}
-use Rattle.kube_objects.specs.Own.{IsOwn}
+use Rattle.kube_objects.specs.Own.{ReleasesByStop}
 use Rattle.history.specs.History.{history, three_steps}
 use Rattle.history.specs.Steps.{step_three}
 use Rattle.history_laws.specs.Order.{IsWithin}
@@ -191,14 +191,14 @@ no_event doc k step who (ReleaseBegins at_deadline) h f made late = refl
 no_event doc k step who ReleaseEnds h f made late = refl
 no_event doc k step who ReleaseStops h f made late = refl
 
-force_stays : {A : Type 0} (doc : Doc) → IsOwn doc → (k m : ℕ) (f : What → Option A) (g h : List Entry) → IsTail h (history doc m) → Above (IsLate k 2) g h → in_force f h ≡ in_force f g
+force_stays : {A : Type 0} (doc : Doc) → ReleasesByStop doc → (k m : ℕ) (f : What → Option A) (g h : List Entry) → IsTail h (history doc m) → Above (IsLate k 2) g h → in_force f h ≡ in_force f g
 force_stays doc own k m f g [] at above = ap (in_force f) (sym above)
 force_stays doc own k m f g (e ∷ h) at (inl is) = ap (in_force f) (sym is)
 force_stays doc own k m f g (e ∷ h) at (inr above) =
     ap (λ o. upper o (in_force f h)) (no_event doc e.beat e.step e.actor e.fact h f (are_made doc own m e h at) above.0.1)
     ∙ force_stays doc own k m f g h (tail_trans h (e ∷ h) (history doc m) (inr (tail_all h)) at) above.1
 
-stands_at : {A : Type 0} (doc : Doc) → IsOwn doc → (m : ℕ) (e : Entry) (before : List Entry) → IsTail (e ∷ before) (history doc m) → 2 ≤ e.step → (f : What → Option A) → in_force f before ≡ in_force f (with_events doc e.beat)
+stands_at : {A : Type 0} (doc : Doc) → ReleasesByStop doc → (m : ℕ) (e : Entry) (before : List Entry) → IsTail (e ∷ before) (history doc m) → 2 ≤ e.step → (f : What → Option A) → in_force f before ≡ in_force f (with_events doc e.beat)
 stands_at doc own m e before at step f =
     force_stays doc own e.beat m f (with_events doc e.beat) before (tail_trans before (e ∷ before) (history doc m) (inr (tail_all before)) at) (above_events doc m e before at step)
 

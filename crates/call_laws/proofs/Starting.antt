@@ -23,7 +23,7 @@ use Rattle.kube_objects.specs.Process.{born, alive, life, starts, is_start, coun
 use Rattle.kube_objects.specs.Stamps.{stamped}
 use Rattle.kube_objects.specs.Turns.{react}
 use Rattle.kube_objects.specs.Wire.{Sent, Back}
-use Rattle.kube_objects.specs.Own.{IsOwn}
+use Rattle.kube_objects.specs.Own.{ReleasesByStop}
 use Rattle.kube_objects.proofs.Own.{release_begun-own}
 use Rattle.history.specs.History.{put_all, history}
 use Rattle.history.specs.Steps.{start, start_first, starts_below, first_starts, start_if_down, crash, stall, released, stop, effect, stamp, event_version, happens, happen_all, answer_all, answered, deliver_all, deliver_as, delivered, react_as, step_one, step_two, step_three, turns, stop_as, elector_react}
@@ -51,7 +51,7 @@ SendsDue doc x h = x.step ≡ 4 → (q : Identity) → x.actor ≡ actor_of q �
 -- ---- one walk through a beat that tells where a process is down as it starts, and when requests of turns are due
 
 -- under the project's own rules
-module _ (doc : Doc) (own : IsOwn doc) (P : List Entry → Type 0) (begins : (k step p : ℕ) (h : List Entry) → alive p h ≡ None → P h → P (start k step p h))
+module _ (doc : Doc) (own : ReleasesByStop doc) (P : List Entry → Type 0) (begins : (k step p : ℕ) (h : List Entry) → alive p h ≡ None → P h → P (start k step p h))
     (more : (x : Entry) (h : List Entry) → is_start x.fact ≡ false → SendsDue doc x h → P h → P (x ∷ h)) where
   sooner : (x : Entry) (h : List Entry) → is_start x.fact ≡ false → x.step ≤ 3 → P h → P (x ∷ h)
   sooner x h none early s = more x h none (λ four q by. absurd (omega (arith, four, early))) s
@@ -76,7 +76,7 @@ module _ (doc : Doc) (own : IsOwn doc) (P : List Entry → Type 0) (begins : (k 
   by_stop k p None before h s = s
   by_stop k p (Some i) before h s =
       let q = identity p i in
-      subst (λ r. P (stop_as r doc k q before h)) (sym (ap (λ r. r.release) own.rules)) (by_release k q (release doc q k before) (entry k 1 q Stops ∷ h) (sooner _ h refl (omega arith) s))
+      subst (λ r. P (stop_as r doc k q before h)) (sym own.release) (by_release k q (release doc q k before) (entry k 1 q Stops ∷ h) (sooner _ h refl (omega arith) s))
 
   by_effect : (k : ℕ) (w : What) (before : List Entry) → P (script_entry k 1 (Happens (stamp doc k w) (event_version w before)) ∷ before)
       → P (effect doc k w before (script_entry k 1 (Happens (stamp doc k w) (event_version w before)) ∷ before))
@@ -226,7 +226,7 @@ puts_due doc (x ∷ xs) h s =
     let e = script_entry 0 0 (First x.0 (stamped (whole_second (store_wall doc 0)) x.1)) in
     puts_due doc xs (e ∷ h) (due_more doc e h (λ four q by. tt) s)
 
-pub sends_are_due : (doc : Doc) → IsOwn doc → (k : ℕ) (x : Entry) (before : List Entry) → IsTail (x ∷ before) (history doc k) → SendsDue doc x before
+pub sends_are_due : (doc : Doc) → ReleasesByStop doc → (k : ℕ) (x : Entry) (before : List Entry) → IsTail (x ∷ before) (history doc k) → SendsDue doc x before
 sends_are_due doc own zero = puts_due doc doc.objects [] (λ x before at. absurd (tail_of_empty x before at))
 sends_are_due doc own (suc k) =
     by_beat doc own (Due doc) (λ k step p h down s. due_more doc _ h (λ four q by. tt) s) (λ x h none due s. due_more doc x h due s) k (history doc k)

@@ -1,5 +1,5 @@
 -- A process's turn adds entries of its own alone, and a start only where it is down.
-use Rattle.kube_objects.specs.Own.{IsOwn}
+use Rattle.kube_objects.specs.Own.{ReleasesByStop}
 use Rattle.kube_objects.proofs.Own.{expire_as-own, end_term-own}
 use Rattle.history.proofs.Ticks.{ticks_keep}
 use Rattle.history_laws.proofs.Plainly.{not_true, and_right, true_is}
@@ -27,7 +27,7 @@ abbrev pub IsTurnSend : Doc → ℕ → Identity → Fact → List Entry → Typ
 IsTurnSend doc k q (Sends call arrives) h = is_controller doc q.process ≡ true → IsDue doc k q call h
 IsTurnSend doc k q _ h = Unit {0}
 
-module _ (doc : Doc) (own : IsOwn doc) (k p : ℕ) (P : List Entry → Type 0) (starts : (h : List Entry) → alive p h ≡ None → P h → P (start k 4 p h))
+module _ (doc : Doc) (own : ReleasesByStop doc) (k p : ℕ) (P : List Entry → Type 0) (starts : (h : List Entry) → alive p h ≡ None → P h → P (start k 4 p h))
     (more : (i : ℕ) (x : Entry) (h : List Entry) → x.beat ≡ k → x.actor ≡ actor_of (identity p i) → is_start x.fact ≡ false → IsTurnSend doc k (identity p i) x.fact h → P h → P (x ∷ h)) where
   own_up : (f : Identity → List Entry → List Entry) → ((i : ℕ) (h : List Entry) → P h → P (f (identity p i) h)) → (up : Option ℕ) (h : List Entry) → P h → P (if_up p f up h)
   own_up f one None h s = s

@@ -6,7 +6,7 @@ use Rattle.kube_objects.specs.Entry.{Entry, Identity, Call, Fact, First, Event a
 use Rattle.kube_objects.specs.Identities.{is_same, is_by}
 use Rattle.kube_objects.specs.Newest.{when, join}
 use Rattle.kube_objects.specs.Process.{alive, open_as, call_says, last_call, call_in}
-use Rattle.kube_objects.specs.Own.{IsOwn}
+use Rattle.kube_objects.specs.Own.{ReleasesByStop}
 use Rattle.history.specs.History.{history}
 use Rattle.history_laws.specs.Tails.{IsTail}
 use Rattle.history_laws.proofs.Counting.{counted_is}
@@ -71,7 +71,7 @@ still doc k step who ReleaseStops h q call role made waits = absurd made
 no_stop : (call : Call) (arrives : Option ℕ) → Sends call arrives ≡ Stops → ⊥
 no_stop call arrives is = cc
 
-module _ (doc : Doc) (own : IsOwn doc) (m : ℕ) (q : Identity) (call : Call) (arrives : Option ℕ) (e : Entry) (before : List Entry) (role : is_controller doc q.process ≡ true)
+module _ (doc : Doc) (own : ReleasesByStop doc) (m : ℕ) (q : Identity) (call : Call) (arrives : Option ℕ) (e : Entry) (before : List Entry) (role : is_controller doc q.process ≡ true)
     (actor : e.actor ≡ actor_of q) (fact : e.fact ≡ Sends call arrives) (opens : open_as call.kind call ≡ Some call) where
   sent : call_in q (e ∷ before) ≡ Some call
   sent =

@@ -10,7 +10,7 @@ use Rattle.kube_objects.specs.Elector.{Moment, Follow, Fails, Asks, Succeeds, is
 use Rattle.kube_objects.specs.Entry.{Entry, Identity, Call, CallKind, Plain, Fast, Release, Look, Emptying, Sends, actor_of}
 use Rattle.kube_objects.specs.Process.{open_as, alive, call_in}
 use Rattle.kube_objects.specs.Stored.{election, key_of}
-use Rattle.kube_objects.specs.Own.{IsOwn}
+use Rattle.kube_objects.specs.Own.{ReleasesByStop}
 use Rattle.history.specs.History.{history}
 use Rattle.history_laws.specs.Tails.{IsTail}
 use Rattle.history_laws.proofs.Plainly.{none_is}
@@ -92,7 +92,7 @@ reason_key doc k q request h (AfterReply f) = (next_is q _ _ f.waiting.kind f.wa
 pub not_open : (c : Call) → open_as Release c ≡ Some c → ⊥
 not_open c is = none_is c is
 
-pub reason_of : (doc : Doc) → IsOwn doc → (m : ℕ) (q : Identity) → is_controller doc q.process ≡ true → (x : Entry) (T : List Entry) (call : Call) (arrives : Option ℕ) → IsTail (x ∷ T) (history doc m) → x.actor ≡ actor_of q → x.fact ≡ Sends call arrives
+pub reason_of : (doc : Doc) → ReleasesByStop doc → (m : ℕ) (q : Identity) → is_controller doc q.process ≡ true → (x : Entry) (T : List Entry) (call : Call) (arrives : Option ℕ) → IsTail (x ∷ T) (history doc m) → x.actor ≡ actor_of q → x.fact ≡ Sends call arrives
     → leads q T ≡ false → open_as call.kind call ≡ Some call → Reason doc x.beat q call.request T × (3 ≤ x.step)
 reason_of doc rules m q role x T call arrives at actor fact unled opens = by_step made.step_is
   where

@@ -15,7 +15,7 @@ use Rattle.kube_objects.specs.Newest.{has}
 use Rattle.kube_objects.specs.Pauses.{is_paused}
 use Rattle.kube_objects.specs.Process.{alive, is_late}
 use Rattle.kube_objects.specs.Stored.{Held, election, stored}
-use Rattle.kube_objects.specs.Own.{IsOwn}
+use Rattle.kube_objects.specs.Own.{ReleasesByStop}
 use Rattle.history.specs.History.{history, at_turn}
 use Rattle.history.specs.Safe.{Acts}
 use Rattle.history.specs.Sound.{IsSound}
@@ -49,7 +49,7 @@ use Rattle.calm_laws.proofs.Restarts.{up_restarted}
 
 -- ---- the record that was there before
 
-module _ (doc : Doc) (far a n : ℕ) (sound : IsSound doc) (end : n ≤ end_beat doc) (kept : IsKept doc far a n) (room : a + 2 * far ≤ n) where
+module _ (doc : Doc) (far a n : ℕ) (sound : IsSound doc) (rules : ReleasesByStop doc) (end : n ≤ end_beat doc) (kept : IsKept doc far a n) (room : a + 2 * far ≤ n) where
   module _ (x : Entry) (T : List Entry) (position : IsTail (x ∷ T) (history doc (a + far))) (one : 1 ≤ far) (s : IsStored a T) where
     at_n : IsTail (x ∷ T) (history doc (suc n))
     at_n = tail_trans (x ∷ T) (history doc (a + far)) (history doc (suc n)) position (later_tail doc (a + far) (suc n) (omega (arith, room)))
@@ -70,7 +70,7 @@ module _ (doc : Doc) (far a n : ℕ) (sound : IsSound doc) (end : n ≤ end_beat
   -- while none is written, what is stored is the last record of a call that was sent before
   pub early_is_stored : 1 ≤ far → (h : List Entry) → IsTail h (history doc (a + far)) → IsStored a h
   early_is_stored one [] at = refl
-  early_is_stored one (x ∷ T) at = same x T at one (early_is_stored one T (tail_trans T (x ∷ T) (history doc (a + far)) (inr (tail_all T)) at)) (change_of doc sound n end x T (at_n x T at one (early_is_stored one T (tail_trans T (x ∷ T) (history doc (a + far)) (inr (tail_all T)) at))))
+  early_is_stored one (x ∷ T) at = same x T at one (early_is_stored one T (tail_trans T (x ∷ T) (history doc (a + far)) (inr (tail_all T)) at)) (change_of doc sound rules n end x T (at_n x T at one (early_is_stored one T (tail_trans T (x ∷ T) (history doc (a + far)) (inr (tail_all T)) at))))
 
 -- ---- a candidate that nobody keeps from leading
 
@@ -80,7 +80,7 @@ events_low doc p k =
     let two = with_answers doc k in
     turns_add doc k p one (step_three doc k two) (three_adds doc k one two (two_adds doc k one one (tail_all one)))
 
-module _ (doc : Doc) (rules : IsOwn doc) (near far a settled e n : ℕ) (calm : IsCalm doc near far a e) (one : 1 ≤ near) (ways : near ≤ far) (ordered : a ≤ settled) (within : n ≤ e) (kept : IsKept doc far settled n)
+module _ (doc : Doc) (rules : ReleasesByStop doc) (near far a settled e n : ℕ) (calm : IsCalm doc near far a e) (one : 1 ≤ near) (ways : near ≤ far) (ordered : a ≤ settled) (within : n ≤ e) (kept : IsKept doc far settled n)
     (lasting p later slow fast lost wait needed : ℕ) (lasts : LastsFor doc p lasting (object_of (stored election (history doc (settled + far)))))
     (c : IsCandidate doc near far a e p later slow fast) (b : AreBeats doc p slow fast lost wait needed) (my_time : IsInTime doc far a e p)
     (first : ℕ) (up_by : later ≤ first) (lost_by : lost + wait ≤ first) (ways_by : settled + 4 * far + wait ≤ a + first + 1)
@@ -152,7 +152,7 @@ module _ (doc : Doc) (rules : IsOwn doc) (near far a settled e n : ℕ) (calm : 
 
 -- ---- the law
 
-module _ (doc : Doc) (rules : IsOwn doc) (near far a e n : ℕ) (p : ℕ) (role : is_controller doc p ≡ true) (steady : IsSteady doc near far a e p) (time : IsInTime doc far a e p) (within : n ≤ e) (none : NobodyActs doc near far a e n) (k : ℕ) (from : a ≤ k) (to : k ≤ n) where
+module _ (doc : Doc) (rules : ReleasesByStop doc) (near far a e n : ℕ) (p : ℕ) (role : is_controller doc p ≡ true) (steady : IsSteady doc near far a e p) (time : IsInTime doc far a e p) (within : n ≤ e) (none : NobodyActs doc near far a e n) (k : ℕ) (from : a ≤ k) (to : k ≤ n) where
   events_below : (j : ℕ) → IsTail (with_events doc a) (at_turn doc j k)
   events_below j = ⊎_elim later (λ le. here (omega (arith, le, from))) (cases_lt a k)
     where
@@ -168,8 +168,8 @@ module _ (doc : Doc) (rules : IsOwn doc) (near far a e n : ℕ) (p : ℕ) (role 
       persists doc rules near far a e n (identity p i) role time.deadline steady within (none (identity p i) role steady) (omega (arith, from, to)) g h (tail_trans (with_events doc a) (at_turn doc j k) g (events_below j) low) high within_n there
 
 pub takeovers_are_bounded : TakeoversAreBounded
-takeovers_are_bounded doc near far a e sound calm time one ways end p later slow fast lost wait needed c b first up_by lost_by ways_by lasting enough most lasts enough_is most_is within =
-    ⊎_elim (λ somebody. somebody) (λ none. absurd (nobody none)) (somebody_or_nobody doc sound.2 near far a e n)
+takeovers_are_bounded doc near far a e sound rules calm time one ways end p later slow fast lost wait needed c b first up_by lost_by ways_by lasting enough most lasts enough_is most_is within =
+    ⊎_elim (λ somebody. somebody) (λ none. absurd (nobody none)) (somebody_or_nobody doc rules near far a e n)
   where
     n : ℕ
     n = a + first + most + 4 * far
@@ -188,32 +188,32 @@ takeovers_are_bounded doc near far a e sound calm time one ways end p later slow
       where
         kept : IsKept doc far a n
         kept = record {
-          no_write = λ x T q at by role writes late. no_write doc near far a e n sound calm end within one ways time none x T q at by role writes late;
-          stays = λ m from late g low at. record_stays doc near far a e n sound calm end within one ways time none m from late g low at;
+          no_write = λ x T q at by role writes late. no_write doc near far a e n sound rules calm end within one ways time none x T q at by role writes late;
+          stays = λ m from late g low at. record_stays doc near far a e n sound rules calm end within one ways time none m from late g low at;
         }
 
         the_record : LastsFor doc p lasting (object_of (stored election (history doc (a + far))))
         the_record =
             subst (LastsFor doc p lasting)
-            (sym (early_is_stored doc far a n sound (omega (arith, within, end)) kept (omega (arith, one, ways)) (omega (arith, one, ways)) (history doc (a + far)) (tail_all (history doc (a + far))))) lasts
+            (sym (early_is_stored doc far a n sound rules (omega (arith, within, end)) kept (omega (arith, one, ways)) (omega (arith, one, ways)) (history doc (a + far)) (tail_all (history doc (a + far))))) lasts
 
         with_identity : (i : ℕ) → alive p S ≡ Some i → ⊥
         with_identity i up =
-            no_candidate doc sound.2 near far a a e n calm one ways (omega arith) within kept lasting p later slow fast lost wait needed the_record c b my_time first up_by lost_by (omega (arith, ways_by, one, ways))
+            no_candidate doc rules near far a a e n calm one ways (omega arith) within kept lasting p later slow fast lost wait needed the_record c b my_time first up_by lost_by (omega (arith, ways_by, one, ways))
             enough most enough_is most_is (omega arith) i (none (identity p i) c.role c.steady) led late stays
           where
             late : (h : List Entry) → IsTail S h → IsTail h (history doc (suc n)) → alive p h ≡ Some i
-            late h low high = stays_from doc sound.2 near far a e n p c.role c.steady my_time within none (a + later) (omega arith) (omega (arith, up_by)) (suc p) i S h (tail_all S) low high up
+            late h low high = stays_from doc rules near far a e n p c.role c.steady my_time within none (a + later) (omega arith) (omega (arith, up_by)) (suc p) i S h (tail_all S) low high up
 
             s_high : IsTail S (history doc (suc n))
             s_high = tail_trans S (history doc (suc (a + later))) (history doc (suc n)) (turn_tail doc (suc p) (a + later) (omega (arith, below))) (later_tail doc (suc (a + later)) (suc n) (omega (arith, up_by)))
 
             led : (h : List Entry) → IsTail h (history doc (suc n)) → leads (identity p i) h ≡ false
-            led = never_led doc sound.2 near far a e n (identity p i) c.role my_time.deadline c.steady within (none (identity p i) c.role c.steady) (omega arith) (late (history doc (suc n)) s_high (tail_all (history doc (suc n))))
+            led = never_led doc rules near far a e n (identity p i) c.role my_time.deadline c.steady within (none (identity p i) c.role c.steady) (omega arith) (late (history doc (suc n)) s_high (tail_all (history doc (suc n))))
 
             stays : (j : ℕ) (g : List Entry) → IsTail (at_turn doc p (a + first)) g → IsTail g (at_turn doc (suc p) (a + first)) → alive p g ≡ Some j → alive p (at_turn doc (suc p) (a + first)) ≡ Some j
             stays j g low high there =
-                stays_from doc sound.2 near far a e n p c.role c.steady my_time within none (a + first) (omega arith) (omega arith) p j g (at_turn doc (suc p) (a + first)) low high
+                stays_from doc rules near far a e n p c.role c.steady my_time within none (a + first) (omega arith) (omega arith) p j g (at_turn doc (suc p) (a + first)) low high
                 (tail_trans (at_turn doc (suc p) (a + first)) (history doc (suc (a + first))) (history doc (suc n)) (turn_tail doc (suc p) (a + first) (omega (arith, below))) (later_tail doc (suc (a + first)) (suc n) (omega arith))) there
 
         by_up : (o : Option ℕ) → alive p S ≡ o → ⊥
@@ -227,9 +227,9 @@ pub next_multiple : (n m : ℕ) → 1 ≤ m → n < suc (n / m) * m
 next_multiple n m some = ⊎_elim (λ less. less) (λ le. absurd (omega (arith, le-div (suc (n / m)) n m some le))) (cases_lt n (suc (n / m) * m))
 
 pub takeovers_are_told : TakeoversAreTold
-takeovers_are_told doc near far a e sound calm time one ways end p later slow fast c some_slow some_fast lasting lasts within =
+takeovers_are_told doc near far a e sound rules calm time one ways end p later slow fast c some_slow some_fast lasting lasts within =
     subst (SomebodyActs doc near far a e) sum
-    (takeovers_are_bounded doc near far a e sound calm time one ways end p later slow fast lost wait needed c
+    (takeovers_are_bounded doc near far a e sound rules calm time one ways end p later slow fast lost wait needed c
     (record { lost_is = next_multiple (call_timeout doc p) slow some_slow; wait_is = (rounded_is slow (longest_wait doc p) some_slow).0; needed_is = (rounded_is fast (shortest_wait doc p) some_fast).1 })
     first (omega arith) (omega arith) (omega arith) lasting enough most lasts (rounded_is slow lasting some_slow).0 ((bounds_are_exact (needed + 2 * near) (wait + 2 * far) enough).0 some_step).1 (omega (arith, sum, within)))
   where

@@ -8,6 +8,7 @@ use Rattle.kube_objects.specs.Document.{Doc, end_beat, is_controller}
 use Rattle.kube_objects.specs.Entry.{Entry, Call, Fact, First as FirstPut, Event as Happens, Starts, Stops, Sends, Answers, Delivers, Expires, Leads, Ends, Crashes, Stalls, Ticks, StepsDown, ReleaseBegins, ReleaseEnds, ReleaseStops}
 use Rattle.kube_objects.specs.Keys.{key_eq}
 use Rattle.kube_objects.specs.Newest.{newest, when, only_if, join}
+use Rattle.kube_objects.specs.Own.{ReleasesByStop}
 use Rattle.kube_objects.specs.Stored.{election, event_write, request_write, at_key, write_of, held_as, holds, last_write, next_version, stored}
 use Rattle.kube_objects.specs.Wire.{Back, back_of}
 use Rattle.history.specs.History.{history}
@@ -89,8 +90,8 @@ early_stored doc a x T w early =
 
 -- ---- every kind of entry
 
-pub change_of : (doc : Doc) → IsSound doc → (n : ℕ) → n ≤ end_beat doc → (x : Entry) (T : List Entry) → IsTail (x ∷ T) (history doc (suc n)) → Change doc x T
-change_of doc sound n end x T at = cases x.actor x.fact refl refl (are_made doc sound.2 (suc n) x T at)
+pub change_of : (doc : Doc) → IsSound doc → ReleasesByStop doc → (n : ℕ) → n ≤ end_beat doc → (x : Entry) (T : List Entry) → IsTail (x ∷ T) (history doc (suc n)) → Change doc x T
+change_of doc sound rules n end x T at = cases x.actor x.fact refl refl (are_made doc rules (suc n) x T at)
   where
     unwritten : (d : Fact) → x.fact ≡ d → at_key election (write_of d) ≡ None → ((a : ℕ) → early_write a d ≡ None) → Change doc x T
     unwritten d fact none early =
@@ -133,7 +134,7 @@ change_of doc sound n end x T at = cases x.actor x.fact refl refl (are_made doc 
         by_role o is true role =
             Written (record { call = call; reply = reply; comes = comes; wrote = wrote; fact = fact; who = who; actor = actor; made = made; role = role; object = o; is = is })
         by_role o is false role =
-            absurd (true_is (sym (wrote_key call.request wrote o is) ∙ asks_elsewhere doc sound n end x back (in_head x T (history doc (suc n)) at)
+            absurd (true_is (sym (wrote_key call.request wrote o is) ∙ asks_elsewhere doc sound rules n end x back (in_head x T (history doc (suc n)) at)
             (ap (λ d. back_of x.actor d) fact ∙ ap (λ who. back_of who (Answers call reply comes wrote)) (actor ∙ made.by)) role))
           where
             back : Back

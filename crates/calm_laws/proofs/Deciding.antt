@@ -11,7 +11,7 @@ use Rattle.kube_objects.specs.Pauses.{is_paused}
 use Rattle.kube_objects.specs.Stalls.{is_stalled}
 use Rattle.kube_objects.specs.Process.{alive, is_present}
 use Rattle.kube_objects.specs.Wire.{loses_requests, loses_replies, request_delay, reply_delay}
-use Rattle.kube_objects.specs.Own.{IsOwn}
+use Rattle.kube_objects.specs.Own.{ReleasesByStop}
 use Rattle.lease_laws.proofs.Claims.{term_of}
 use Rattle.history.specs.History.{history, at_turn}
 use Rattle.history.specs.Safe.{Acts}
@@ -194,7 +194,7 @@ abbrev acting : Doc → ℕ → ℕ → Option ℕ → Bool
 acting doc p k None = false
 acting doc p k (Some i) = acts doc (identity p i) k (at_turn doc p k)
 
-module _ (doc : Doc) (rules : IsOwn doc) (near far a e n : ℕ) where
+module _ (doc : Doc) (rules : ReleasesByStop doc) (near far a e n : ℕ) where
   abbrev Idle : ℕ → Type 0
   Idle m = (q : Identity) → q.process < m → is_controller doc q.process ≡ true → IsSteady doc near far a e q.process → (k : ℕ) → a ≤ k → k ≤ n → Acts doc q k → ⊥
 

@@ -23,7 +23,7 @@ use Rattle.kube_objects.specs.declared.call.Request.TheVariants.{Get, Create, Up
 use Rattle.kube_objects.specs.declared.deed.Actor.{Actor}
 use Rattle.kube_objects.specs.declared.key.Key.{Key}
 use Rattle.kube_objects.specs.declared.key.Kind.TheVariants as kind
-use Rattle.kube_objects.specs.Own.{IsOwn}
+use Rattle.kube_objects.specs.Own.{ReleasesByStop}
 use Rattle.history.specs.History.{history, at_turn}
 use Rattle.history.specs.Safe.{Acts}
 use Rattle.history.specs.Steps.{restart, turn}
@@ -67,7 +67,7 @@ pub entry_is : (x : Entry) (step : ℕ) (q : Identity) (d : Fact) → x.step ≡
 entry_is x step q d at by is =
     ap (λ (s : ℕ). whole_entry x.beat s x.actor x.fact) at ∙ ap (λ who. whole_entry x.beat step who x.fact) by ∙ ap (λ d. whole_entry x.beat step (actor_of q) d) is
 
-module _ (doc : Doc) (rules : IsOwn doc) (near far a e n : ℕ) (one : 1 ≤ near) (ways : near ≤ far) (within : n ≤ e) (q : Identity) (role : is_controller doc q.process ≡ true)
+module _ (doc : Doc) (rules : ReleasesByStop doc) (near far a e n : ℕ) (one : 1 ≤ near) (ways : near ≤ far) (within : n ≤ e) (q : Identity) (role : is_controller doc q.process ≡ true)
     (steady : IsSteady doc near far a e q.process) (my_time : IsInTime doc far a e q.process) (none : (k : ℕ) → a ≤ k → k ≤ n → Acts doc q k → ⊥) (led : (h : List Entry) → IsTail h (history doc (suc n)) → leads q h ≡ false)
     (lasting : ℕ) (top : Option Held) (lasts : LastsFor doc q.process lasting (object_of top)) (K : ℕ) (some : a < K)
     (given : (w : Call) (reply : Reply) (T : List Entry) (y : ℕ) → (o : Origin doc q w reply T y) → IsTail T (history doc (suc n)) → w.request ≡ Get election → K ≤ y → y + far ≤ n → o.e.beat + far ≤ n → reply ≡ answer_get (as_kind lease_in top))

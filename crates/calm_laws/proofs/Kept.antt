@@ -6,7 +6,7 @@ use Rattle.kube_objects.specs.Entry.{Entry, Identity, Call, Sends, Answers, acto
 use Rattle.kube_objects.specs.Newest.{has}
 use Rattle.kube_objects.specs.Stored.{election, request_write, at_key, stored}
 use Rattle.kube_objects.specs.Wire.{request_arrival, reply_arrival}
-use Rattle.kube_objects.specs.Own.{IsOwn}
+use Rattle.kube_objects.specs.Own.{ReleasesByStop}
 use Rattle.history.specs.History.{history}
 use Rattle.history_laws.specs.Tails.{IsTail}
 use Rattle.history_laws.proofs.Tailed.{tail_all, tail_trans, later_tail}
@@ -26,7 +26,7 @@ pub record IsKept (doc : Doc) (far settled n : ℕ) : Type 0 where
   pub stays : (m : ℕ) → settled + far ≤ m → m + far ≤ n → (g : List Entry) → IsTail (history doc (settled + far)) g → IsTail g (history doc (suc m)) → stored election g ≡ stored election (history doc (settled + far))
 
 -- so none is sent
-pub no_takeover : (doc : Doc) → IsOwn doc → (near far a settled e n : ℕ) → IsKept doc far settled n → a ≤ settled → 1 ≤ near → near ≤ far → n ≤ e
+pub no_takeover : (doc : Doc) → ReleasesByStop doc → (near far a settled e n : ℕ) → IsKept doc far settled n → a ≤ settled → 1 ≤ near → near ≤ far → n ≤ e
     → (q : Identity) → is_controller doc q.process ≡ true → IsSteady doc near far a e q.process
     → (m : ℕ) (x : Entry) (T : List Entry) (call : Call) (arrives : Option ℕ) → IsTail (x ∷ T) (history doc m) → x.actor ≡ actor_of q → x.fact ≡ Sends call arrives → 2 ≤ x.step
     → settled + far ≤ x.beat + near → x.beat + 2 * far ≤ n → settled ≤ x.beat → FitsStored (stored election (history doc (settled + far))) call.request → ⊥

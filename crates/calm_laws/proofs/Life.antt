@@ -6,7 +6,7 @@ use Rattle.kube_objects.specs.Elector.{leads, deadline}
 use Rattle.kube_objects.specs.Entry.{Entry, Identity}
 use Rattle.kube_objects.specs.Newest.{has}
 use Rattle.kube_objects.specs.Process.{alive, is_restart_due, ended}
-use Rattle.kube_objects.specs.Own.{IsOwn}
+use Rattle.kube_objects.specs.Own.{ReleasesByStop}
 use Rattle.history.specs.History.{history, at_turn}
 use Rattle.history.specs.Safe.{Acts}
 use Rattle.history.specs.Steps.{start, restart_if, restart}
@@ -20,11 +20,11 @@ use Rattle.takeover_laws.proofs.Asking.{leads_set, leads_on}
 use Rattle.takeover_laws.proofs.Fresh.{next_start, over_stays, still_up, turn_leads}
 use Rattle.takeover_laws.proofs.Standing.{unled}
 
-counted_in : (doc : Doc) → IsOwn doc → (m : ℕ) (h : List Entry) → IsTail h (history doc m) → Counted h
+counted_in : (doc : Doc) → ReleasesByStop doc → (m : ℕ) (h : List Entry) → IsTail h (history doc m) → Counted h
 counted_in doc rules m [] at = λ p i up. absurd (none_is i up)
 counted_in doc rules m (x ∷ h) at = counted_more x h (next_start doc x.beat x.step x.actor x.fact h (are_made doc rules m x h at)) (counted_in doc rules m h (tail_trans h (x ∷ h) (history doc m) (inr (tail_all h)) at))
 
-pub up_between : (doc : Doc) → IsOwn doc → (m : ℕ) (q : Identity) (f g h : List Entry) → IsTail f g → IsTail g h → IsTail h (history doc m) → alive q.process f ≡ Some q.incarnation → alive q.process h ≡ Some q.incarnation → alive q.process g ≡ Some q.incarnation
+pub up_between : (doc : Doc) → ReleasesByStop doc → (m : ℕ) (q : Identity) (f g h : List Entry) → IsTail f g → IsTail g h → IsTail h (history doc m) → alive q.process f ≡ Some q.incarnation → alive q.process h ≡ Some q.incarnation → alive q.process g ≡ Some q.incarnation
 up_between doc rules m q f g h low high at first last =
     still_up q g
     (omega (arith, counted_in doc rules m f (tail_trans f h (history doc m) (tail_trans f g h low high) at) q.process q.incarnation first, starts_tail q.process f g low))
@@ -67,7 +67,7 @@ turn_unset doc q k not_led = restart_deadline doc q k q.process (alive q.process
 
 -- ---- leads
 
-pub never_led : (doc : Doc) → IsOwn doc → (near far a e n : ℕ) (q : Identity) → is_controller doc q.process ≡ true → 1 ≤ renew_deadline doc q.process → IsSteady doc near far a e q.process → n ≤ e
+pub never_led : (doc : Doc) → ReleasesByStop doc → (near far a e n : ℕ) (q : Identity) → is_controller doc q.process ≡ true → 1 ≤ renew_deadline doc q.process → IsSteady doc near far a e q.process → n ≤ e
     → ((k : ℕ) → a ≤ k → k ≤ n → Acts doc q k → ⊥) → a ≤ n → alive q.process (history doc (suc n)) ≡ Some q.incarnation → (h : List Entry) → IsTail h (history doc (suc n)) → leads q h ≡ false
 never_led doc rules near far a e n q role lasts steady within none from up h at = by_test (leads q h) refl
   where

@@ -11,7 +11,7 @@ use Rattle.kube_objects.specs.Identities.{is_by}
 use Rattle.kube_objects.specs.Newest.{added}
 use Rattle.kube_objects.specs.Process.{is_send, begun, call_in}
 use Rattle.kube_objects.specs.Wire.{Back, back_of, reply_arrival}
-use Rattle.kube_objects.specs.Own.{IsOwn}
+use Rattle.kube_objects.specs.Own.{ReleasesByStop}
 use Rattle.history.specs.History.{history}
 use Rattle.history_laws.specs.Tails.{IsTail}
 use Rattle.history_laws.proofs.Counting.{CountedFor, counted_is}
@@ -26,7 +26,7 @@ use Rattle.calm_laws.proofs.Begun.{Begun, begun_by}
 
 -- ---- two requests of one number are one entry
 
-numbered : (doc : Doc) → IsOwn doc → (m : ℕ) (q : Identity) (x : Entry) (T : List Entry) (call : Call) (arrives : Option ℕ) → IsTail (x ∷ T) (history doc m) → x.actor ≡ actor_of q → x.fact ≡ Sends call arrives
+numbered : (doc : Doc) → ReleasesByStop doc → (m : ℕ) (q : Identity) (x : Entry) (T : List Entry) (call : Call) (arrives : Option ℕ) → IsTail (x ∷ T) (history doc m) → x.actor ≡ actor_of q → x.fact ≡ Sends call arrives
     → (call.number ≡ begun q T + 1) × (begun q (x ∷ T) ≡ begun q T + 1)
 numbered doc rules m q x T call arrives at actor fact = (ap (λ (c : Call). c.number) made.call_is ∙ ap (λ p. begun p T + 1) (actor_is made.q q (sym made.by ∙ actor)), counts)
   where
@@ -36,7 +36,7 @@ numbered doc rules m q x T call arrives at actor fact = (ap (λ (c : Call). c.nu
     counts : begun q (x ∷ T) ≡ begun q T + 1
     counts = ap (λ d. added (is_send d && is_by q x.actor) (begun q T)) fact ∙ ap (λ who. added (is_by q who) (begun q T)) actor ∙ ap (λ b. added b (begun q T)) (same_self q)
 
-pub sends_differ : (doc : Doc) → IsOwn doc → (m : ℕ) (q : Identity) (x y : Entry) (S T : List Entry) (c d : Call) (i j : Option ℕ) → IsTail (x ∷ S) (history doc m) → IsTail (y ∷ T) (history doc m)
+pub sends_differ : (doc : Doc) → ReleasesByStop doc → (m : ℕ) (q : Identity) (x y : Entry) (S T : List Entry) (c d : Call) (i j : Option ℕ) → IsTail (x ∷ S) (history doc m) → IsTail (y ∷ T) (history doc m)
     → x.actor ≡ actor_of q → y.actor ≡ actor_of q → x.fact ≡ Sends c i → y.fact ≡ Sends d j → c.number ≡ d.number → x ∷ S ≡ y ∷ T
 sends_differ doc rules m q x y S T c d i j at_x at_y mine_x mine_y fact_x fact_y same = ⊎_elim below above (tails_meet (x ∷ S) (y ∷ T) (history doc m) at_x at_y)
   where
@@ -98,7 +98,7 @@ pub record Origin (doc : Doc) (q : Identity) (w : Call) (reply : Reply) (T : Lis
   pub sent_low : IsTail (begun.f ∷ begun.before) low
   pub arrives : begun.arrives ≡ Some e.beat
 
-pub origin : (doc : Doc) → IsOwn doc → (m : ℕ) (q : Identity) (x : Entry) (T : List Entry) (w : Call) (reply : Reply) → IsTail (x ∷ T) (history doc m) → x.actor ≡ actor_of q → x.fact ≡ Delivers w reply true → Origin doc q w reply T x.beat
+pub origin : (doc : Doc) → ReleasesByStop doc → (m : ℕ) (q : Identity) (x : Entry) (T : List Entry) (w : Call) (reply : Reply) → IsTail (x ∷ T) (history doc m) → x.actor ≡ actor_of q → x.fact ≡ Delivers w reply true → Origin doc q w reply T x.beat
 origin doc rules m q x T w reply at actor fact = record {
   e = e;
   low = low;

@@ -17,7 +17,7 @@ use Rattle.kube_objects.specs.Newest.{when, has}
 use Rattle.kube_objects.specs.Process.{open_as}
 use Rattle.kube_objects.specs.Stored.{Held, election, key_of, request_write, at_key, stored}
 use Rattle.kube_objects.specs.Wire.{sent_of, back_of, request_delay, reply_delay, request_arrival}
-use Rattle.kube_objects.specs.Own.{IsOwn}
+use Rattle.kube_objects.specs.Own.{ReleasesByStop}
 use Rattle.history.specs.History.{history}
 use Rattle.history_laws.specs.Tails.{In, IsTail}
 use Rattle.history_laws.proofs.Order.{entries_are_earlier}
@@ -58,7 +58,7 @@ wrote_by (Update key given lease) h version w is done =
 wrote_by (Get key) h version w is done = absurd w
 wrote_by (PostStatus name status at) h version w is done = absurd w
 
-module _ (doc : Doc) (rules : IsOwn doc) (near far a settled e n : ℕ) (calm : IsCalm doc near far a e) (one : 1 ≤ near) (ways : near ≤ far) (ordered : a ≤ settled) (within : n ≤ e)
+module _ (doc : Doc) (rules : ReleasesByStop doc) (near far a settled e n : ℕ) (calm : IsCalm doc near far a e) (one : 1 ≤ near) (ways : near ≤ far) (ordered : a ≤ settled) (within : n ≤ e)
     (kept : IsKept doc far settled n) (q : Identity) (role : is_controller doc q.process ≡ true) (steady : IsSteady doc near far a e q.process)
     (led : (h : List Entry) → IsTail h (history doc (suc n)) → leads q h ≡ false) (lease : HasLease (stored election (history doc (settled + far)))) where
   abbrev pub stored_reply : Reply

@@ -5,7 +5,7 @@ use Rattle.kube_objects.specs.Document.{Doc, is_controller}
 use Rattle.kube_objects.specs.Elector.{leads}
 use Rattle.kube_objects.specs.Entry.{Entry, Identity, Sends, actor_of, Call}
 use Rattle.kube_objects.specs.Stored.{election}
-use Rattle.kube_objects.specs.Own.{IsOwn}
+use Rattle.kube_objects.specs.Own.{ReleasesByStop}
 use Rattle.history.specs.History.{history}
 use Rattle.history_laws.specs.Tails.{IsTail}
 use Rattle.history_laws.proofs.Plainly.{true_is}
@@ -18,7 +18,7 @@ pub no_kubelet : (doc : Doc) (p q : Identity) (A : Type 0) → is_controller doc
 no_kubelet doc p q A other by role = absurd (true_is (sym role ∙ ap (λ (p : Identity). is_controller doc p.process) (sym (actor_is p q by)) ∙ other))
 
 -- a controller that doesn't lead sends a Get in its turn
-pub asks_in_turn : (doc : Doc) → IsOwn doc → (k : ℕ) (x : Entry) (before : List Entry) (q : Identity) (call : Call) (arrives : Option ℕ) → IsTail (x ∷ before) (history doc k) → x.actor ≡ actor_of q → x.fact ≡ Sends call arrives
+pub asks_in_turn : (doc : Doc) → ReleasesByStop doc → (k : ℕ) (x : Entry) (before : List Entry) (q : Identity) (call : Call) (arrives : Option ℕ) → IsTail (x ∷ before) (history doc k) → x.actor ≡ actor_of q → x.fact ≡ Sends call arrives
     → x.step ≡ 4 → is_controller doc q.process ≡ true → leads q before ≡ false → call.request ≡ Get election
 asks_in_turn doc rules k x before q call arrives at by fact four role unled = cases (sends_for doc rules k x before q call arrives at by fact)
   where

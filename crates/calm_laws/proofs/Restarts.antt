@@ -12,7 +12,7 @@ use Rattle.kube_objects.specs.Process.{alive, is_restart_due, ended, starts, bor
 use Rattle.kube_objects.specs.Tick.{tick}
 use Rattle.kube_objects.specs.Turns.{expired, end_term, try}
 use Rattle.kube_objects.specs.Stalls.{is_stalled}
-use Rattle.kube_objects.specs.Own.{IsOwn}
+use Rattle.kube_objects.specs.Own.{ReleasesByStop}
 use Rattle.history.specs.History.{at_turn}
 use Rattle.history.specs.Steps.{start, restart, expire, finish, attempts, ticks_while, ticks, restart_if, if_up, controller_turn, kubelet_turn, unpaused_turn, turn}
 use Rattle.history_laws.specs.Tails.{IsTail}
@@ -26,7 +26,7 @@ use Rattle.calm_laws.proofs.Turning.{Turned, turned}
 pub turn_adds : (doc : Doc) (k p : ℕ) (h : List Entry) → IsTail h (turn doc k p h)
 turn_adds doc k p h = walk_any_turn doc (λ j g. IsTail h g) (all_turns doc Anyone (λ j g. IsTail h g) (λ j x g beat step next s. inr s)) (all_release_turns doc (λ j g. IsTail h g) (λ j x g beat step next s. inr s)) k p h (tail_all h)
 
-module _ (doc : Doc) (rules : IsOwn doc) (p i k : ℕ) (role : is_controller doc p ≡ true) (awake : is_paused doc p k ≡ false)
+module _ (doc : Doc) (rules : ReleasesByStop doc) (p i k : ℕ) (role : is_controller doc p ≡ true) (awake : is_paused doc p k ≡ false)
     (stays : (j : ℕ) (g : List Entry) → IsTail (at_turn doc p k) g → IsTail g (at_turn doc (suc p) k) → alive p g ≡ Some j → alive p (at_turn doc (suc p) k) ≡ Some j)
     (up : alive p (at_turn doc (suc p) k) ≡ Some i) where
   pub up_restarted : alive p (restart doc k p (at_turn doc p k)) ≡ Some i

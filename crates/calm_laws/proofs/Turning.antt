@@ -13,7 +13,7 @@ use Rattle.kube_objects.specs.Process.{alive, last_call, call_in, is_late}
 use Rattle.kube_objects.specs.Stored.{election}
 use Rattle.kube_objects.specs.Turns.{expire_as, expire_call, expired, end_term, just_expired, is_fast_call, attempt_if, try}
 use Rattle.kube_objects.specs.Wire.{send}
-use Rattle.kube_objects.specs.Own.{IsOwn}
+use Rattle.kube_objects.specs.Own.{ReleasesByStop}
 use Rattle.kube_objects.proofs.Own.{release_begun-own}
 use Rattle.history.specs.Steps.{if_up, restart, expire, finish, attempts, ticks, controller_turn, kubelet_turn, unpaused_turn, turn}
 use Rattle.history_laws.specs.Tails.{IsTail}
@@ -47,7 +47,7 @@ pub record IsSleeping (doc : Doc) (k : ℕ) (q : Identity) (h all : List Entry) 
 abbrev pub Turned : Doc → ℕ → Identity → List Entry → List Entry → Type 0
 Turned doc k q h all = IsWaiting doc k q h all ⊎ (IsAsking doc k q h all ⊎ IsSleeping doc k q h all)
 
-module _ (doc : Doc) (rules : IsOwn doc) (k : ℕ) (q : Identity) (g : List Entry) (role : is_controller doc q.process ≡ true) (awake : is_paused doc q.process k ≡ false)
+module _ (doc : Doc) (rules : ReleasesByStop doc) (k : ℕ) (q : Identity) (g : List Entry) (role : is_controller doc q.process ≡ true) (awake : is_paused doc q.process k ≡ false)
     (up : alive q.process (restart doc k q.process g) ≡ Some q.incarnation) (unset : deadline doc q (restart doc k q.process g) ≡ None) where
   abbrev pub h : List Entry
   h = restart doc k q.process g

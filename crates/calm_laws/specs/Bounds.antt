@@ -7,6 +7,7 @@ use Rattle.kube_objects.specs.declared.object.Object.TheVariants as object
 use Rattle.kube_objects.specs.Document.{Doc, end_beat, is_controller, call_timeout}
 use Rattle.kube_objects.specs.Entry.{Entry, Identity, Fact, First, Answers}
 use Rattle.kube_objects.specs.Newest.{newest, only_if, join, has}
+use Rattle.kube_objects.specs.Own.{ReleasesByStop}
 use Rattle.kube_objects.specs.Process.{alive}
 use Rattle.kube_objects.specs.Stored.{election, request_write, at_key}
 use Rattle.history.specs.History.{history, at_turn}
@@ -64,7 +65,7 @@ pub record AreBeats (doc : Doc) (p slow fast lost wait needed : ℕ) : Type 0 wh
 -- over that was there as the calm began; and of four ways two bring the first look, and two the write and its reply
 abbrev pub TakeoversAreBounded : Type 0
 TakeoversAreBounded =
-    (doc : Doc) (near far a e : ℕ) → IsSound doc → IsCalm doc near far a e → AreInTime doc near far a e → 1 ≤ near → near ≤ far → e ≤ end_beat doc
+    (doc : Doc) (near far a e : ℕ) → IsSound doc → ReleasesByStop doc → IsCalm doc near far a e → AreInTime doc near far a e → 1 ≤ near → near ≤ far → e ≤ end_beat doc
     → (p later slow fast lost wait needed : ℕ) → IsCandidate doc near far a e p later slow fast → AreBeats doc p slow fast lost wait needed
     → (first : ℕ) → later ≤ first → lost + wait ≤ first → (4 * far - 1) + wait ≤ first
     → (time enough most : ℕ) → LastsFor doc p time (early_record a (history doc (a + far))) → IsEnough slow time enough → IsGreatest (needed + 2 * near) (wait + 2 * far) enough most
@@ -81,7 +82,7 @@ takeover_bound doc near far p later slow fast time =
 
 abbrev pub TakesOver : Doc → Type 0
 TakesOver doc =
-    (near far a e : ℕ) → IsSound doc → IsCalm doc near far a e → AreInTime doc near far a e → 1 ≤ near → near ≤ far → e ≤ end_beat doc
+    (near far a e : ℕ) → IsSound doc → ReleasesByStop doc → IsCalm doc near far a e → AreInTime doc near far a e → 1 ≤ near → near ≤ far → e ≤ end_beat doc
     → (p later slow fast : ℕ) → IsCandidate doc near far a e p later slow fast → 1 ≤ slow → 1 ≤ fast
     → (time : ℕ) → LastsFor doc p time (early_record a (history doc (a + far)))
     → a + takeover_bound doc near far p later slow fast time ≤ e → SomebodyActs doc near far a e (a + takeover_bound doc near far p later slow fast time)

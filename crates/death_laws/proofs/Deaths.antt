@@ -9,7 +9,7 @@ use Rattle.kube_objects.specs.Clocks.{whole_second}
 use Rattle.kube_objects.specs.Document.{Doc, of_seconds}
 use Rattle.kube_objects.specs.Entry.{Identity}
 use Rattle.kube_objects.specs.Health.{hears, pass_period, is_after_pass}
-use Rattle.kube_objects.specs.Own.{IsOwn, EvictsByOwn, PassesTakeNoWork, ProbesByRun}
+use Rattle.kube_objects.specs.Own.{ReleasesByStop, EvictsByOwn, PassesTakeNoWork, ProbesByRun}
 use Rattle.kube_objects.specs.Seen.{is_pod}
 use Rattle.kube_objects.specs.Tick.{new_taint}
 use Rattle.kube_objects.specs.Tolerations.{first_tolerating}
@@ -32,7 +32,7 @@ use Rattle.death_laws.specs.Deaths.{WatchesOver, IsPaced, MarkedAfter, DeadNodes
 
 -- ---- the mark
 
-module _ (doc : Doc) (own : IsOwn doc) (free : PassesTakeNoWork doc) (by_run : ProbesByRun doc) (q : Identity) (name a e v : ℕ) (watches : WatchesOver doc q name a e) (told : IsLastTold doc name v e) (slow near far enough needed most : ℕ) (paced : IsPaced doc q a e slow near far enough needed most)
+module _ (doc : Doc) (own : ReleasesByStop doc) (free : PassesTakeNoWork doc) (by_run : ProbesByRun doc) (q : Identity) (name a e v : ℕ) (watches : WatchesOver doc q name a e) (told : IsLastTold doc name v e) (slow near far enough needed most : ℕ) (paced : IsPaced doc q a e slow near far enough needed most)
     (latest : ℕ) (first : a ≤ latest) (word : v + far ≤ suc latest) (within : latest + most ≤ e) where
   abbrev hears_at : ℕ → Bool
   hears_at k = has_pass doc q k && hears q name (synced_at doc q k)
@@ -111,9 +111,9 @@ pub dead_nodes_are_marked : DeadNodesAreMarked
 dead_nodes_are_marked doc own free by_run q name a e v watches told slow near far enough needed most paced latest first word within = marks doc own free by_run q name a e v watches told slow near far enough needed most paced latest first word within
 
 pub deaths_are_marked : DeathsAreMarked
-deaths_are_marked doc free by_run q name a e v watches told slow near far enough needed most paced short long s last kubelet sound one lives some alone reach latest first word within =
-    let soon = last_words_are_soon doc short long s last e v kubelet name sound one lives some alone reach told in
-    marks doc sound.2 free by_run q name a e v watches told slow near far enough needed most paced latest first (omega (arith, soon, word)) within
+deaths_are_marked doc own free by_run q name a e v watches told slow near far enough needed most paced short long s last kubelet sound one lives some alone reach latest first word within =
+    let soon = last_words_are_soon doc short long s last e v kubelet name sound own one lives some alone reach told in
+    marks doc own free by_run q name a e v watches told slow near far enough needed most paced latest first (omega (arith, soon, word)) within
 
 -- ---- the taint, and the pods
 

@@ -7,7 +7,7 @@ use Rattle.kube_objects.specs.Document.{Doc, of_seconds}
 use Rattle.kube_objects.specs.Entry.{Entry, Identity, Place, Ticks, Mode, entry}
 use Rattle.kube_objects.specs.Health.{last_pass}
 use Rattle.kube_objects.specs.Newest.{has}
-use Rattle.kube_objects.specs.Own.{IsOwn, EvictsByOwn, JudgesByOwn, PassesTakeNoWork, ProbesByRun}
+use Rattle.kube_objects.specs.Own.{ReleasesByStop, EvictsByOwn, JudgesByOwn, PassesTakeNoWork, ProbesByRun}
 use Rattle.kube_objects.specs.Seen.{is_pod}
 use Rattle.kube_objects.specs.Tokens.{token_size}
 use Rattle.history.specs.Evictions.{stored_node, after_turn}
@@ -58,22 +58,22 @@ pub record MarkedAfter (doc : Doc) (q : Identity) (name a e v latest near far en
   pub soon : m ≤ latest + most
   pub marked : StaysPosted doc q name p m → IsMarked doc q name m
 
--- with the project's own rules, that of probes too, whoever watches over the node from its first pass on, as from its takeover: the last pass that hears of it comes by
--- that first pass, or a monitor period after the node's last word at the latest, and no sooner than that word, if it is the latest renewal; the mark
--- comes within the bounds of more than the grace period after it
+-- with the project's own rules, that of probes too, whoever watches over the node from its first pass on, as from its takeover: the last pass that
+-- hears of it comes by that first pass, or a monitor period after the node's last word at the latest, and no sooner than that word, if it is the
+-- latest renewal; the mark comes within the bounds of more than the grace period after it
 abbrev pub DeadNodesAreMarked : Type 0
 DeadNodesAreMarked =
-    (doc : Doc) → IsOwn doc → PassesTakeNoWork doc → ProbesByRun doc → (q : Identity) (name a e v : ℕ) → WatchesOver doc q name a e → (told : IsLastTold doc name v e)
+    (doc : Doc) → ReleasesByStop doc → PassesTakeNoWork doc → ProbesByRun doc → (q : Identity) (name a e v : ℕ) → WatchesOver doc q name a e → (told : IsLastTold doc name v e)
     → (slow near far enough needed most : ℕ) → IsPaced doc q a e slow near far enough needed most
     → (latest : ℕ) → a ≤ latest → v + far ≤ suc latest → latest + most ≤ e
     → MarkedAfter doc q name a e v latest near far enough needed most (IsLatestRenewal name told.x told.before)
 
--- where nodes are judged at each tick, and the node's zone keeps a rate from beat y on, which is no sooner than the latest mark, and up to that never more than k nodes are ahead of
--- it: by as many of a token's intervals after y, and one more, it is tainted, or doesn't wait any more; and where evictions go by the own rules too,
--- by as many beats later as the seconds take that a pod tolerates the taint, the pod is gone, or the taint is
+-- where nodes are judged at each tick, and the node's zone keeps a rate from beat y on, which is no sooner than the latest mark, and up to that never
+-- more than k nodes are ahead of it: by as many of a token's intervals after y, and one more, it is tainted, or doesn't wait any more; and where
+-- evictions go by the own rules too, by as many beats later as the seconds take that a pod tolerates the taint, the pod is gone, or the taint is
 abbrev pub DeadNodesEnd : Type 0
 DeadNodesEnd =
-    (doc : Doc) → IsOwn doc → PassesTakeNoWork doc → ProbesByRun doc → JudgesByOwn doc → (q : Identity) (name a e v : ℕ) → WatchesOver doc q name a e → (told : IsLastTold doc name v e)
+    (doc : Doc) → ReleasesByStop doc → PassesTakeNoWork doc → ProbesByRun doc → JudgesByOwn doc → (q : Identity) (name a e v : ℕ) → WatchesOver doc q name a e → (told : IsLastTold doc name v e)
     → (slow near far enough needed most : ℕ) → IsPaced doc q a e slow near far enough needed most
     → (latest : ℕ) → a ≤ latest → v + far ≤ suc latest → latest + most ≤ e
     → (place : Place) (y k rate interval turn last : ℕ) → latest + most ≤ y → KeepsRate doc q place rate y e → IsEnough rate token_size interval → IsEnough slow interval turn
@@ -87,14 +87,14 @@ DeadNodesEnd =
 -- one that comes so many beats after the taint as are enough for the seconds, the pod is gone
 abbrev pub PodsGoAfterFailovers : Type 0
 PodsGoAfterFailovers =
-    (doc : Doc) → IsOwn doc → EvictsByOwn doc → (r q : Identity) (t k seconds slow enough : ℕ) → wall doc r.process t ≡ wall doc q.process t → IsDated doc q.process → IsAttended doc q k → RunsAtLeast doc q.process t k slow
+    (doc : Doc) → ReleasesByStop doc → EvictsByOwn doc → (r q : Identity) (t k seconds slow enough : ℕ) → wall doc r.process t ≡ wall doc q.process t → IsDated doc q.process → IsAttended doc q k → RunsAtLeast doc q.process t k slow
     → IsEnough slow (of_seconds seconds) enough → t + enough ≤ k → (key : Key) → is_pod key.kind ≡ true → IsDoomed doc r t seconds key (after_turn doc q.process k) → ⊥
 
 -- and where the node's kubelet lives up to a last beat, and the node is left to it alone: its last word comes by one message's way after that beat, so
 -- the node is last heard of less than a monitor period later, or by the leader's first pass
 abbrev pub DeathsAreMarked : Type 0
 DeathsAreMarked =
-    (doc : Doc) → PassesTakeNoWork doc → ProbesByRun doc → (q : Identity) (name a e v : ℕ) → WatchesOver doc q name a e → (told : IsLastTold doc name v e)
+    (doc : Doc) → ReleasesByStop doc → PassesTakeNoWork doc → ProbesByRun doc → (q : Identity) (name a e v : ℕ) → WatchesOver doc q name a e → (told : IsLastTold doc name v e)
     → (slow near far enough needed most : ℕ) → IsPaced doc q a e slow near far enough needed most
     → (short long s last : ℕ) (kubelet : Identity) → IsSound doc → 1 ≤ short → LivesFrom doc short long s last kubelet name → s ≤ last → IsLeftAlone doc s e kubelet name → last + long ≤ e
     → (latest : ℕ) → a ≤ latest → last + long + far ≤ suc latest → latest + most ≤ e

@@ -1,5 +1,5 @@
--- A document whose version isn't 4 has the project's own rules of elections, of when nodes are judged and of evictions, its terms sync at once, its
--- passes take no time, and its script never stops the store: the keys and the type of event that say otherwise are unknown there.
+-- A document whose version isn't 4 has the project's own rules of releases, of elections, of when nodes are judged and of evictions, its terms sync at
+-- once, its passes take no time, and its script never stops the store: the keys and the type of event that say otherwise are unknown there.
 use Rattle.std.proofs.Common.{◌≡◌, ℕ, ◌+◌, ◌==◌, ◌&&◌, ◌||◌, nat_lt, ◌++◌, Bool, true, false, List, [], ◌∷◌, codes, Option, Some, None, Result, Ok, refl, sym, ap, subst, ◌∙◌, Ordering, Less, Equal, Greater}
 use Rattle.std.specs.Prelude.{option_and_then, ℤ, if◌then◌else◌}
 use Rattle.std.specs.Cmp.Lexicographic.{slice_cmp}
@@ -13,7 +13,7 @@ use Rattle.serde_json.specs.Data.{Data, null, boolean, number, string, array, ob
 use Rattle.serde_json.specs.Find.{get, get_member, as_number, as_object, as_u64, as_i64}
 use Rattle.kube_base.specs.Names.{fixed_names}
 use Rattle.kube_objects.specs.Document.{own_waits_each}
-use Rattle.kube_objects.specs.Own.{ElectsByOwn, EvictsByOwn, JudgesByOwn, SettlesAtOnce, PassesTakeNoWork, ProbesByRun, StartsEmpty, AreUnstalled}
+use Rattle.kube_objects.specs.Own.{ReleasesByStop, ElectsByOwn, EvictsByOwn, JudgesByOwn, SettlesAtOnce, PassesTakeNoWork, ProbesByRun, StartsEmpty, AreUnstalled}
 use Rattle.kube_objects.specs.Rules.{own_rules, own_waits}
 use Rattle.kube_objects.specs.declared.rules.Rules.{Rules}
 use Rattle.kube_objects.specs.declared.rules.RetryRule.TheVariants as retries
@@ -23,6 +23,8 @@ use Rattle.kube_objects.specs.declared.rules.SightRule.TheVariants as sights
 use Rattle.kube_objects.specs.declared.rules.BucketRule.TheVariants as buckets
 use Rattle.kube_objects.specs.declared.rules.EvictRule.TheVariants as evictions
 use Rattle.kube_objects.specs.declared.rules.ProbeRule.TheVariants as probes
+use Rattle.kube_objects.specs.declared.rules.ReleaseRule.TheVariants as releases
+use Rattle.kube_objects.specs.declared.rules.ReleaseActing.TheVariants as acting
 use Rattle.kube_objects.specs.declared.script.Event.{Event}
 use Rattle.kube_objects.specs.declared.script.Proc.{Proc}
 use Rattle.kube_objects.specs.declared.script.What.{What}
@@ -50,10 +52,10 @@ use Rattle.script_reader.specs.Fields.{under, default_of, required, flag_at, pol
 use Rattle.script_reader.specs.Limits.{scale_of, event_limit}
 use Rattle.script_reader.specs.Rules.{judging_at, rules_at}
 use Rattle.script_reader.specs.Tables.{is_four, is_from_three, is_key_of, all_known, known_in, knows_members}
-use Rattle.script_reader.specs.Walk.{object_in, beats_at, timings_at, standard, periods_at, rates_at, settings_of, settings_at, named_at, clock_at, timings_of, controller_of, if_controller, controller_at, controllers_from, controllers_in, kubelets_in, objects_at, numbers_of, cast_of, scope_of, version_of, version_or, version_in, is_number_four, says_four, document_at, document_walk}
+use Rattle.script_reader.specs.Walk.{object_in, beats_at, timings_at, standard, periods_at, rates_at, fast_renew_of, settings_of, settings_at, named_at, clock_at, timings_of, controller_of, if_controller, controller_at, controllers_from, controllers_in, kubelets_in, objects_at, numbers_of, cast_of, scope_of, version_of, version_or, version_in, is_number_four, says_four, document_at, document_walk}
 use Rattle.script_reader.specs.Walk.{Cast, controller_named, kubelet_named, process_named, process_at, rate_at, delay_at, loss_at, crash_at, start_at, stop_at, watch_at, ready_at, pause_at, object_under, put_at, kind_at, space_of, remove_at, beside, what_at, type_of, type_at, is_too_soon, edits_election, if_event, event_at, events_from, events_in, events_at}
 use Rattle.document_laws.proofs.FieldRanges.{of_default, of_required}
-use Rattle.document_laws.proofs.OwnRules.{itself, AreOwn, rules-none, tainting-default, ending-default}
+use Rattle.document_laws.proofs.OwnRules.{itself, tainting-default, ending-default}
 use Rattle.document_laws.proofs.ProcessRanges.{sound-in}
 use Rattle.document_laws.proofs.Scales.{top-same}
 use Rattle.document_laws.specs.Laws.{EarlierGoByOwn}
@@ -116,7 +118,7 @@ required-version (Some d) other = earlier-version d other
 
 -- ---- settings
 
--- the rules of elections, of when nodes are judged and of evictions are the project's own, a term syncs at once, nodes are silent by the run,
+-- the rules of releases, of elections, of when nodes are judged and of evictions are the project's own, a term syncs at once, nodes are silent by the run,
 -- buckets start empty, and a pass takes no time
 record GoByOwn (rules : Rules) : Type 0 where
   pub retries : rules.retries ≡ retries.After
@@ -128,6 +130,8 @@ record GoByOwn (rules : Rules) : Type 0 where
   pub bucket : rules.bucket ≡ buckets.Empty
   pub from : rules.evict_from ≡ evictions.Added
   pub burst : rules.evict_burst ≡ 0
+  pub release : rules.release ≡ releases.Stop
+  pub still : rules.in_release ≡ acting.Still
   pub no_work : rules.ready_millis ≡ 0
 
 -- settings without the keys of these
@@ -144,6 +148,8 @@ record HaveNone (d : Data) : Type 0 where
   pub evict_from : get (codes "evictFrom") d ≡ None
   pub evict_burst : get (codes "evictBurst") d ≡ None
   pub evict_rate : get (codes "evictRate") d ≡ None
+  pub release : get (codes "release") d ≡ None
+  pub in_release : get (codes "inRelease") d ≡ None
   pub ready_millis : get (codes "readyMillis") d ≡ None
   pub ready_burst : get (codes "readyBurst") d ≡ None
 
@@ -161,15 +167,17 @@ judging-own path d none =
       bucket = refl;
       from = refl;
       burst = refl;
+      release = refl;
+      still = refl;
       no_work = refl;
     }))
 
-rules-own : (path : List ℕ) (d : Data) → AreOwn presets.Own d → HaveNone d → Gets GoByOwn (rules_at presets.Own path d)
+rules-own : (path : List ℕ) (d : Data) → HaveNone d → Gets GoByOwn (rules_at presets.Own path d)
 unfolding rules_at
-rules-own path d own none =
+rules-own path d none =
     and_then (judging-own path d none) (λ judging goes.
     rw (tainting-default judging path d none.queue none.bucket none.evict_from none.evict_burst none.evict_rate)
-    (rw (ending-default judging path d own.ending none.ready_millis none.ready_burst) (done judging goes)))
+    (rw (ending-default judging path d none.release none.in_release none.ready_millis none.ready_burst) (done judging goes)))
 
 preset-own : (path : List ℕ) (d : Data) → HaveNone d → preset_at path d ≡ Ok presets.Own
 preset-own path d none = rw none.rules refl
@@ -247,6 +255,18 @@ evict_rate-unknown versions.Two earlier = refl
 evict_rate-unknown versions.Three earlier = refl
 evict_rate-unknown versions.Four earlier = absurd (let none : ⊥ = cc in none)
 
+release-unknown : (version : Version) → is_four version ≡ false → is_key_of (tables.Settings version) (codes "release") ≡ false
+release-unknown versions.One earlier = refl
+release-unknown versions.Two earlier = refl
+release-unknown versions.Three earlier = refl
+release-unknown versions.Four earlier = absurd (let none : ⊥ = cc in none)
+
+in_release-unknown : (version : Version) → is_four version ≡ false → is_key_of (tables.Settings version) (codes "inRelease") ≡ false
+in_release-unknown versions.One earlier = refl
+in_release-unknown versions.Two earlier = refl
+in_release-unknown versions.Three earlier = refl
+in_release-unknown versions.Four earlier = absurd (let none : ⊥ = cc in none)
+
 ready_millis-unknown : (version : Version) → is_four version ≡ false → is_key_of (tables.Settings version) (codes "readyMillis") ≡ false
 ready_millis-unknown versions.One earlier = refl
 ready_millis-unknown versions.Two earlier = refl
@@ -298,6 +318,8 @@ module _ (version : Version) (earlier : is_four version ≡ false) where
         evict_from = get-unknown (tables.Settings version) (codes "evictFrom") (evict_from-unknown version earlier) d known;
         evict_burst = get-unknown (tables.Settings version) (codes "evictBurst") (evict_burst-unknown version earlier) d known;
         evict_rate = get-unknown (tables.Settings version) (codes "evictRate") (evict_rate-unknown version earlier) d known;
+        release = get-unknown (tables.Settings version) (codes "release") (release-unknown version earlier) d known;
+        in_release = get-unknown (tables.Settings version) (codes "inRelease") (in_release-unknown version earlier) d known;
         ready_millis = get-unknown (tables.Settings version) (codes "readyMillis") (ready_millis-unknown version earlier) d known;
         ready_burst = get-unknown (tables.Settings version) (codes "readyBurst") (ready_burst-unknown version earlier) d known;
       } in
@@ -309,9 +331,8 @@ module _ (version : Version) (earlier : is_four version ≡ false) where
       skip (policy_at path (codes "ratePolicy") d) (λ policy.
       rw (preset-own path d absent)
       (and_then (itself (rules_at presets.Own path d)) (λ rules given.
-      and_then (sound-in path timings rates (settings_of beats timings periods rates fast policy rules)) (λ s parts.
-      and_then (rules-none presets.Own path d) (λ built none.
-      done (s, presets.Own) (rw parts.2 ((rules-own path d none absent).at rules given), refl))))))))))))
+      and_then (sound-in path timings rates (settings_of beats timings periods rates (fast_renew_of fast presets.Own (get (codes "fastRenew") d)) policy rules)) (λ s parts.
+      done (s, presets.Own) (rw parts.3 ((rules-own path d absent).at rules given), refl)))))))))))
 
   -- ---- controllers
 
@@ -486,8 +507,8 @@ module _ (scope : Scope) (cast : Cast) (earlier : is_four scope.version ≡ fals
 
 -- the rules that run are the project's own
 abbrev IsByOwn : Document → Type 0
-IsByOwn d = ElectsByOwn (doc_of d) × SettlesAtOnce (doc_of d) × ProbesByRun (doc_of d) × JudgesByOwn (doc_of d) × StartsEmpty (doc_of d)
-    × EvictsByOwn (doc_of d) × PassesTakeNoWork (doc_of d) × AreUnstalled (doc_of d).events
+IsByOwn d = ReleasesByStop (doc_of d) × ElectsByOwn (doc_of d) × SettlesAtOnce (doc_of d) × ProbesByRun (doc_of d) × JudgesByOwn (doc_of d)
+    × StartsEmpty (doc_of d) × EvictsByOwn (doc_of d) × PassesTakeNoWork (doc_of d) × AreUnstalled (doc_of d).events
 
 document-own : (value : Data) → says_four (get (codes "version") value) ≡ false → Gets IsByOwn (document_at value)
 unfolding document_at
@@ -500,6 +521,7 @@ document-own value other =
     skip (objects_at version kubelets.1 (numbers_of controllers.0.0) d) (λ objects.
     and_then (events-go (scope_of version settings.0) (cast_of controllers.0.0 kubelets.0) earlier objects.1 d) (λ events unstalled.
     done _ (
+      record { release = own.0.release; still = own.0.still },
       record { retries = own.0.retries; waits = waits; respect = own.0.respect },
       own.0.at_once,
       own.0.probe,

@@ -11,3 +11,4 @@ mod SetNames
 mod SetsReadable
 mod SetsSaid
 pub mod SoundDocuments
+mod UnsaidReleases

@@ -7,6 +7,7 @@ use Rattle.std.proofs.lemmas.Bool.{and_parts}
 use Rattle.std.proofs.lemmas.Bool.Decides.{nat_tests}
 use Rattle.std.proofs.lemmas.List.Elements.{All-push, All-nil, All-weaker}
 use Rattle.serde_json.specs.Data.{Data, Items, no_items, item}
+use Rattle.serde_json.specs.Find.{get}
 use Rattle.kube_base.specs.Times.{time_of}
 use Rattle.kube_base.specs.declared.numbers.Wall.{Wall}
 use Rattle.kube_objects.specs.declared.script.Proc.{Proc}
@@ -31,8 +32,7 @@ use Rattle.script_reader.specs.Choices.{preset_at}
 use Rattle.script_reader.specs.Rules.{rules_at, agree}
 use Rattle.script_reader.specs.Limits.{scale_of, kubelet_limit}
 use Rattle.script_reader.specs.Lawful.{AreLawful, IsPosted, IsLawful, AreNamedApart, AreWaits}
-use Rattle.script_reader.specs.Walk.{Team, if_sound, if_controller, object_in, if_end, beats_at, timings_at, standard, periods_at, rates_at, is_sound, settings_of, settings_at, named_at, clock_at, timings_of, has_name, numbers_of, controller_of, controller_at, controllers_from, controllers_in, kubelet_of, kubelet_at, kubelets_from, kubelets_in}
-use Rattle.document_laws.proofs.OwnRules.{itself, rules-none, rules-own}
+use Rattle.script_reader.specs.Walk.{Team, if_sound, if_controller, object_in, if_end, beats_at, timings_at, standard, periods_at, rates_at, is_sound, fast_renew_of, settings_of, settings_at, named_at, clock_at, timings_of, has_name, numbers_of, controller_of, controller_at, controllers_from, controllers_in, kubelet_of, kubelet_at, kubelets_from, kubelets_in}
 use Rattle.document_laws.proofs.WaitRanges.{waits_at-in}
 use Rattle.document_laws.proofs.FieldRanges.{IsIn, whole_at-in, IsSignedIn, signed_at-in, posted_at-in, array-few, not_empty-some}
 use Rattle.script_reader.proofs.Named.{any_map, numbers-push}
@@ -136,13 +136,13 @@ pub record AreRead (s : Settings) : Type 0 where
 
 -- the own rule of settings
 pub sound-in : (path : List ℕ) (t : Timings) (r : Rates) (settings : Settings)
-    → Gets (λ s. (is_sound t ≡ true) × (r.secondary ≤ r.primary) × (s ≡ settings)) (if_sound path t r settings)
+    → Gets (λ s. (is_sound t ≡ true) × (r.secondary ≤ r.primary) × (agree settings.rules ≡ true) × (s ≡ settings)) (if_sound path t r settings)
 sound-in path t r settings =
     by_test (is_sound t && nat_le r.secondary r.primary && agree settings.rules) _ _
     (λ e.
     let parts = and_parts (is_sound t && nat_le r.secondary r.primary) (agree settings.rules) e in
     let both = and_parts (is_sound t) (nat_le r.secondary r.primary) parts.0 in
-    done settings (both.0, leb-true r.secondary r.primary both.1, refl))
+    done settings (both.0, leb-true r.secondary r.primary both.1, parts.1, refl))
     (λ e. refused _)
 
 pub settings-in : (version : Version) (path : List ℕ) (value : Data) → Gets (λ r. AreRead r.0) (settings_at version path value)
@@ -156,12 +156,11 @@ settings-in version path value =
     skip (flag_at false path (codes "fastRenew") d) (λ fast.
     skip (policy_at path (codes "ratePolicy") d) (λ policy.
     skip (preset_at path d) (λ preset.
-    and_then (itself (rules_at preset path d)) (λ rules given.
-    let settings = settings_of beats timings periods rates fast policy rules in
+    skip (rules_at preset path d) (λ rules.
+    let settings = settings_of beats timings periods rates (fast_renew_of fast preset (get (codes "fastRenew") d)) policy rules in
     and_then (sound-in path timings rates settings) (λ s parts.
-    and_then (rules-none preset path d) (λ built none.
     let own = outlast timings parts.0 in
-    done (s, preset) (subst AreRead (sym parts.2) (record {
+    done (s, preset) (subst AreRead (sym parts.3) (record {
       lawful = record {
         beat_least = b.least;
         beat_most = b.most;
@@ -190,13 +189,13 @@ settings-in version path value =
         secondary = parts.1;
         large_zone = r.large_zone;
         percent = r.percent;
-        rules = (rules-own preset path d none).at rules given;
+        rules = parts.2;
         renew_within_lease = own.lease;
         retry_within_renew = own.renew;
       };
       timings = record { lease = t.lease; renew = t.renew; retry = t.retry; timeout = t.timeout };
       outlast = record { lease = own.lease; renew = own.renew };
-    })))))))))))))
+    }))))))))))))
 
 -- ---- controllers
 

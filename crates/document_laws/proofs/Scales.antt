@@ -24,7 +24,7 @@ events-most scales.Usual = omega arith
 events-most scales.Large = omega arith
 
 -- the top is the value itself
-object-same : (code : ℕ) (path : List ℕ) (value : Data) (ms : Option Members) → Gets (λ d. d ≡ value) (object_or code path value ms)
+pub object-same : (code : ℕ) (path : List ℕ) (value : Data) (ms : Option Members) → Gets (λ d. d ≡ value) (object_or code path value ms)
 object-same code path value None = refused _
 object-same code path value (Some ms) = done value refl
 

@@ -6,7 +6,6 @@ use Rattle.kube_objects.specs.declared.script.What.{What}
 use Rattle.kube_objects.specs.declared.script.What.TheVariants as whats
 use Rattle.history.specs.Sound.{IsSoundEvent, AreSound, IsSound}
 use Rattle.script_reader.specs.Lawful.{IsLawfulWhat, AreLawfulFrom, IsLawfulDoc}
-use Rattle.script_reader.proofs.OwnDocuments.{own-document}
 
 sound-what : (doc : Doc) (what : What) → IsLawfulWhat doc what → IsSoundEvent doc what
 sound-what doc (whats.Rate id ppm) lawful = tt
@@ -27,4 +26,4 @@ sound-events doc from [] lawful = tt
 sound-events doc from (e ∷ es) lawful = (sound-what doc e.what lawful.2, sound-events doc e.beat.0 es lawful.3)
 
 pub sound-document : (doc : Doc) → IsLawfulDoc doc → IsSound doc
-sound-document doc lawful = (sound-events doc 0 doc.events lawful.events, lawful.apart, own-document doc lawful)
+sound-document doc lawful = (sound-events doc 0 doc.events lawful.events, lawful.apart)

@@ -11,7 +11,7 @@ use Rattle.script_reader.specs.Lawful.{AreWaits}
 use Rattle.script_reader.specs.declared.choice.Preset.{Preset}
 use Rattle.script_reader.specs.declared.choice.Preset.TheVariants as presets
 use Rattle.script_reader.specs.Waits.{waits_from, waits_in, usual_waits, waits_at}
-use Rattle.script_reader.proofs.OwnDocuments.{own-waits}
+use Rattle.script_reader.proofs.OwnWaits.{own-waits}
 use Rattle.document_laws.proofs.FieldRanges.{IsIn, whole_in-in, of_default, array-few, not_empty-some}
 
 abbrev AreIn : List ℕ → Type 0

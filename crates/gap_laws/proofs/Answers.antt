@@ -43,7 +43,7 @@ record Left (doc : Doc) (w : Slow) (k : ℕ) (h : List Entry) (q : Identity) (c 
 abbrev made : ℕ → List Entry → Identity → Lease → Held
 made k h q lease = record { version = next_version h; object = object.Lease lease; beat = k; by = Some q }
 
-topped_by : (doc : Doc) (k : ℕ) (h : List Entry) (q : Identity) (c : Call) (at : Option ℕ) (lease : Lease) → is_controller doc q.process ≡ true → succeeds c.request (Done (next_version h)) ≡ true → key_of c.request ≡ election → Fit doc (view h) q lease
+topped_by : (doc : Doc) (k : ℕ) (h : List Entry) (q : Identity) (c : Call) (at : Option ℕ) (lease : Lease) → is_controller doc q.process ≡ true → succeeds c.request (Done (next_version h)) ≡ true → key_of c.request ≡ election → Fit doc c.kind q lease
     → Topped doc (entry k 2 q (Answers c (Done (next_version h)) at (Some (object.Lease lease)))) h
 topped_by doc k h q c at lease role so key fit = record {
   b = back_at q c (Done (next_version h)) at;
@@ -66,7 +66,7 @@ no_node : kind.Node ≡ kind.Lease → ⊥
 no_node h = cc
 
 left_by : (doc : Doc) (w : Slow) (high k : ℕ) (h : List Entry) (q : Identity) (number d : ℕ) (way : CallKind) (at : Option ℕ) → is_controller doc q.process ≡ true → Arrives w q.process d way k
-    → (t : Option Held) → stored election h ≡ t → (request : Request) → Asked doc high (view h) q d request → BaseWaited doc w q d t request
+    → (t : Option Held) → stored election h ≡ t → (request : Request) → Asked doc high (view h) q d way request → BaseWaited doc w q d t request
     → Left doc w k h q (record { number = number; request = request; sent = d; kind = way }) (answer_over (next_version h) t request) at (written_over t request (answer_over (next_version h) t request))
 left_by doc w high k h q number d way at role comes t is (Get key) asked base = record { tops = inl refl; took = λ role so. absurd (false_is so) }
 left_by doc w high k h q number d way at role comes None is (Create key lease) asked base =
@@ -86,7 +86,7 @@ left_by doc w high k h q number d way at role comes (Some y) is (Update key v le
         subst (λ key. Left doc w k h q (record { number = number; request = Update key v lease; sent = d; kind = way }) (Done (next_version h)) at (Some (object.Lease lease))) (sym asked.key)
         (record {
           tops = inr (topped_by doc k h q (record { number = number; request = Update election v lease; sent = d; kind = way }) at lease role refl refl asked.fit);
-          took = λ role so. (topped_by doc k h q (record { number = number; request = Update election v lease; sent = d; kind = way }) at lease role refl refl asked.fit, record { version = refl; after = comes; base = subst (λ t. IfSome t (λ y. (y.beat ≤ d) × WaitedFor doc w q d y)) (sym is) (safe.0, base (eqb-true y.version.0 v.0 same)) });
+          took = λ role so. (topped_by doc k h q (record { number = number; request = Update election v lease; sent = d; kind = way }) at lease role refl refl asked.fit, record { version = refl; after = comes; base = subst (λ t. IfSome t (λ y. (y.beat ≤ d) × WaitedFor doc w q d y)) (sym is) (omega (arith, safe.0), base (eqb-true y.version.0 v.0 same)) });
         })
     by_test false same = record { tops = inl refl; took = λ role so. absurd (false_is so) }
 left_by doc w high k h q number d way at role comes t is (PostStatus name status time) asked base = absurd (no_node (ap (λ (x : Key). x.kind) asked.key))

@@ -9,6 +9,7 @@ use Rattle.kube_objects.specs.Document.{Doc, end_beat, is_controller}
 use Rattle.kube_objects.specs.Elector.{lead_says, succeeds}
 use Rattle.kube_objects.specs.Entry.{Entry, Identity}
 use Rattle.kube_objects.specs.Newest.{added, has}
+use Rattle.kube_objects.specs.Own.{ReleasesByStop}
 use Rattle.kube_objects.specs.Stored.{Held, Write, election, stored, at_key, write_of, writes, next_version}
 use Rattle.history.specs.History.{whole_history}
 use Rattle.history.specs.Premise.{greatest_below}
@@ -60,7 +61,7 @@ done_is : (a b : Version) → Done a ≡ Done b → a ≡ b
 done_is a b is = cc
 
 -- three messages after the time of the record
-module _ (doc : Doc) (sound : IsSound doc) (q : Identity) (role : is_controller doc q.process ≡ true) (e : Entry) (earlier before : List Entry) (version : Version) (stands : IsTail (e ∷ earlier) (whole_history doc))
+module _ (doc : Doc) (sound : IsSound doc) (own : ReleasesByStop doc) (q : Identity) (role : is_controller doc q.process ≡ true) (e : Entry) (earlier before : List Entry) (version : Version) (stands : IsTail (e ∷ earlier) (whole_history doc))
     (lead : lead_says q e.actor e.fact ≡ Some version) (write : IsWriteOf version earlier before) (y : Held) (lease : Lease) (over : IsTakenFrom q before y lease)
     (fast needed : ℕ) (runs : RunsAtMost doc q.process y.beat e.beat fast) (is : IsNeeded fast (respected_time doc q.process lease) needed) where
   gap_by : (least : ℕ) → IsDelayed doc q.process y.beat least → (y.beat + needed + 3 ≤ e.beat) × (y.beat + needed + 3 * least ≤ e.beat)
@@ -70,7 +71,7 @@ module _ (doc : Doc) (sound : IsSound doc) (q : Identity) (role : is_controller 
       w = record { who = q.process; from = y.beat; least = least }
 
       known : Waits doc w (end_beat doc) (whole_history doc)
-      known = whole_known doc sound (greatest_below doc (length doc.controllers)) (rates_at_most doc) w delayed
+      known = whole_known doc sound own (greatest_below doc (length doc.controllers)) (rates_at_most doc) w delayed
 
       led : LedFrom w q e.beat earlier version
       led = subst (λ o. IfSome o (LedFrom w q e.beat earlier)) lead (known.leads e earlier stands q)
@@ -106,7 +107,7 @@ module _ (doc : Doc) (sound : IsSound doc) (q : Identity) (role : is_controller 
           (omega (arith, waited.late.0)) waited.before (omega (arith, comes.0, success.comes.0)) waited.over
 
 pub gaps_last : GapsLast
-gaps_last doc sound q role e earlier before version stands lead write y lease over fast needed runs is = (
-  (gap_by doc sound q role e earlier before version stands lead write y lease over fast needed runs is 0 (λ x h at from late. (omega arith, omega arith))).0,
-  λ least delayed. (gap_by doc sound q role e earlier before version stands lead write y lease over fast needed runs is least delayed).1,
+gaps_last doc sound own q role e earlier before version stands lead write y lease over fast needed runs is = (
+  (gap_by doc sound own q role e earlier before version stands lead write y lease over fast needed runs is 0 (λ x h at from late. (omega arith, omega arith))).0,
+  λ least delayed. (gap_by doc sound own q role e earlier before version stands lead write y lease over fast needed runs is least delayed).1,
 )

@@ -12,6 +12,7 @@ use Rattle.kube_objects.specs.Entry.{Entry, Identity, Call, CallKind, Plain, Rel
 use Rattle.kube_objects.specs.Identities.{identity}
 use Rattle.kube_objects.specs.Kubelet.{node_of, post}
 use Rattle.kube_objects.specs.Newest.{newest, or_zero}
+use Rattle.kube_objects.specs.Own.{ReleasesByStop}
 use Rattle.kube_objects.specs.Stamps.{stamped}
 use Rattle.kube_objects.specs.Stored.{election, node_lease, stored}
 use Rattle.kube_objects.specs.Wire.{request_delay, reply_delay, send, Sent, Back, sent_of, back_of}
@@ -25,10 +26,10 @@ use Rattle.history_laws.proofs.Tailed.{tail_all, tail_trans, in_tail}
 use Rattle.history_laws.proofs.Ticks.{walk_tick}
 use Rattle.history_laws.proofs.Walk.{Arriving, Keeps, stopped_at, after_reply, no_release, walk_at_turn}
 use Rattle.lease_laws.proofs.EachKind.{elsewhere, top_stays}
-use Rattle.lease_laws.proofs.Histories.{first_right, stop_of}
+use Rattle.lease_laws.proofs.Histories.{first_right, bears_own, keeps}
 use Rattle.lease_laws.proofs.Invariant.{OnTop, Inv}
 use Rattle.lease_laws.proofs.Quiet.{stored_tick, keep_quiet, quiet_tick, deletes_elsewhere}
-use Rattle.lease_laws.proofs.Steps.{AtMost, InvWithin, all_keep, sound_of}
+use Rattle.lease_laws.proofs.Steps.{AtMost, InvWithin, sound_of}
 use Rattle.gap_laws.specs.Gaps.{IsDelayed}
 use Rattle.gap_laws.proofs.Waits.{Slow, Late, is_release, BaseWaited, SentWell, Topped, Took, LedFrom, TermFrom, Waits}
 use Rattle.gap_laws.proofs.Steps.{Still, none_for, keep_still, keep_sends, brought, keep_counted, success_is, keep_leads, shown_late, told_late, followed_base, attempt_base, release_base}
@@ -99,13 +100,13 @@ first_waits doc w = bare_waits doc w (history doc 0) (put_bare doc doc.objects [
 
 -- ---- every kind of entry
 
-module _ (doc : Doc) (sound : IsSound doc) (high : ℕ) (greatest : AtMost doc high) (w : Slow) (slow : IsDelayed doc w.who w.from w.least) where
+module _ (doc : Doc) (sound : IsSound doc) (own : ReleasesByStop doc) (high : ℕ) (greatest : AtMost doc high) (w : Slow) (slow : IsDelayed doc w.who w.from w.least) where
   -- at a position of the whole history
   abbrev pub Known : ℕ → List Entry → Type 0
   Known k h = k ≤ end_beat doc → Inv doc high k h × (IsTail h (whole_history doc) → Waits doc w k h)
 
   kept : Keeps doc (λ k step h. InvWithin doc high k h)
-  kept = all_keep doc high greatest sound
+  kept = keeps doc high greatest (bears_own doc high own) sound
 
   below : (x : Entry) (h : List Entry) → IsTail (x ∷ h) (whole_history doc) → IsTail h (whole_history doc)
   below x h at = tail_trans h (x ∷ h) (whole_history doc) (inr (tail_all h)) at
@@ -178,15 +179,15 @@ module _ (doc : Doc) (sound : IsSound doc) (high : ℕ) (greatest : AtMost doc h
     starts = λ k step p h s. still k _ h (record { top = refl; shows = λ q. refl; sent = refl; back = refl; lead = λ q. refl; deadline = λ d q led. refl }) (kept.starts k step p h) s;
     crashes = λ k p i h up s. still k _ h (record { top = refl; shows = λ q. refl; sent = refl; back = refl; lead = λ q. refl; deadline = λ d q led. refl }) (kept.crashes k p i h up) s;
     stalls = λ k id beats i h scripted up s. still k _ h (record { top = refl; shows = λ q. refl; sent = refl; back = refl; lead = λ q. refl; deadline = λ d q led. refl }) (kept.stalls k id beats i h scripted up) s;
-    stops = λ k id i h scripted up s. still k _ h (record { top = refl; shows = λ q. refl; sent = refl; back = refl; lead = λ q. refl; deadline = λ d q led. refl }) (kept.stops k id i h scripted up) s;
-    releases = λ k id i before request scripted up awake is was s. λ end. releases_known k id i before request is (kept.releases k id i before request scripted up awake is (λ e. (was end).0)) s end;
+    stops = λ k id i h scripted up free s. still k _ h (record { top = refl; shows = λ q. refl; sent = refl; back = refl; lead = λ q. refl; deadline = λ d q led. refl }) (kept.stops k id i h scripted up free) s;
+    releases = λ k id i before request scripted up awake is stop was s. λ end. releases_known k id i before request is (kept.releases k id i before request scripted up awake is stop (λ e. (was end).0)) s end;
     answers = answers_known;
     ignores = λ k b h coming is s. still k _ h (record { top = refl; shows = λ q. refl; sent = refl; back = refl; lead = λ q. refl; deadline = λ d q led. refl }) (kept.ignores k b h coming is) s;
-    counts = λ k b waiting h coming is s.
-        more k _ h (kept.counts k b waiting h coming is) (λ i at t. keep_counted doc w high k h b waiting i (brought doc w high k h i t b waiting coming (counted_is doc b.who k b.call.number h waiting is)) t) s;
-    follows = λ k b waiting h request coming is role follows was s. λ end. follows_known k b waiting h request role follows (kept.follows k b waiting h request coming is role follows (λ e. (was end).0)) s end;
-    leads = λ k b waiting h version coming is role follows was s. λ end.
-        more k _ (after_reply k b waiting h) (kept.leads k b waiting h version coming is role follows (λ e. (was end).0))
+    counts = λ k b waiting h coming is of s.
+        more k _ h (kept.counts k b waiting h coming is of) (λ i at t. keep_counted doc w high k h b waiting i (brought doc w high k h i t b waiting coming (counted_is doc b.who k b.call.number h waiting is)) t) s;
+    follows = λ k b waiting h request coming is role of follows was s. λ end. follows_known k b waiting h request role follows (kept.follows k b waiting h request coming is role of follows (λ e. (was end).0)) s end;
+    leads = λ k b waiting h version coming is role of follows was s. λ end.
+        more k _ (after_reply k b waiting h) (kept.leads k b waiting h version coming is role of follows (λ e. (was end).0))
         (λ i at t. keep_leads doc w high k h b waiting version i
         (brought doc w high k h (was end).0 ((was end).1 (below _ h (below _ (after_reply k b waiting h) at))) b waiting coming (counted_is doc b.who k b.call.number h waiting is))
         (success_is doc k (after_reply k b waiting h) b.who waiting.kind waiting.request b.reply version follows) t) s end;
@@ -194,8 +195,8 @@ module _ (doc : Doc) (sound : IsSound doc) (high : ℕ) (greatest : AtMost doc h
         sends k 3 b.who Plain request (after_reply k b waiting h) (omega arith) (λ i t so. absurd (false_is (sym role ∙ so))) (kept.asks k b waiting h request coming is role asked (λ e. (was end).0)) s end;
     turns = record {
       restarts = λ k p h s. still k _ h (record { top = refl; shows = λ q. refl; sent = refl; back = refl; lead = λ q. refl; deadline = λ d q led. refl }) (kept.turns.restarts k p h) s;
-      expires = λ k p i call h up waits late s. still k _ h (record { top = refl; shows = λ q. refl; sent = refl; back = refl; lead = λ q. refl; deadline = λ d q led. refl }) (kept.turns.expires k p i call h up waits late) s;
-      ends = λ k p i at h role up is before s. still k _ h (record { top = refl; shows = λ q. refl; sent = refl; back = refl; lead = λ q. refl; deadline = λ d q led. refl }) (kept.turns.ends k p i at h role up is before) s;
+      expires = λ k p i call h up waits late of s. still k _ h (record { top = refl; shows = λ q. refl; sent = refl; back = refl; lead = λ q. refl; deadline = λ d q led. refl }) (kept.turns.expires k p i call h up waits late of) s;
+      ends = λ k p i at h role up is before stop s. still k _ h (record { top = refl; shows = λ q. refl; sent = refl; back = refl; lead = λ q. refl; deadline = λ d q led. refl }) (kept.turns.ends k p i at h role up is before stop) s;
       polls = λ k p i h role up awake waits s. sends k 4 (identity p i) Plain (Get election) h (omega arith) (λ iv t so. tt) (kept.turns.polls k p i h role up awake waits) s;
       attempts = λ k p i h role up awake waits s.
           sends k 4 (identity p i) (attempt doc (identity p i) k h).0 (attempt doc (identity p i) k h).1 h (omega arith) (λ iv t so. attempt_base doc w k h (identity p i) (shown_late doc w high k h iv t (identity p i) so)) (kept.turns.attempts k p i h role up awake waits) s;
@@ -210,7 +211,7 @@ module _ (doc : Doc) (sound : IsSound doc) (high : ℕ) (greatest : AtMost doc h
   -- ---- histories
 
   pub turn_known : (p k : ℕ) → k ≤ end_beat doc → IsTail (at_turn doc p k) (whole_history doc) → Waits doc w k (at_turn doc p k)
-  turn_known p k end at = ((walk_at_turn doc (λ k step h. Known k h) known (no_release doc (λ k step h. Known k h) (stop_of doc sound)) (λ le. (first_right doc high, λ at. first_waits doc w)) p k) end).1 at
+  turn_known p k end at = ((walk_at_turn doc (λ k step h. Known k h) known (no_release doc (λ k step h. Known k h) own.release) (λ le. (first_right doc high, λ at. first_waits doc w)) p k) end).1 at
 
   pub whole_known : Waits doc w (end_beat doc) (whole_history doc)
   whole_known = turn_known (processes doc) (end_beat doc) (omega arith) (tail_all (whole_history doc))

@@ -11,7 +11,8 @@ use Rattle.kube_objects.specs.Document.{Doc, processes, end_beat, beat_micros, i
 use Rattle.kube_objects.specs.Elector.{deadline, succeeds, is_before}
 use Rattle.kube_objects.specs.Entry.{Entry, Identity}
 use Rattle.kube_objects.specs.Identities.{is_same, is_by, is_other, holder_of}
-use Rattle.kube_objects.specs.Process.{alive, is_present, is_stop, stops}
+use Rattle.kube_objects.specs.Own.{ReleasesByStop}
+use Rattle.kube_objects.specs.Process.{alive, is_present}
 use Rattle.kube_objects.specs.Stored.{Held, election, stored}
 use Rattle.kube_objects.specs.Wire.{Back}
 use Rattle.history.specs.History.{history, whole_history, at_turn}
@@ -22,11 +23,14 @@ use Rattle.history_laws.specs.Tails.{IsTail}
 use Rattle.history_laws.proofs.Order.{entries_are_earlier}
 use Rattle.history_laws.proofs.Plainly.{some_is, none_is, false_is, same_is, and_right}
 use Rattle.history_laws.proofs.Tailed.{tail_all, tail_trans, in_tail, tails_meet, count_tail, turn_tail, before_turn, later_tail}
-use Rattle.lease_laws.proofs.Claims.{IsOwn, term_of, is_writer, is_holder, exclusive}
-use Rattle.lease_laws.proofs.Histories.{turn_right}
-use Rattle.lease_laws.proofs.Invariant.{view, FitObject, CoveredBy, Covered, BackRight, HeldRight, Led, Within, Inv}
+use Rattle.lease_laws.proofs.Claims.{IsOwn, term_of, is_writer, never_freed, exclusive_own}
+use Rattle.lease_laws.proofs.Histories.{bears_own, turn_right}
+use Rattle.lease_laws.proofs.Invariant.{view, frees, freed, FitObject, CoveredBy, Covered, BackRight, HeldRight, Led, Within, Inv}
 use Rattle.lease_laws.proofs.Pauses.{true_time}
+use Rattle.lease_laws.proofs.Late.{crossed}
 use Rattle.lease_laws.proofs.Premises.{Premise, premise_from}
+use Rattle.lease_laws.proofs.Releases.{covered_of}
+use Rattle.lease_laws.proofs.TwoPauses.{counted_at}
 use Rattle.lease_laws.proofs.Waited.{waits_for}
 use Rattle.span_laws.specs.Spans.{RunsAtLeast, RunsAtMost, IsEnough, IsNeeded}
 use Rattle.span_laws.proofs.Spans.{goes_least, readings_last}
@@ -49,14 +53,6 @@ positive : (n a m : ℕ) → a < n * m → 0 < n
 positive zero a m lt = absurd (omega (arith, lt))
 positive (suc n) a m lt = omega arith
 
--- a lease that lasts is longer than what a leader acts on
-crossed : (n m bm low high lease all most : ℕ) → n ≤ m → lease ≤ n * (bm * high) → m * (bm * low) ≤ all + most * (bm * low) → most * (bm * high) * low + all * high < lease * low → ⊥
-crossed n m bm low high lease all most le wide within premise =
-    let a : lease * low ≤ n * (bm * high) * low = mul-le-mul_right low wide in
-    let b : n * (bm * high) * low ≤ m * (bm * high) * low = mul-le-mul_right low (mul-le-mul_right (bm * high) le) in
-    let c : m * (bm * low) * high ≤ (all + most * (bm * low)) * high = mul-le-mul_right high within in
-    absurd (omega (arith, a, b, c, premise))
-
 -- who acts at beat j goes by a success that was sent no more than so many beats ago
 sent_soon : (doc : Doc) (p s j d slow lasts : ℕ) → RunsAtLeast doc p 0 j slow → IsEnough slow (call_timeout doc p + retry_period doc p + renew_deadline doc p) lasts → local doc p j < d → Within doc p s d
     → j < s + lasts + longest doc p
@@ -65,6 +61,9 @@ sent_soon doc p s j d slow lasts runs is acting (inl le) =
     omega (arith, soon)
 sent_soon doc p s j d slow lasts runs is acting (inr w) = ⊎_elim early late (cases_lt j w.from)
   where
+    counted : w.beats + 1 ≤ longest doc p
+    counted = counted_at p doc.events w.place w.from w.beats w.pauses
+
     early : j < w.from → j < s + lasts + longest doc p
     early lt =
         let ahead = w.ahead j lt in
@@ -84,16 +83,16 @@ sent_soon doc p s j d slow lasts runs is acting (inr w) = ⊎_elim early late (c
     late le = ⊎_elim inside outside (cases_lt j (w.from + w.beats))
       where
         inside : j < w.from + w.beats → j < s + lasts + longest doc p
-        inside lt = ⊎_elim (λ early. omega (arith, early, lt, w.counted)) (λ some.
+        inside lt = ⊎_elim (λ early. omega (arith, early, lt, counted)) (λ some.
             let few : w.from - 1 - s < lasts = fewer (w.from - 1 - s) lasts slow (call_timeout doc p + retry_period doc p + renew_deadline doc p) (omega (arith, some)) is in
-            omega (arith, few, lt, w.counted)) (before w.from refl le)
+            omega (arith, few, lt, counted)) (before w.from refl le)
 
         outside : w.from + w.beats ≤ j → j < s + lasts + longest doc p
         outside after =
             let rest : (j - (w.from + w.beats)) * slow < renew_deadline doc p = omega (arith, acting, w.within, goes_least doc p 0 j slow runs (w.from + w.beats) j (omega arith) after (omega arith)) in
             ⊎_elim
-            (λ early. let few : j - (w.from + w.beats) < lasts = fewer (j - (w.from + w.beats)) lasts slow (call_timeout doc p + retry_period doc p + renew_deadline doc p) (omega (arith, rest)) is in omega (arith, few, early, after, w.counted))
-            (λ some. let few = in_parts (w.from - 1 - s) (j - (w.from + w.beats)) slow (call_timeout doc p) (retry_period doc p) (renew_deadline doc p) lasts some rest is in omega (arith, few, after, w.counted))
+            (λ early. let few : j - (w.from + w.beats) < lasts = fewer (j - (w.from + w.beats)) lasts slow (call_timeout doc p + retry_period doc p + renew_deadline doc p) (omega (arith, rest)) is in omega (arith, few, early, after, counted))
+            (λ some. let few = in_parts (w.from - 1 - s) (j - (w.from + w.beats)) slow (call_timeout doc p) (retry_period doc p) (renew_deadline doc p) lasts some rest is in omega (arith, few, after, counted))
             (before w.from refl le)
 
 -- ---- the last write from then on
@@ -111,7 +110,7 @@ pub record Mine (doc : Doc) (p : Identity) (from : ℕ) (y : Held) : Type 0 wher
 abbrev Kept : Doc → Identity → ℕ → ℕ → Option Held → Type 0
 Kept doc p from needed t = (y : Held) × (t ≡ Some y) × (Mine doc p from y ⊎ (from + needed + 2 ≤ y.beat))
 
-module _ (doc : Doc) (premise : Premise doc) (sound : IsSound doc) (p q : Identity) (j k : ℕ) (end : k ≤ end_beat doc) (order : j ≤ k) (first : Acts doc p j) (last : Acts doc q k) (differ : p ≡ q → ⊥)
+module _ (doc : Doc) (premise : Premise doc) (sound : IsSound doc) (rules : ReleasesByStop doc) (p q : Identity) (j k : ℕ) (end : k ≤ end_beat doc) (order : j ≤ k) (first : Acts doc p j) (last : Acts doc q k) (differ : p ≡ q → ⊥)
     (keeps : KeepsLead doc p (at_turn doc p.process j)) (fast needed : ℕ) (runs : (c : ℕ) → is_controller doc c ≡ true → RunsAtMost doc c 0 k fast) (need : IsNeeded fast (waited_by doc.settings.rules.respect doc p.process) needed) where
   below_processes : (c : ℕ) → is_controller doc c ≡ true → c ≤ processes doc
   below_processes c role = let e : processes doc ≡ length doc.controllers + length doc.kubelets = length-append doc.controllers doc.kubelets in omega (arith, ltb-true c (length doc.controllers) role, e)
@@ -129,10 +128,10 @@ module _ (doc : Doc) (premise : Premise doc) (sound : IsSound doc) (p q : Identi
   in_whole = tail_trans here (history doc (suc k)) (whole_history doc) (turn_tail doc q.process k (below_processes q.process last.0)) (later_tail doc (suc k) (suc (end_beat doc)) (omega (arith, end)))
 
   waits : Waits doc w k here
-  waits = turn_known doc sound premise.high premise.greatest w (λ x h at from late. (omega arith, omega arith)) q.process k end in_whole
+  waits = turn_known doc sound rules premise.high premise.greatest w (λ x h at from late. (omega arith, omega arith)) q.process k end in_whole
 
   inv : Inv doc premise.high j start
-  inv = turn_right doc premise.high premise.greatest sound p.process j (omega (arith, order, end))
+  inv = turn_right doc premise.high premise.greatest (bears_own doc premise.high rules) sound p.process j (omega (arith, order, end))
 
   -- an entry's beat
   by_then : (x : Entry) (T : List Entry) → IsTail (x ∷ T) here → x.beat ≤ k
@@ -173,7 +172,7 @@ module _ (doc : Doc) (premise : Premise doc) (sound : IsSound doc) (p q : Identi
           inr (omega (arith, counted, waited.late.0, mine.since, took.after.0, t.beat))
 
   led_before : (T : List Entry) → IsTail start T → deadline doc p T ≡ None → ⊥
-  led_before T at none = by_deadline (deadline doc p start) (none_below _ start T at none) (and_right (is_present (alive p.process start) p.incarnation) (is_before (local doc p.process j) (deadline doc p start)) (term_of doc sound.2 p j start first.1))
+  led_before T at none = by_deadline (deadline doc p start) (none_below _ start T at none) (and_right (is_present (alive p.process start) p.incarnation) (is_before (local doc p.process j) (deadline doc p start)) (term_of doc rules p j start first.1))
     where
       by_deadline : (o : Option ℕ) → o ≡ None → is_before (local doc p.process j) o ≡ true → ⊥
       by_deadline None is acting = false_is acting
@@ -200,11 +199,11 @@ module _ (doc : Doc) (premise : Premise doc) (sound : IsSound doc) (p q : Identi
 
   -- ---- at beat k
 
-  stopped_never : (0 < stops q start) → IsTail start here → ⊥
-  stopped_never some at = let none = (is_holder doc premise sound q k end last).1 in absurd (omega (arith, some, none, count_tail (λ e. is_stop e.fact && is_by q e.actor) start here at))
+  gave_never : 0 < freed q start → IsTail start here → ⊥
+  gave_never some at = never_freed doc premise sound rules q k end last (omega (arith, some, count_tail (λ e. frees e.fact && is_by q e.actor) start here at))
 
   at_last : (from : ℕ) (y : Held) → stored election start ≡ Some y → y.by ≡ Some p → y.beat ≡ from → Kept doc p from needed (stored election start) → IsTail start here → from + needed + 3 ≤ k
-  at_last from y top by beat first_kept above = by_deadline (deadline doc q here) (waits.terms q last.0) (and_right (is_present (alive q.process here) q.incarnation) (is_before (local doc q.process k) (deadline doc q here)) (term_of doc sound.2 q k here last.1))
+  at_last from y top by beat first_kept above = by_deadline (deadline doc q here) (waits.terms q last.0) (and_right (is_present (alive q.process here) q.incarnation) (is_before (local doc q.process k) (deadline doc q here)) (term_of doc rules q k here last.1))
     where
       later : (n : ℕ) (s : Success w q n here) → n ≤ k → IsTail start (s.e ∷ s.before) → from + needed + 3 ≤ k
       later n s le at = ⊎_elim mine far kept.2
@@ -229,7 +228,7 @@ module _ (doc : Doc) (premise : Premise doc) (sound : IsSound doc) (p q : Identi
           far more = let e : kept.0.beat ≡ s.e.beat = ap (λ (y : Held). y.beat) same ∙ answered.0.beat in omega (arith, more, e, s.comes.0, le)
 
       earlier : (d n : ℕ) (s : Success w q n here) → local doc q.process k < d → Within doc q.process s.b.call.sent d → IsTail (s.e ∷ s.before) start → ⊥
-      earlier d n s acting within at = ⊎_elim (λ some. stopped_never some above) covered (subst (λ q. Covered doc premise.high (view start) q s.b.call.sent) s.who ((right.answer (subst (λ (q : Identity). is_controller doc q.process ≡ true) (sym s.who) last.0)).covered s.so))
+      earlier d n s acting within at = ⊎_elim (λ some. gave_never some above) covered (subst (λ q. Covered doc premise.high (view start) q s.b.call.sent) s.who ((right.answer (subst (λ (q : Identity). is_controller doc q.process ≡ true) (sym s.who) last.0)).covered s.so))
         where
           right : BackRight doc premise.high j (view start) s.e.beat s.b
           right = subst (λ o. IfSome o (BackRight doc premise.high j (view start) s.e.beat)) s.is (inv.entries s.e (in_tail s.e (s.e ∷ s.before) start at (inl refl))).1
@@ -240,7 +239,7 @@ module _ (doc : Doc) (premise : Premise doc) (sound : IsSound doc) (p q : Identi
           by_top : CoveredBy doc premise.high q s.b.call.sent (Some y) → ⊥
           by_top (inl own) = differ (some_is p q (sym by ∙ own.0))
           by_top (inr wide) =
-              crossed (y.beat - s.b.call.sent) (k - s.b.call.sent) (beat_micros doc) (premise.low q.process) premise.high (waited_by doc.settings.rules.respect doc q.process) (call_timeout doc q.process + retry_period doc q.process + renew_deadline doc q.process) (longest doc q.process)
+              crossed (y.beat - (s.b.call.sent + 1)) (k - s.b.call.sent) (beat_micros doc) (premise.low q.process) premise.high (waited_by doc.settings.rules.respect doc q.process) (call_timeout doc q.process + retry_period doc q.process + renew_deadline doc q.process) (longest doc q.process)
               (omega (arith, held.beat, order)) wide (true_time doc (premise.low q.process) q.process (premise.least q.process) s.b.call.sent k d end acting within) (premise.lease q.process last.0)
 
           covered : CoveredBy doc premise.high q s.b.call.sent (stored election start) → ⊥
@@ -253,11 +252,11 @@ module _ (doc : Doc) (premise : Premise doc) (sound : IsSound doc) (p q : Identi
 
   -- ---- at beat j
 
-  never_stopped : stops p start ≡ 0
-  never_stopped = (is_holder doc premise sound p j (omega (arith, order, end)) first).1
+  never_gave : 0 < freed p start → ⊥
+  never_gave = never_freed doc premise sound rules p j (omega (arith, order, end)) first
 
   at_start : IsTail start here
-  at_start = ⊎_elim (λ same. absurd (differ (exclusive doc premise sound p q k end (subst (Acts doc p) same first) last)))
+  at_start = ⊎_elim (λ same. absurd (differ (exclusive_own doc premise sound rules p q k end (subst (Acts doc p) same first) last)))
       (λ other. tail_trans start (history doc (suc j)) here (turn_tail doc p.process j (below_processes p.process first.0))
       (tail_trans (history doc (suc j)) (history doc k) here (later_tail doc (suc j) k (omega (arith, other, order))) (before_turn doc q.process k))) (cases_eq j k)
 
@@ -269,13 +268,13 @@ module _ (doc : Doc) (premise : Premise doc) (sound : IsSound doc) (p q : Identi
 
       cases : (o : Object) → y.object ≡ o → FitObject doc (view start) p o → Mine doc p y.beat y
       cases (object.Lease lease) is (inl fit) = record { by = by; since = omega arith; lease = lease; object = is; holder = fit.0; duration = fit.1 }
-      cases (object.Lease lease) is (inr free) = absurd (omega (arith, free.1, never_stopped))
+      cases (object.Lease lease) is (inr free) = absurd (never_gave free.1)
       cases (object.Node node) is fit = absurd fit
       cases (object.Pod pod) is fit = absurd fit
 
   -- its last write came after the sending of the success that it acts by
   sent_before : (y : Held) → stored election start ≡ Some y → (s : ℕ) → Covered doc premise.high (view start) p s → s < y.beat
-  sent_before y top s (inl stopped) = absurd (omega (arith, stopped, never_stopped))
+  sent_before y top s (inl gone) = absurd (never_gave gone)
   sent_before y top s (inr by) = cases (subst (CoveredBy doc premise.high p s) top by)
     where
       long : 0 < waited_by doc.settings.rules.respect doc p.process
@@ -284,15 +283,15 @@ module _ (doc : Doc) (premise : Premise doc) (sound : IsSound doc) (p q : Identi
       cases : CoveredBy doc premise.high p s (Some y) → s < y.beat
       cases (inl own) = own.1
       cases (inr wide) =
-          ⊎_elim (λ lt. lt) (λ le. let none : y.beat - s ≡ 0 = omega (arith, le) in absurd (omega (arith, wide, long, ap (λ n. n * (beat_micros doc * premise.high)) none))) (cases_lt s y.beat)
+          ⊎_elim (λ lt. lt) (λ le. let none : y.beat - (s + 1) ≡ 0 = omega (arith, le) in absurd (omega (arith, wide, long, ap (λ n. n * (beat_micros doc * premise.high)) none))) (cases_lt s y.beat)
 
   waited_long : (slow lasts : ℕ) → RunsAtLeast doc p.process 0 j slow → IsEnough slow (call_timeout doc p.process + retry_period doc p.process + renew_deadline doc p.process) lasts → j + needed + 5 ≤ k + lasts + longest doc p.process
-  waited_long slow lasts goes is = by_top (stored election start) refl (is_writer doc premise sound p j (omega (arith, order, end)) first)
+  waited_long slow lasts goes is = by_top (stored election start) refl (is_writer doc premise sound rules p j (omega (arith, order, end)) first)
     where
-      by_deadline : (y : Held) → stored election start ≡ Some y → (o : Option ℕ) → IfSome o (Led doc premise.high (view start) p) → is_before (local doc p.process j) o ≡ true → j + 2 ≤ y.beat + lasts + longest doc p.process
+      by_deadline : (y : Held) → stored election start ≡ Some y → (o : Option ℕ) → IfSome o (Led doc j start p) → is_before (local doc p.process j) o ≡ true → j + 2 ≤ y.beat + lasts + longest doc p.process
       by_deadline y top None led acting = absurd (false_is acting)
       by_deadline y top (Some d) led acting =
-          omega (arith, sent_before y top led.sent led.covered, sent_soon doc p.process led.sent j d slow lasts goes is (ltb-true _ _ acting) led.within)
+          omega (arith, sent_before y top led.sent (covered_of doc premise.high j start inv p first.0 led.sent led.answered), sent_soon doc p.process led.sent j d slow lasts goes is (ltb-true _ _ acting) led.within)
 
       by_top : (t : Option Held) → stored election start ≡ t → IsOwn p t → j + needed + 5 ≤ k + lasts + longest doc p.process
       by_top None top own = absurd own
@@ -300,9 +299,9 @@ module _ (doc : Doc) (premise : Premise doc) (sound : IsSound doc) (p q : Identi
           omega (
             arith,
             at_last y.beat y top own refl (y, top, inl (mine_at y top own)) at_start,
-            by_deadline y top (deadline doc p start) (inv.led p first.0) (and_right (is_present (alive p.process start) p.incarnation) (is_before (local doc p.process j) (deadline doc p start)) (term_of doc sound.2 p j start first.1)),
+            by_deadline y top (deadline doc p start) (inv.led p first.0) (and_right (is_present (alive p.process start) p.incarnation) (is_before (local doc p.process j) (deadline doc p start)) (term_of doc rules p j start first.1)),
           )
 
 pub others_wait : OthersWait
-others_wait doc is sound p q j k end order first last differ keeps slow lasts goes enough fast needed runs need =
-    waited_long doc (premise_from doc is) sound p q j k end order first last differ keeps fast needed runs need slow lasts goes enough
+others_wait doc is sound rules p q j k end order first last differ keeps slow lasts goes enough fast needed runs need =
+    waited_long doc (premise_from doc is) sound rules p q j k end order first last differ keeps fast needed runs need slow lasts goes enough

@@ -43,11 +43,11 @@ use Rattle.gap_laws.proofs.Waits.{Slow, Late, late_early, is_release, Arrives, W
 pub sent_given : (doc : Doc) (high k : ℕ) (h : List Entry) → Inv doc high k h → (e : Entry) → In e h → (s : Sent) → sent_of e.actor e.fact ≡ Some s → SentRight doc high k (view h) s
 sent_given doc high k h s e at x is = subst (λ o. IfSome o (SentRight doc high k (view h))) is (s.entries e at).0
 
-base_more : (doc : Doc) (w : Slow) (high : ℕ) (x : Entry) (h : List Entry) (q : Identity) (d : ℕ) (r : Request) → Moves x h → Asked doc high (view h) q d r → BaseWaited doc w q d (stored election h) r → BaseWaited doc w q d (stored election (x ∷ h)) r
-base_more doc w high x h q d (Get key) moves asked old = tt
-base_more doc w high x h q d (Create key lease) moves asked old = tt
-base_more doc w high x h q d (Update key version lease) moves asked old = moved x h version (WaitedFor doc w q d) moves asked.base.0 old
-base_more doc w high x h q d (PostStatus name status at) moves asked old = tt
+base_more : (doc : Doc) (w : Slow) (high : ℕ) (x : Entry) (h : List Entry) (q : Identity) (d : ℕ) (kind : CallKind) (r : Request) → Moves x h → Asked doc high (view h) q d kind r → BaseWaited doc w q d (stored election h) r → BaseWaited doc w q d (stored election (x ∷ h)) r
+base_more doc w high x h q d kind (Get key) moves asked old = tt
+base_more doc w high x h q d kind (Create key lease) moves asked old = tt
+base_more doc w high x h q d kind (Update key version lease) moves asked old = moved x h version (WaitedFor doc w q d) moves asked.base.0 old
+base_more doc w high x h q d kind (PostStatus name status at) moves asked old = tt
 
 pub sends_more : (doc : Doc) (w : Slow) (high k : ℕ) (x : Entry) (h : List Entry) → Moves x h → Inv doc high k h → Waits doc w k h → (e : Entry) → In e h → IfSome (sent_of e.actor e.fact) (SentWell doc w (x ∷ h))
 sends_more doc w high k x h moves inv s e at = cases (sent_of e.actor e.fact) refl (s.sends e at)
@@ -56,7 +56,7 @@ sends_more doc w high k x h moves inv s e at = cases (sent_of e.actor e.fact) re
     cases None is old = tt
     cases (Some y) is old = record {
       arrives = old.arrives;
-      base = λ role. base_more doc w high x h y.who y.call.sent y.call.request moves ((sent_given doc high k h inv e at y is).may.controller role) (old.base role);
+      base = λ role. base_more doc w high x h y.who y.call.sent y.call.kind y.call.request moves ((sent_given doc high k h inv e at y is).may.controller role) (old.base role);
     }
 
 pub shown_more : (doc : Doc) (w : Slow) (high k : ℕ) (x : Entry) (h : List Entry) → Moves x h → Inv doc high k h → Waits doc w k h → (q : Identity) → is_controller doc q.process ≡ true

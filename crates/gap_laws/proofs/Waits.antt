@@ -16,7 +16,7 @@ use Rattle.kube_objects.specs.Stored.{Held, election, stored, at_key, write_of, 
 use Rattle.kube_objects.specs.Wire.{Sent, Back, sent_of, back_of}
 use Rattle.history_laws.specs.Tails.{In, IsTail}
 use Rattle.history_laws.proofs.Tailed.{same_head, same_rest}
-use Rattle.lease_laws.proofs.Invariant.{view, Fit, OnTop, Within}
+use Rattle.lease_laws.proofs.Invariant.{Fit, OnTop, Within}
 use Rattle.lease_laws.specs.Respects.{respected_time}
 
 -- from a beat on the delays of a process are at least so many beats
@@ -83,7 +83,7 @@ pub record Topped (doc : Doc) (f : Entry) (before : List Entry) : Type 0 where
   pub write : at_key election (write_of f.fact) ≡ Some (Some x.object)
   pub lease : Lease
   pub object : x.object ≡ object.Lease lease
-  pub fit : Fit doc (view before) b.who lease
+  pub fit : Fit doc b.call.kind b.who lease
 
 -- a call of a controller that succeeds has written
 abbrev pub Answered : Doc → Slow → Entry → List Entry → Type 0

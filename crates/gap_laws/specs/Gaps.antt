@@ -9,6 +9,7 @@ use Rattle.kube_objects.specs.Document.{Doc, end_beat, is_controller, call_timeo
 use Rattle.kube_objects.specs.Elector.{lead_says}
 use Rattle.kube_objects.specs.Entry.{Entry, Identity}
 use Rattle.kube_objects.specs.Identities.{identity_of, is_other}
+use Rattle.kube_objects.specs.Own.{ReleasesByStop}
 use Rattle.kube_objects.specs.Stored.{Held, election, stored, at_key, write_of, next_version}
 use Rattle.kube_objects.specs.Wire.{request_delay, reply_delay}
 use Rattle.history.specs.History.{whole_history, at_turn}
@@ -39,11 +40,11 @@ pub record IsTakenFrom (q : Identity) (before : List Entry) (y : Held) (lease : 
   pub object : y.object ≡ object.Lease lease
   pub other : is_other q lease.holder ≡ true
 
--- whoever comes to lead at beat k by a write over the record of somebody else, which was written at beat w and isn't given up, does so no sooner
+-- where leaders give up their Leases at stops alone: whoever comes to lead at beat k by a write over the record of somebody else, which was written at beat w and isn't given up, does so no sooner
 -- than the time that it waits for such a record takes on its own clock since then, and the way of a reply, of a request and of a reply
 abbrev pub GapLasts : Doc → Type 0
 GapLasts doc =
-    IsSound doc → (q : Identity) → is_controller doc q.process ≡ true
+    IsSound doc → ReleasesByStop doc → (q : Identity) → is_controller doc q.process ≡ true
     → (e : Entry) (earlier before : List Entry) (version : Version) → IsTail (e ∷ earlier) (whole_history doc) → lead_says q e.actor e.fact ≡ Some version → IsWriteOf version earlier before
     → (y : Held) (lease : Lease) → IsTakenFrom q before y lease
     → (fast needed : ℕ) → RunsAtMost doc q.process y.beat e.beat fast → IsNeeded fast (respected_time doc q.process lease) needed
@@ -64,7 +65,7 @@ KeepsLead doc p from =
 -- least for the least of all
 abbrev pub OtherWaits : Doc → Type 0
 OtherWaits doc =
-    lease_premise doc ≡ true → IsSound doc → (p q : Identity) (j k : ℕ) → k ≤ end_beat doc → j ≤ k → Acts doc p j → Acts doc q k → (p ≡ q → ⊥)
+    lease_premise doc ≡ true → IsSound doc → ReleasesByStop doc → (p q : Identity) (j k : ℕ) → k ≤ end_beat doc → j ≤ k → Acts doc p j → Acts doc q k → (p ≡ q → ⊥)
     → KeepsLead doc p (at_turn doc p.process j)
     → (slow lasts : ℕ) → RunsAtLeast doc p.process 0 j slow → IsEnough slow (call_timeout doc p.process + retry_period doc p.process + renew_deadline doc p.process) lasts
     → (fast needed : ℕ) → ((c : ℕ) → is_controller doc c ≡ true → RunsAtMost doc c 0 k fast) → IsNeeded fast (waited_by doc.settings.rules.respect doc p.process) needed

@@ -16,6 +16,7 @@ use Rattle.kube_objects.specs.Entry.{Entry, Identity, Call, Plain, Fact, Sends, 
 use Rattle.kube_objects.specs.Identities.{identity_of, is_same, is_by}
 use Rattle.kube_objects.specs.Kubelet.{node_of, is_post, ends_round, round_says, round_period, round_timer_says, round_timer, heartbeat_lease, next_request, send_next}
 use Rattle.kube_objects.specs.Newest.{newest, when, join, has, or_else, or_zero}
+use Rattle.kube_objects.specs.Own.{ReleasesByStop}
 use Rattle.kube_objects.specs.Process.{alive, last_call, call_in, is_late}
 use Rattle.kube_objects.specs.Stored.{Held, node_key, node_lease, key_of, at_key, request_write, stored, next_version}
 use Rattle.kube_objects.specs.Turns.{with_reply, expired_in}
@@ -138,7 +139,7 @@ pub record WritesAt (doc : Doc) (name e w : ℕ) : Type 0 where
   pub tells : tells_of name y.fact ≡ true
   pub beat : y.beat ≡ w
 
-module _ (doc : Doc) (sound : IsSound doc) (near far s l : ℕ) (q : Identity) (role : is_controller doc q.process ≡ false) (steady : IsSteady doc near far s l q.process) where
+module _ (doc : Doc) (sound : IsSound doc) (rules : ReleasesByStop doc) (near far s l : ℕ) (q : Identity) (role : is_controller doc q.process ≡ false) (steady : IsSteady doc near far s l q.process) where
   -- when a request arrives
   pub arrives_in : (x : Entry) (T : List Entry) (call : Call) (arrives : Option ℕ) (m : ℕ) → IsTail (x ∷ T) (history doc m) → x.actor ≡ actor_of q → x.fact ≡ Sends call arrives → s ≤ x.beat → x.beat ≤ l
       → ((k : ℕ) → s ≤ k → k ≤ l + far → is_stalled doc k ≡ false) → (w : ℕ) × (arrives ≡ Some w) × (x.beat + near ≤ w) × (w ≤ x.beat + far)
@@ -146,17 +147,17 @@ module _ (doc : Doc) (sound : IsSound doc) (near far s l : ℕ) (q : Identity) (
       (x.beat + request_delay q.process (with_events doc x.beat), sending.arrives_is ∙ comes, omega (arith, passes.request_least), omega (arith, passes.request_most))
     where
       sending : KubeletSends doc x.beat x.step q call arrives T
-      sending = sends_as doc sound m q role x T call arrives at actor fact
+      sending = sends_as doc sound rules m q role x T call arrives at actor fact
 
       passes : Passes doc near far q.process x.beat
       passes = steady.passes x.beat from to
 
       comes : request_arrival doc q.process x.beat T ≡ Some (x.beat + request_delay q.process (with_events doc x.beat))
       comes =
-          request_passes doc sound.2 near far q.process x.beat T passes (forces_stand doc sound.2 m x T at (omega (arith, sending.late)))
+          request_passes doc rules near far q.process x.beat T passes (forces_stand doc rules m x T at (omega (arith, sending.late)))
           (goes (x.beat + request_delay q.process (with_events doc x.beat)) (omega (arith, from)) (omega (arith, passes.request_most, to)))
 
-module _ (doc : Doc) (sound : IsSound doc) (near far s l e : ℕ) (q : Identity) (role : is_controller doc q.process ≡ false) (steady : IsSteady doc near far s l q.process)
+module _ (doc : Doc) (sound : IsSound doc) (rules : ReleasesByStop doc) (near far s l e : ℕ) (q : Identity) (role : is_controller doc q.process ≡ false) (steady : IsSteady doc near far s l q.process)
     (up_first : alive q.process (with_events doc s) ≡ Some q.incarnation) (fast : ℕ) (runs : RunsAtMost doc q.process s e fast) (timeout : (2 * far) * fast ≤ call_timeout doc q.process) (one : 1 ≤ near) (within : l ≤ e) where
   module _ (alone : TellsAlone doc s e q (node_of doc q.process)) (leases : IsLeaseKey doc e (node_of doc q.process)) (end : l + far ≤ e) (goes : (k : ℕ) → s ≤ k → k ≤ l + far → is_stalled doc k ≡ false)
       (x : Entry) (T : List Entry) (call : Call) (arrives : Option ℕ) (at : IsTail (x ∷ T) (history doc (suc l))) (actor : x.actor ≡ actor_of q) (fact : x.fact ≡ Sends call arrives) (post : is_post call.request ≡ true)
@@ -170,7 +171,7 @@ module _ (doc : Doc) (sound : IsSound doc) (near far s l e : ℕ) (q : Identity)
     -- ---- the post's reply, and the Get
 
     r1 : Replied doc near far q call arrives x.beat
-    r1 = replied doc sound near far s l e q role steady up_first fast runs timeout one within x T call arrives at actor fact from (omega (arith, to))
+    r1 = replied doc sound rules near far s l e q role steady up_first fast runs timeout one within x T call arrives at actor fact from (omega (arith, to))
 
     abbrev y1 : ℕ
     y1 = r1.round.comes
@@ -199,7 +200,7 @@ module _ (doc : Doc) (sound : IsSound doc) (near far s l e : ℕ) (q : Identity)
     -- ---- its reply, and the write
 
     r2 : Replied doc near far q get (request_arrival doc q.process y1 after_post_reply) y1
-    r2 = replied doc sound near far s l e q role steady up_first fast runs timeout one within x2 after_post_reply get (request_arrival doc q.process y1 after_post_reply) in_2 refl refl (omega (arith, y1_least, from)) (omega (arith, y1_most, to))
+    r2 = replied doc sound rules near far s l e q role steady up_first fast runs timeout one within x2 after_post_reply get (request_arrival doc q.process y1 after_post_reply) in_2 refl refl (omega (arith, y1_least, from)) (omega (arith, y1_most, to))
 
     abbrev B2 : List Entry
     B2 = r2.round.before
@@ -244,7 +245,7 @@ module _ (doc : Doc) (sound : IsSound doc) (near far s l e : ℕ) (q : Identity)
     in_3e = tail_trans (x3 ∷ after_get_reply) (history doc (suc l)) (history doc (suc e)) in_3 (later_tail doc (suc l) (suc e) (omega (arith, within)))
 
     arriving : (w : ℕ) × (request_arrival doc q.process y2 after_get_reply ≡ Some w) × (y2 + near ≤ w) × (w ≤ y2 + far)
-    arriving = arrives_in doc sound near far s l q role steady x3 after_get_reply put (request_arrival doc q.process y2 after_get_reply) (suc y2) at_3 refl refl (omega (arith, y2_least, from)) (omega (arith, y2_most, to)) goes
+    arriving = arrives_in doc sound rules near far s l q role steady x3 after_get_reply put (request_arrival doc q.process y2 after_get_reply) (suc y2) at_3 refl refl (omega (arith, y2_least, from)) (omega (arith, y2_most, to)) goes
 
     abbrev w : ℕ
     w = arriving.0
@@ -324,7 +325,7 @@ module _ (doc : Doc) (sound : IsSound doc) (near far s l e : ℕ) (q : Identity)
         f_fact = (sends_of f.actor f.fact made.s made.arriving.is).1 ∙ ap (λ c. Sends c made.s.arrives) (sym made.call_is)
 
         sending : KubeletSends doc f.beat f.step q c made.s.arrives S
-        sending = sends_as doc sound (suc e) q role f S c made.s.arrives f_in f_actor f_fact
+        sending = sends_as doc sound rules (suc e) q role f S c made.s.arrives f_in f_actor f_fact
 
         f_late : s ≤ f.beat
         f_late = let b : c.sent ≡ f.beat = ap (λ (c : Call). c.sent) sending.call_is in omega (arith, b, sent_late)
@@ -339,7 +340,7 @@ module _ (doc : Doc) (sound : IsSound doc) (near far s l e : ℕ) (q : Identity)
         no_other : (g : List Entry) → IsTail g t → IsTail t (history doc (suc e)) → HasAnswer q c.number g → ⊥
         no_other g low at_t has_one =
             let p = place_of has_one.z g has_one.stands in
-            let same = answers_differ doc sound.2 (suc e) has_one.z y p.before t has_one.b back (tail_trans (has_one.z ∷ p.before) g (history doc (suc e)) p.position (tail_trans g t (history doc (suc e)) low at_t)) y_in has_one.is y_back has_one.who has_one.number_is in
+            let same = answers_differ doc rules (suc e) has_one.z y p.before t has_one.b back (tail_trans (has_one.z ∷ p.before) g (history doc (suc e)) p.position (tail_trans g t (history doc (suc e)) low at_t)) y_in has_one.is y_back has_one.who has_one.number_is in
             no_cycle y t (tail_trans (y ∷ t) g t (subst (λ h. IsTail h g) same p.position) low)
 
         t_in : IsTail t (history doc (suc e))
@@ -363,7 +364,7 @@ module _ (doc : Doc) (sound : IsSound doc) (near far s l e : ℕ) (q : Identity)
         is_earlier low =
             let d1_in : IsTail after_post_reply (history doc (suc l)) = tail_trans after_post_reply (x2 ∷ after_post_reply) (history doc (suc l)) (inr (tail_all after_post_reply)) in_2 in
             no_other after_post_reply (tail_trans after_post_reply (x2 ∷ after_post_reply) t (inr (tail_all after_post_reply)) get_before) t_in
-            (one_at_a_time doc sound near far s l e q role steady up_first fast runs timeout one within f S c made.s.arrives (tail_trans (f ∷ S) after_post_reply (history doc (suc l)) low d1_in) f_actor f_fact f_late
+            (one_at_a_time doc sound rules near far s l e q role steady up_first fast runs timeout one within f S c made.s.arrives (tail_trans (f ∷ S) after_post_reply (history doc (suc l)) low d1_in) f_actor f_fact f_late
             x2 after_post_reply get (request_arrival doc q.process y1 after_post_reply) in_2 refl refl low)
 
         -- the call of the write is answered above
@@ -375,19 +376,19 @@ module _ (doc : Doc) (sound : IsSound doc) (near far s l e : ℕ) (q : Identity)
 
             same : y ∷ t ≡ a3 ∷ B3
             same =
-                answers_differ doc sound.2 (suc e) y a3 t B3 back (record { who = q; call = put; reply = answer a.request B3; comes = reply_arrival doc q.process w B3 }) y_in a3_in y_back refl refl (ap (λ (c : Call). c.number) that)
+                answers_differ doc rules (suc e) y a3 t B3 back (record { who = q; call = put; reply = answer a.request B3; comes = reply_arrival doc q.process w B3 }) y_in a3_in y_back refl refl (ap (λ (c : Call). c.number) that)
 
         -- no call is sent between the two
         is_between : IsTail (x2 ∷ after_post_reply) S → IsTail (f ∷ S) after_get_reply → ⊥
         is_between low high =
             omega (
               arith,
-              (number_is doc sound (suc e) q role c made.s.arrives f S f_in f_actor f_fact).1,
-              (number_is doc sound (suc l) q role get (request_arrival doc q.process y1 after_post_reply) x2 after_post_reply in_2 refl refl).0,
-              (number_is doc sound (suc l) q role get (request_arrival doc q.process y1 after_post_reply) x2 after_post_reply in_2 refl refl).1,
+              (number_is doc sound rules (suc e) q role c made.s.arrives f S f_in f_actor f_fact).1,
+              (number_is doc sound rules (suc l) q role get (request_arrival doc q.process y1 after_post_reply) x2 after_post_reply in_2 refl refl).0,
+              (number_is doc sound rules (suc l) q role get (request_arrival doc q.process y1 after_post_reply) x2 after_post_reply in_2 refl refl).1,
               begun_tail q (x2 ∷ after_post_reply) S low,
               begun_tail q (f ∷ S) after_get_reply high,
-              newest_number doc sound (suc l) q role r2.before before_in get r2.waits,
+              newest_number doc sound rules (suc l) q role r2.before before_in get r2.waits,
             )
           where
             before_in : IsTail r2.before (history doc (suc l))
@@ -395,7 +396,7 @@ module _ (doc : Doc) (sound : IsSound doc) (near far s l e : ℕ) (q : Identity)
 
         -- nor after the write's call while it waits
         is_later : IsTail (x3 ∷ after_get_reply) S → ⊥
-        is_later low = ⊎_elim (λ waits. none_is put (sym sending.free ∙ waits)) closed (waits_on doc sound (suc e) q role put (request_arrival doc q.process y2 after_get_reply) x3 after_get_reply in_3e refl refl S s_in low)
+        is_later low = ⊎_elim (λ waits. none_is put (sym sending.free ∙ waits)) closed (waits_on doc sound rules (suc e) q role put (request_arrival doc q.process y2 after_get_reply) x3 after_get_reply in_3e refl refl S s_in low)
           where
             s_low : IsTail S t
             s_low = tail_trans S (f ∷ S) t (inr (tail_all S)) f_at
@@ -408,7 +409,7 @@ module _ (doc : Doc) (sound : IsSound doc) (near far s l e : ℕ) (q : Identity)
 
             on_time : (z : Entry) (Z : List Entry) → IsTail (z ∷ Z) S → IsTail (x3 ∷ after_get_reply) Z → z.actor ≡ actor_of q → is_late doc q z.beat put ≡ true → call_in q Z ≡ Some put → ⊥
             on_time z Z z_at z_since z_mine late waits =
-                true_is (sym late ∙ timely doc sound near far s l e q role steady up_first fast runs timeout one within put y2 z.beat refl (omega (arith, y2_least, from)) after (omega (arith, upto, arriving.3)) (omega (arith, upto, w_end)))
+                true_is (sym late ∙ timely doc sound rules near far s l e q role steady up_first fast runs timeout one within put y2 z.beat refl (omega (arith, y2_least, from)) after (omega (arith, upto, arriving.3)) (omega (arith, upto, w_end)))
               where
                 in_B3 : In z B3
                 in_B3 = in_tail z (z ∷ Z) B3 (tail_trans (z ∷ Z) S B3 z_at s_B3) (inl refl)
@@ -422,13 +423,13 @@ module _ (doc : Doc) (sound : IsSound doc) (near far s l e : ℕ) (q : Identity)
                     (below_ordered z Z (history doc (suc e)) (tail_trans (z ∷ Z) S (history doc (suc e)) z_at s_in) (entries_are_ordered doc (suc e)) x3 (in_tail x3 (x3 ∷ after_get_reply) Z z_since (inl refl)))
 
             closed : IsClosed q put (x3 ∷ after_get_reply) S → ⊥
-            closed closing = by_answer (closed_answered doc sound (suc e) q role put (x3 ∷ after_get_reply) S s_in closing on_time)
+            closed closing = by_answer (closed_answered doc sound rules (suc e) q role put (x3 ∷ after_get_reply) S s_in closing on_time)
               where
                 by_answer : HasAnswer q put.number S → ⊥
                 by_answer has_one =
                     let p = place_of has_one.z S has_one.stands in
                     let same =
-                    answers_differ doc sound.2 (suc e) has_one.z a3 p.before B3 has_one.b (record { who = q; call = put; reply = answer a.request B3; comes = reply_arrival doc q.process w B3 })
+                    answers_differ doc rules (suc e) has_one.z a3 p.before B3 has_one.b (record { who = q; call = put; reply = answer a.request B3; comes = reply_arrival doc q.process w B3 })
                     (tail_trans (has_one.z ∷ p.before) S (history doc (suc e)) p.position s_in) a3_in has_one.is refl has_one.who has_one.number_is in
                     no_cycle a3 B3 (tail_trans (a3 ∷ B3) S B3 (subst (λ h. IsTail h S) same p.position) s_B3)
 
@@ -459,10 +460,10 @@ module _ (doc : Doc) (sound : IsSound doc) (near far s l e : ℕ) (q : Identity)
         where
           by_test : (b : Bool) → tells_of name y.fact ≡ b → b ≡ false
           by_test false tells = refl
-          by_test true tells = absurd (refute y.fact refl (alone y t y_in tells (omega (arith, y_late, y1_least, from, one))) (are_made doc sound.2 (suc e) y t y_in) tells)
+          by_test true tells = absurd (refute y.fact refl (alone y t y_in tells (omega (arith, y_late, y1_least, from, one))) (are_made doc rules (suc e) y t y_in) tells)
 
     same_lease : stored key B3 ≡ stored key B2
-    same_lease = (same_words name B2 B3 B2_low (words_tail name B3 (history doc (suc e)) B3_in (words doc sound.2 name (suc e))) untold).lease
+    same_lease = (same_words name B2 B3 B2_low (words_tail name B3 (history doc (suc e)) B3_in (words doc rules name (suc e))) untold).lease
 
     pub round_writes : (w : ℕ) × WritesAt doc name e w × (x.beat + 5 * near ≤ w)
     round_writes = (
@@ -482,7 +483,7 @@ module _ (doc : Doc) (sound : IsSound doc) (near far s l e : ℕ) (q : Identity)
     -- where there is time for the third reply too
     module _ (more : x.beat + 6 * far ≤ l) where
       r3 : Replied doc near far q put (request_arrival doc q.process y2 after_get_reply) y2
-      r3 = replied doc sound near far s l e q role steady up_first fast runs timeout one within x3 after_get_reply put (request_arrival doc q.process y2 after_get_reply) in_3 refl refl (omega (arith, y2_least, from)) (omega (arith, y2_most, more))
+      r3 = replied doc sound rules near far s l e q role steady up_first fast runs timeout one within x3 after_get_reply put (request_arrival doc q.process y2 after_get_reply) in_3 refl refl (omega (arith, y2_least, from)) (omega (arith, y2_most, more))
 
       abbrev y3 : ℕ
       y3 = r3.round.comes
@@ -517,8 +518,8 @@ module _ (doc : Doc) (sound : IsSound doc) (near far s l e : ℕ) (q : Identity)
 
       up_at : (h : List Entry) → IsTail (x ∷ T) h → IsTail h (history doc (suc l)) → alive q.process h ≡ Some q.incarnation
       up_at h since h_in =
-          let low = since_low doc s l x T at from (sends_as doc sound (suc l) q role x T call arrives at actor fact).late in
-          stays_up doc sound near far s l q role steady (with_events doc s) h (tail_all (with_events doc s))
+          let low = since_low doc s l x T at from (sends_as doc sound rules (suc l) q role x T call arrives at actor fact).late in
+          stays_up doc sound rules near far s l q role steady (with_events doc s) h (tail_all (with_events doc s))
           (tail_trans (with_events doc s) T h low (tail_trans T (x ∷ T) h (inr (tail_all T)) since)) h_in (omega (arith, from, to)) up_first
 
       low_1 : IsTail (x ∷ T) after_post_reply
@@ -549,21 +550,21 @@ module _ (doc : Doc) (sound : IsSound doc) (near far s l e : ℕ) (q : Identity)
 
       timer_1 : round_timer doc q after_post_reply ≡ round_timer doc q (x ∷ T)
       timer_1 =
-          timer_stays doc sound (suc l) q role (x ∷ T) (λ h since h_in. up_at h since h_in) after_post_reply low_1 D1_in
-          (omega (arith, newest_number doc sound (suc l) q role r1.before (below_top (entry y1 3 q (Delivers call (answer call.request r1.round.before) true)) r1.before D1_in) call r1.waits, (number_is doc sound (suc l) q role call arrives x T at actor fact).0, (number_is doc sound (suc l) q role call arrives x T at actor fact).1))
+          timer_stays doc sound rules (suc l) q role (x ∷ T) (λ h since h_in. up_at h since h_in) after_post_reply low_1 D1_in
+          (omega (arith, newest_number doc sound rules (suc l) q role r1.before (below_top (entry y1 3 q (Delivers call (answer call.request r1.round.before) true)) r1.before D1_in) call r1.waits, (number_is doc sound rules (suc l) q role call arrives x T at actor fact).0, (number_is doc sound rules (suc l) q role call arrives x T at actor fact).1))
 
       since_2 : (h : List Entry) → IsTail (x2 ∷ after_post_reply) h → IsTail (x ∷ T) h
       since_2 h since = tail_trans (x ∷ T) (x2 ∷ after_post_reply) h (inr low_1) since
 
       timer_2 : round_timer doc q after_get_reply ≡ round_timer doc q (x2 ∷ after_post_reply)
       timer_2 =
-          timer_stays doc sound (suc l) q role (x2 ∷ after_post_reply) (λ h since h_in. up_at h (since_2 h since) h_in) after_get_reply low_2 D2_in
-          (omega (arith, newest_number doc sound (suc l) q role r2.before (below_top (entry y2 3 q (Delivers get (answer (Get key) B2) true)) r2.before D2_in) get r2.waits, (number_is doc sound (suc l) q role get (request_arrival doc q.process y1 after_post_reply) x2 after_post_reply in_2 refl refl).0, (number_is doc sound (suc l) q role get (request_arrival doc q.process y1 after_post_reply) x2 after_post_reply in_2 refl refl).1))
+          timer_stays doc sound rules (suc l) q role (x2 ∷ after_post_reply) (λ h since h_in. up_at h (since_2 h since) h_in) after_get_reply low_2 D2_in
+          (omega (arith, newest_number doc sound rules (suc l) q role r2.before (below_top (entry y2 3 q (Delivers get (answer (Get key) B2) true)) r2.before D2_in) get r2.waits, (number_is doc sound rules (suc l) q role get (request_arrival doc q.process y1 after_post_reply) x2 after_post_reply in_2 refl refl).0, (number_is doc sound rules (suc l) q role get (request_arrival doc q.process y1 after_post_reply) x2 after_post_reply in_2 refl refl).1))
 
       timer_3 : round_timer doc q after_write_reply ≡ round_timer doc q (x3 ∷ after_get_reply)
       timer_3 =
-          timer_stays doc sound (suc l) q role (x3 ∷ after_get_reply) (λ h since h_in. up_at h (since_2 h (tail_trans (x2 ∷ after_post_reply) (x3 ∷ after_get_reply) h (inr low_2) since)) h_in) after_write_reply low_3 D3_in
-          (omega (arith, newest_number doc sound (suc l) q role r3.before (below_top (entry y3 3 q (Delivers put (answer a.request r3.round.before) true)) r3.before D3_in) put r3.waits, (number_is doc sound (suc l) q role put (request_arrival doc q.process y2 after_get_reply) x3 after_get_reply in_3 refl refl).0, (number_is doc sound (suc l) q role put (request_arrival doc q.process y2 after_get_reply) x3 after_get_reply in_3 refl refl).1))
+          timer_stays doc sound rules (suc l) q role (x3 ∷ after_get_reply) (λ h since h_in. up_at h (since_2 h (tail_trans (x2 ∷ after_post_reply) (x3 ∷ after_get_reply) h (inr low_2) since)) h_in) after_write_reply low_3 D3_in
+          (omega (arith, newest_number doc sound rules (suc l) q role r3.before (below_top (entry y3 3 q (Delivers put (answer a.request r3.round.before) true)) r3.before D3_in) put r3.waits, (number_is doc sound rules (suc l) q role put (request_arrival doc q.process y2 after_get_reply) x3 after_get_reply in_3 refl refl).0, (number_is doc sound rules (suc l) q role put (request_arrival doc q.process y2 after_get_reply) x3 after_get_reply in_3 refl refl).1))
 
       timer_put : round_timer doc q (x3 ∷ after_get_reply) ≡ round_timer doc q after_get_reply
       timer_put = ap (λ b. or_zero (upper (when (b && is_same q q) (local doc q.process y2 + round_period doc)) (newest (λ e T. round_timer_says doc q e.beat e.actor e.fact) after_get_reply))) a.plain

@@ -8,6 +8,7 @@ use Rattle.kube_objects.specs.Entry.{Entry, Identity, Call, Fact, First as First
 use Rattle.kube_objects.specs.Identities.{is_by}
 use Rattle.kube_objects.specs.Kubelet.{next_request, send_next}
 use Rattle.kube_objects.specs.Newest.{when, join}
+use Rattle.kube_objects.specs.Own.{ReleasesByStop}
 use Rattle.kube_objects.specs.Process.{alive, begun, last_call, call_in, is_late}
 use Rattle.kube_objects.specs.Turns.{with_reply}
 use Rattle.kube_objects.specs.Wire.{Back, back_of}
@@ -37,11 +38,11 @@ pub record HasAnswer (q : Identity) (number : ℕ) (h : List Entry) : Type 0 whe
   pub who : b.who ≡ q
   pub number_is : b.call.number ≡ number
 
-module _ (doc : Doc) (sound : IsSound doc) (m : ℕ) (q : Identity) (role : is_controller doc q.process ≡ false) where
+module _ (doc : Doc) (sound : IsSound doc) (rules : ReleasesByStop doc) (m : ℕ) (q : Identity) (role : is_controller doc q.process ≡ false) where
   -- what closes a call but by its expiry is the reply to it
   pub closed_answered : (call : Call) (low h : List Entry) → IsTail h (history doc m) → (c : IsClosed q call low h)
       → ((z : Entry) (Z : List Entry) → IsTail (z ∷ Z) h → IsTail low Z → z.actor ≡ actor_of q → is_late doc q z.beat call ≡ true → call_in q Z ≡ Some call → ⊥) → HasAnswer q call.number h
-  closed_answered call low h within c on_time = cases c.e.actor c.e.fact refl refl (are_made doc sound.2 m c.e c.before position) (kubelet_makes doc sound m c.e c.before position) c.closes
+  closed_answered call low h within c on_time = cases c.e.actor c.e.fact refl refl (are_made doc rules m c.e c.before position) (kubelet_makes doc sound rules m c.e c.before position) c.closes
     where
       position : IsTail (c.e ∷ c.before) (history doc m)
       position = tail_trans (c.e ∷ c.before) h (history doc m) c.position within
@@ -81,18 +82,18 @@ module _ (doc : Doc) (sound : IsSound doc) (m : ℕ) (q : Identity) (role : is_c
       cases who (Leads version) actor fact made makes closes = elim closes [ ]
       cases who (Ticks tick) actor fact made makes closes = elim closes [ ]
 
-module _ (doc : Doc) (sound : IsSound doc) (near far s l e : ℕ) (q : Identity) (role : is_controller doc q.process ≡ false) (steady : IsSteady doc near far s l q.process)
+module _ (doc : Doc) (sound : IsSound doc) (rules : ReleasesByStop doc) (near far s l e : ℕ) (q : Identity) (role : is_controller doc q.process ≡ false) (steady : IsSteady doc near far s l q.process)
     (up_first : alive q.process (with_events doc s) ≡ Some q.incarnation) (fast : ℕ) (runs : RunsAtMost doc q.process s e fast) (timeout : (2 * far) * fast ≤ call_timeout doc q.process) (one : 1 ≤ near) (within : l ≤ e) where
   module _ (x : Entry) (T : List Entry) (call : Call) (arrives : Option ℕ) (at : IsTail (x ∷ T) (history doc (suc l))) (actor : x.actor ≡ actor_of q) (fact : x.fact ≡ Sends call arrives) (from : s ≤ x.beat) where
     sent_beat : call.sent ≡ x.beat
-    sent_beat = ap (λ (c : Call). c.sent) (sends_as doc sound (suc l) q role x T call arrives at actor fact).call_is
+    sent_beat = ap (λ (c : Call). c.sent) (sends_as doc sound rules (suc l) q role x T call arrives at actor fact).call_is
 
     -- once a reply counted, the call doesn't wait again
     never_again : (to : x.beat + 2 * far ≤ l) (z : Entry) (Z : List Entry) → IsTail (z ∷ Z) (history doc (suc l)) → x.beat + 2 * far < z.beat → call_in q Z ≡ Some call → ⊥
     never_again to z Z at_z late waits = by_place (tails_meet D (z ∷ Z) (history doc (suc l)) at_d at_z)
       where
         r : Replied doc near far q call arrives x.beat
-        r = replied doc sound near far s l e q role steady up_first fast runs timeout one within x T call arrives at actor fact from to
+        r = replied doc sound rules near far s l e q role steady up_first fast runs timeout one within x T call arrives at actor fact from to
 
         y : ℕ
         y = r.round.comes
@@ -116,13 +117,13 @@ module _ (doc : Doc) (sound : IsSound doc) (near far s l e : ℕ) (q : Identity)
         no_call = ap (λ b. join (upper (when b None) (last_call q r.before))) (same_self q)
 
         number_then : call.number ≡ begun q r.before
-        number_then = newest_number doc sound (suc l) q role r.before before_at call r.waits
+        number_then = newest_number doc sound rules (suc l) q role r.before before_at call r.waits
 
         below_z : IsTail Z (history doc (suc l))
         below_z = tail_trans Z (z ∷ Z) (history doc (suc l)) (inr (tail_all Z)) at_z
 
         number_now : call.number ≡ begun q Z
-        number_now = newest_number doc sound (suc l) q role Z below_z call waits
+        number_now = newest_number doc sound rules (suc l) q role Z below_z call waits
 
         early : IsWithin y 3 z → ⊥
         early (inl lt) = omega (arith, lt, late, soon)
@@ -130,7 +131,7 @@ module _ (doc : Doc) (sound : IsSound doc) (near far s l e : ℕ) (q : Identity)
 
         by_place : IsTail D (z ∷ Z) ⊎ IsTail (z ∷ Z) D → ⊥
         by_place (inl (inl is)) = let b : y ≡ z.beat = ap (λ (x : Entry). x.beat) (same_head (entry y 3 q (Delivers call (answer call.request r.round.before) true)) z r.before Z is) in omega (arith, b, late, soon)
-        by_place (inl (inr low)) = none_is call (sym (none_stays doc sound (suc l) q role D Z low (omega (arith, number_then, number_now)) no_call) ∙ waits)
+        by_place (inl (inr low)) = none_is call (sym (none_stays doc sound rules (suc l) q role D Z low (omega (arith, number_then, number_now)) no_call) ∙ waits)
         by_place (inr (inl is)) = let b : z.beat ≡ y = ap (λ (x : Entry). x.beat) (same_head z (entry y 3 q (Delivers call (answer call.request r.round.before) true)) Z r.before is) in omega (arith, b, late, soon)
         by_place (inr (inr low)) =
             early (below_ordered (entry y 3 q (Delivers call (answer call.request r.round.before) true)) r.before (history doc (suc l)) at_d (entries_are_ordered doc (suc l)) z (in_tail z (z ∷ Z) r.before low (inl refl)))
@@ -149,15 +150,15 @@ module _ (doc : Doc) (sound : IsSound doc) (near far s l e : ℕ) (q : Identity)
         beyond lt = never_again (omega (arith, lt, upto)) z Z at_z lt waits
 
         in_time : z.beat ≤ x.beat + 2 * far → ⊥
-        in_time le = true_is (sym late ∙ timely doc sound near far s l e q role steady up_first fast runs timeout one within call x.beat z.beat sent_beat from after le (omega (arith, upto, within)))
+        in_time le = true_is (sym late ∙ timely doc sound rules near far s l e q role steady up_first fast runs timeout one within call x.beat z.beat sent_beat from after le (omega (arith, upto, within)))
 
     -- before the next call of the identity is sent this one is answered
     pub one_at_a_time : (x2 : Entry) (T2 : List Entry) (next : Call) (comes : Option ℕ) → IsTail (x2 ∷ T2) (history doc (suc l)) → x2.actor ≡ actor_of q → x2.fact ≡ Sends next comes → IsTail (x ∷ T) T2 → HasAnswer q call.number T2
-    one_at_a_time x2 T2 next comes at_2 actor_2 fact_2 since = ⊎_elim (λ waits. absurd (none_is call (sym (sends_as doc sound (suc l) q role x2 T2 next comes at_2 actor_2 fact_2).free ∙ waits))) closed
-        (waits_on doc sound (suc l) q role call arrives x T at actor fact T2 below_2 since)
+    one_at_a_time x2 T2 next comes at_2 actor_2 fact_2 since = ⊎_elim (λ waits. absurd (none_is call (sym (sends_as doc sound rules (suc l) q role x2 T2 next comes at_2 actor_2 fact_2).free ∙ waits))) closed
+        (waits_on doc sound rules (suc l) q role call arrives x T at actor fact T2 below_2 since)
       where
         below_2 : IsTail T2 (history doc (suc l))
         below_2 = tail_trans T2 (x2 ∷ T2) (history doc (suc l)) (inr (tail_all T2)) at_2
 
         closed : IsClosed q call (x ∷ T) T2 → HasAnswer q call.number T2
-        closed c = closed_answered doc sound (suc l) q role call (x ∷ T) T2 below_2 c (λ z Z at_z low mine late waits. unexpired z Z (tail_trans (z ∷ Z) T2 (history doc (suc l)) at_z below_2) low late waits)
+        closed c = closed_answered doc sound rules (suc l) q role call (x ∷ T) T2 below_2 c (λ z Z at_z low mine late waits. unexpired z Z (tail_trans (z ∷ Z) T2 (history doc (suc l)) at_z below_2) low late waits)

@@ -10,7 +10,7 @@ use Rattle.kube_objects.specs.Entry.{Entry, Identity, Call, Fact, Starts, Sends,
 use Rattle.kube_objects.specs.Identities.{identity, is_by, of_process}
 use Rattle.kube_objects.specs.Kubelet.{node_of, is_post, round_says, has_round, round_period, round_timer_says}
 use Rattle.kube_objects.specs.Newest.{newest, added, when, join, has, or_else, or_zero}
-use Rattle.kube_objects.specs.Own.{IsOwn}
+use Rattle.kube_objects.specs.Own.{ReleasesByStop}
 use Rattle.kube_objects.specs.Process.{alive, starts, is_start, begun, is_send, call_says, last_call}
 use Rattle.kube_objects.specs.Turns.{expired_in}
 use Rattle.history.specs.History.{three_steps, history, at_turn}
@@ -40,7 +40,7 @@ use Rattle.heard_laws.proofs.Chain.{RoundEnds, WritesAt, arrives_in, round_write
 
 -- ---- incarnations are counted
 
-counted : (doc : Doc) → IsOwn doc → (m : ℕ) (h : List Entry) → IsTail h (history doc m) → Counted h
+counted : (doc : Doc) → ReleasesByStop doc → (m : ℕ) (h : List Entry) → IsTail h (history doc m) → Counted h
 counted doc own m [] within = λ p i up. absurd (none_is i up)
 counted doc own m (x ∷ h) within = counted_more x h (next_start doc x.beat x.step x.actor x.fact h (are_made doc own m x h within)) (counted doc own m h (tail_trans h (x ∷ h) (history doc m) (inr (tail_all h)) within))
 
@@ -67,7 +67,7 @@ unbegun q (x ∷ h) few = cases x.actor x.fact (unbegun q h (omega (arith, few, 
     cases who (Expires call) old few = says _ old
     cases who d old few = old
 
-module _ (doc : Doc) (sound : IsSound doc) (near far s l : ℕ) (q : Identity) (name : ℕ) (lives : LivesFrom doc near far s l q name) (some : s ≤ l) where
+module _ (doc : Doc) (sound : IsSound doc) (rules : ReleasesByStop doc) (near far s l : ℕ) (q : Identity) (name : ℕ) (lives : LivesFrom doc near far s l q name) (some : s ≤ l) where
   abbrev born_at : List Entry
   born_at = lives.start ∷ lives.before
 
@@ -81,7 +81,7 @@ module _ (doc : Doc) (sound : IsSound doc) (near far s l : ℕ) (q : Identity) (
   before_in = tail_trans lives.before born_at (history doc (suc l)) (inr (tail_all lives.before)) born_in
 
   number : q.incarnation ≡ starts q.process lives.before + 1
-  number = by_made (subst (λ d. MadeAs doc lives.start.beat lives.start.step lives.start.actor d lives.before) lives.starts (are_made doc sound.2 (suc l) lives.start lives.before born_in))
+  number = by_made (subst (λ d. MadeAs doc lives.start.beat lives.start.step lives.start.actor d lives.before) lives.starts (are_made doc rules (suc l) lives.start lives.before born_in))
     where
       by_made : (p : ℕ) × (lives.start.actor ≡ actor_of (identity p (starts p lives.before + 1))) → q.incarnation ≡ starts q.process lives.before + 1
       by_made made =
@@ -101,8 +101,8 @@ module _ (doc : Doc) (sound : IsSound doc) (near far s l : ℕ) (q : Identity) (
   up_at h since within = by_place (tails_meet h (with_events doc s) (history doc (suc l)) within events_in)
     where
       by_place : IsTail h (with_events doc s) ⊎ IsTail (with_events doc s) h → alive q.process h ≡ Some q.incarnation
-      by_place (inl low) = still_up q h (omega (arith, born_counted, starts_tail q.process born_at h since)) (λ over. (over_stays doc sound.2 (suc l) q h (with_events doc s) events_in low over).1 lives.up)
-      by_place (inr high) = stays_up doc sound near far s l q lives.role lives.steady (with_events doc s) h (tail_all (with_events doc s)) high within some lives.up
+      by_place (inl low) = still_up q h (omega (arith, born_counted, starts_tail q.process born_at h since)) (λ over. (over_stays doc rules (suc l) q h (with_events doc s) events_in low over).1 lives.up)
+      by_place (inr high) = stays_up doc sound rules near far s l q lives.role lives.steady (with_events doc s) h (tail_all (with_events doc s)) high within some lives.up
 
   -- it sent nothing before
   unsent : (h : List Entry) → IsTail h lives.before → begun q h ≡ 0
@@ -117,8 +117,8 @@ module _ (doc : Doc) (sound : IsSound doc) (near far s l : ℕ) (q : Identity) (
 
       never : (d : Fact) → x.fact ≡ d → is_send d ≡ true → is_by q x.actor ≡ true → ⊥
       never (Sends call arrives) fact sends mine =
-          let up = (sends_as doc sound (suc l) q lives.role x h call arrives x_in (by_is q x.actor mine) fact).up in
-          omega (arith, counted doc sound.2 (suc l) h (tail_trans h (x ∷ h) (history doc (suc l)) (inr (tail_all h)) x_in) q.process q.incarnation up, starts_tail q.process h lives.before below, number)
+          let up = (sends_as doc sound rules (suc l) q lives.role x h call arrives x_in (by_is q x.actor mine) fact).up in
+          omega (arith, counted doc rules (suc l) h (tail_trans h (x ∷ h) (history doc (suc l)) (inr (tail_all h)) x_in) q.process q.incarnation up, starts_tail q.process h lives.before below, number)
       never d fact sends mine = false_is sends
 
       by_kind : begun q h ≡ 0 → (send own : Bool) → is_send x.fact ≡ send → is_by q x.actor ≡ own → added (send && own) (begun q h) ≡ 0
@@ -128,7 +128,7 @@ module _ (doc : Doc) (sound : IsSound doc) (near far s l : ℕ) (q : Identity) (
 
   idle_born : Idle doc q (local doc q.process s) born_at
   idle_born = record {
-    free = ap (λ d. join (upper (call_says q lives.start.actor d) (last_call q lives.before))) lives.starts ∙ none_stays doc sound (suc l) q lives.role [] lives.before (empty_tail lives.before) few refl;
+    free = ap (λ d. join (upper (call_says q lives.start.actor d) (last_call q lives.before))) lives.starts ∙ none_stays doc sound rules (suc l) q lives.role [] lives.before (empty_tail lives.before) few refl;
     none = ap (λ d. or_else false (upper (round_says q lives.start.actor d) (newest (λ e T. round_says q e.actor e.fact) lives.before))) lives.starts ∙ unbegun q lives.before few;
     timer =
         ap (λ d. or_zero (upper (round_timer_says doc q lives.start.beat lives.start.actor d) (newest (λ e T. round_timer_says doc q e.beat e.actor e.fact) lives.before))) lives.starts
@@ -184,7 +184,7 @@ module _ (doc : Doc) (sound : IsSound doc) (near far s l : ℕ) (q : Identity) (
   -- from an idle position of a beat: a round begins by a later beat by whose turn its time has come
   module _ (at : ℕ) (g : List Entry) (idle : Idle doc q at g) (unfollowed : IsUnfollowed doc q g) (since : IsTail born_at g) (last : Entry) (there : In last g) (k : ℕ) (le : k ≤ l) (low : IsTail g (at_turn doc q.process k)) (time : at ≤ local doc q.process k) (from : s ≤ k) where
     begins_by : (j : ℕ) × RoundAt j × (last.beat ≤ j) × (j ≤ k)
-    begins_by = cases (idle_on doc sound (suc l) q lives.role at g idle unfollowed up (at_turn doc q.process k) low (turn_in k le))
+    begins_by = cases (idle_on doc sound rules (suc l) q lives.role at g idle unfollowed up (at_turn doc q.process k) low (turn_in k le))
       where
         up : (h : List Entry) → IsTail g h → IsTail h (history doc (suc l)) → alive q.process h ≡ Some q.incarnation
         up h above within = up_at h (tail_trans born_at g h since above) within
@@ -196,7 +196,7 @@ module _ (doc : Doc) (sound : IsSound doc) (near far s l : ℕ) (q : Identity) (
 
         cases : (Idle doc q at (at_turn doc q.process k) × IsUnfollowed doc q (at_turn doc q.process k)) ⊎ Begins q g (at_turn doc q.process k) → (j : ℕ) × RoundAt j × (last.beat ≤ j) × (j ≤ k)
         cases (inl i) =
-            let p = posts_now doc sound (suc l) q lives.role at g idle unfollowed up k lives.known (lives.steady.passes k from le).awake time i.0 (up (at_turn doc q.process k) low (turn_in k le)) low in
+            let p = posts_now doc sound rules (suc l) q lives.role at g idle unfollowed up k lives.known (lives.steady.passes k from le).awake time i.0 (up (at_turn doc q.process k) low (turn_in k le)) low in
             let here = later_tail doc (suc k) (suc l) (omega (arith, le)) in
             (p.0.z.beat, begins_at g (history doc (suc k)) p.0 here, after (history doc (suc k)) p.0 here, omega (arith, p.1))
         cases (inr b) = (b.z.beat, begins_at g (at_turn doc q.process k) b (turn_in k le), after (at_turn doc q.process k) b (turn_in k le), in_turn k b.z b.before b.position)
@@ -224,7 +224,7 @@ module _ (doc : Doc) (sound : IsSound doc) (near far s l : ℕ) (q : Identity) (
 
     born_low : (j : ℕ) (r : RoundAt j) → s ≤ j → IsTail born_at (r.x ∷ r.before)
     born_low j r from =
-        let sending = sends_as doc sound (suc l) q lives.role r.x r.before r.call r.arrives r.at r.actor r.fact in
+        let sending = sends_as doc sound rules (suc l) q lives.role r.x r.before r.call r.arrives r.at r.actor r.fact in
         inr (tail_trans born_at (with_events doc s) r.before lives.stands (since_low doc s l r.x r.before r.at (omega (arith, from, r.beat)) sending.late))
 
     next_round : (j : ℕ) (r : RoundAt j) → s ≤ j → j + most ≤ l → (i : ℕ) × RoundAt i × (j < i) × (i ≤ j + most)
@@ -234,7 +234,7 @@ module _ (doc : Doc) (sound : IsSound doc) (near far s l : ℕ) (q : Identity) (
       where
         ends : RoundEnds doc q r.x.beat (r.x.beat + 6 * far) (r.x ∷ r.before) l
         ends =
-            round_ends doc sound near far s l e q lives.role lives.steady lives.up timely.fast timely.runs timely.timeout one (omega (arith, end)) alone_here leases_here end lives.goes r.x r.before r.call r.arrives r.at r.actor r.fact r.post (omega (arith, from, r.beat))
+            round_ends doc sound rules near far s l e q lives.role lives.steady lives.up timely.fast timely.runs timely.timeout one (omega (arith, end)) alone_here leases_here end lives.goes r.x r.before r.call r.arrives r.at r.actor r.fact r.post (omega (arith, from, r.beat))
             (omega (arith, to, far_most, r.beat)) (omega (arith, to, far_most, r.beat))
 
         since : IsTail born_at ends.h
@@ -260,7 +260,7 @@ module _ (doc : Doc) (sound : IsSound doc) (near far s l : ℕ) (q : Identity) (
 
     writes : (j : ℕ) (r : RoundAt j) → s ≤ j → j + 4 * far ≤ l → (w : ℕ) × WritesAt doc (node_of doc q.process) e w × (r.x.beat + 5 * near ≤ w)
     writes j r from to =
-        round_writes doc sound near far s l e q lives.role lives.steady lives.up timely.fast timely.runs timely.timeout one (omega (arith, end)) alone_here leases_here end lives.goes r.x r.before r.call r.arrives r.at r.actor r.fact r.post (omega (arith, from, r.beat))
+        round_writes doc sound rules near far s l e q lives.role lives.steady lives.up timely.fast timely.runs timely.timeout one (omega (arith, end)) alone_here leases_here end lives.goes r.x r.before r.call r.arrives r.at r.actor r.fact r.post (omega (arith, from, r.beat))
         (omega (arith, to, r.beat))
 
     -- the last round that there is time for
@@ -276,12 +276,12 @@ module _ (doc : Doc) (sound : IsSound doc) (near far s l : ℕ) (q : Identity) (
         later go le = let a = next_round j r from (omega (arith, le)) in go a.0 a.1 (omega (arith, from, a.2)) (omega (arith, a.3, le)) (omega (arith, a.2, few))
 
 pub last_words_are_late : LastWordsAreLate
-last_words_are_late doc near far s last e v q name sound one lives to timely alone kinds end slow enough most slowly is_enough enough_most far_most told =
+last_words_are_late doc near far s last e v q name sound rules one lives to timely alone kinds end slow enough most slowly is_enough enough_most far_most told =
     omega (arith, a.2, soon)
   where
     a : (w : ℕ) × WritesAt doc (node_of doc q.process) e w × (suc last + 5 * near ≤ w + 4 * far + most)
     a =
-        last_write doc sound near far s last q name lives (omega (arith, to)) e timely one (tells_alone doc sound s e q name alone) (lease_key doc sound e name kinds) end slow enough most slowly is_enough enough_most far_most (suc last) s (first_round doc sound near far s last q name lives (omega (arith, to))) (omega arith) to
+        last_write doc sound rules near far s last q name lives (omega (arith, to)) e timely one (tells_alone doc sound rules s e q name alone) (lease_key doc sound rules e name kinds) end slow enough most slowly is_enough enough_most far_most (suc last) s (first_round doc sound rules near far s last q name lives (omega (arith, to))) (omega arith) to
         (omega arith)
 
     soon : a.0 ≤ v
@@ -290,14 +290,14 @@ last_words_are_late doc near far s last e v q name sound one lives to timely alo
 -- ---- and no later
 
 pub last_words_are_soon : LastWordsAreSoon
-last_words_are_soon doc near far s last e v q name sound one lives some alone end told = ⊎_elim (λ late. by_fact told.x.fact refl (tells_alone doc sound s e q name alone told.x told.before told.stands told.tells (omega (arith, late, told.beat))) (are_made doc sound.2 (suc e) told.x told.before told.stands)) (λ early. omega (arith, early, some)) (cases_lt s v)
+last_words_are_soon doc near far s last e v q name sound rules one lives some alone end told = ⊎_elim (λ late. by_fact told.x.fact refl (tells_alone doc sound rules s e q name alone told.x told.before told.stands told.tells (omega (arith, late, told.beat))) (are_made doc rules (suc e) told.x told.before told.stands)) (λ early. omega (arith, early, some)) (cases_lt s v)
   where
     -- it isn't up any more
     over : Over q (with_events doc (suc last))
-    over = (omega (arith, born_counted doc sound near far s last q name lives some, starts_tail q.process (lives.start ∷ lives.before) (with_events doc (suc last)) low), lives.dead)
+    over = (omega (arith, born_counted doc sound rules near far s last q name lives some, starts_tail q.process (lives.start ∷ lives.before) (with_events doc (suc last)) low), lives.dead)
       where
         low : IsTail (lives.start ∷ lives.before) (with_events doc (suc last))
-        low = tail_trans (lives.start ∷ lives.before) (history doc (suc last)) (with_events doc (suc last)) (born_in doc sound near far s last q name lives some) (before_events doc (suc last))
+        low = tail_trans (lives.start ∷ lives.before) (history doc (suc last)) (with_events doc (suc last)) (born_in doc sound rules near far s last q name lives some) (before_events doc (suc last))
 
     by_answer : (c : Call) (replied_as : Reply) (comes : Option ℕ) (wrote : Option Object) → told.x.actor ≡ actor_of q → s ≤ c.sent → MadeAnswer doc told.x.beat told.x.step told.x.actor c replied_as comes wrote told.before → v ≤ last + far
     by_answer c replied_as comes wrote mine sent_late made = ⊎_elim (λ le. in_time (omega (arith, le))) (λ late. absurd (too_late late)) (cases_lt f.beat (suc last))
@@ -323,20 +323,20 @@ last_words_are_soon doc near far s last e v q name sound one lives some alone en
         f_fact = (sends_of f.actor f.fact made.s made.arriving.is).1 ∙ ap (λ c. Sends c made.s.arrives) (sym made.call_is)
 
         sending : KubeletSends doc f.beat f.step q c made.s.arrives S
-        sending = sends_as doc sound (suc e) q lives.role f S c made.s.arrives f_in f_actor f_fact
+        sending = sends_as doc sound rules (suc e) q lives.role f S c made.s.arrives f_in f_actor f_fact
 
         f_late : s ≤ f.beat
         f_late = let b : c.sent ≡ f.beat = ap (λ (c : Call). c.sent) sending.call_is in omega (arith, b, sent_late)
 
         in_time : f.beat ≤ last → v ≤ last + far
         in_time le =
-            let a = arrives_in doc sound near far s last q lives.role lives.steady f S c made.s.arrives (suc e) f_in f_actor f_fact f_late le lives.goes in
+            let a = arrives_in doc sound rules near far s last q lives.role lives.steady f S c made.s.arrives (suc e) f_in f_actor f_fact f_late le lives.goes in
             let same : told.x.beat ≡ a.0 = some_is told.x.beat a.0 (sym (due_at told.x.beat made.s.arrives made.arriving.now) ∙ a.1) in
             omega (arith, same, told.beat, a.3, le)
 
         too_late : suc last ≤ f.beat → ⊥
         too_late late =
-            (over_stays doc sound.2 (suc e) q (with_events doc (suc last)) S (tail_trans S (f ∷ S) (history doc (suc e)) (inr (tail_all S)) f_in) (since_low doc (suc last) e f S f_in late sending.late) over).1 sending.up
+            (over_stays doc rules (suc e) q (with_events doc (suc last)) S (tail_trans S (f ∷ S) (history doc (suc e)) (inr (tail_all S)) f_in) (since_low doc (suc last) e f S f_in late sending.late) over).1 sending.up
 
     by_fact : (d : Fact) → told.x.fact ≡ d → (told.x.actor ≡ actor_of q) × AnswersSince s d → MadeAs doc told.x.beat told.x.step told.x.actor d told.before → v ≤ last + far
     by_fact (Answers c replied_as comes wrote) fact mine made = by_answer c replied_as comes wrote mine.0 mine.1 made

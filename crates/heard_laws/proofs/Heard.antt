@@ -13,7 +13,7 @@ use Rattle.kube_objects.specs.Entry.{Entry, Identity, Fact, Ticks, Tick, Sync, P
 use Rattle.kube_objects.specs.Health.{at_pass, node_heartbeat, lease_renewal, heartbeat, renewal, keeps, is_found, is_known, kept_heartbeat, kept_renewal, is_news, is_later, hears, last_pass, pass_period, is_after_pass}
 use Rattle.kube_objects.specs.Identities.{is_by}
 use Rattle.kube_objects.specs.Newest.{newest, only_if, has, join, or_else}
-use Rattle.kube_objects.specs.Own.{IsOwn}
+use Rattle.kube_objects.specs.Own.{ReleasesByStop}
 use Rattle.kube_objects.specs.Seen.{tick_shows, seen_says, seen}
 use Rattle.kube_objects.specs.Stored.{Held, node_key, node_lease, at_key, write_of, tick_write, holds, last_write, stored}
 use Rattle.kube_objects.specs.Tick.{add}
@@ -49,7 +49,7 @@ word_at : (name : ℕ) (x : Entry) (g h : List Entry) → IsTail (x ∷ g) h →
 word_at name x g h at s = (words_tail name (x ∷ g) h at s).0
 
 -- what tells of a node up to a beat stands below the pass of that beat
-module _ (doc : Doc) (own : IsOwn doc) (q : Identity) (name k e : ℕ) (attended : IsAttended doc q k) (due : has_pass doc q k ≡ true) (le : k ≤ e) where
+module _ (doc : Doc) (own : ReleasesByStop doc) (q : Identity) (name k e : ℕ) (attended : IsAttended doc q k) (due : has_pass doc q k ≡ true) (le : k ≤ e) where
   pass_stands : IsTail (add k q Pass (synced_at doc q k)) (history doc (suc e))
   pass_stands = tail_trans (add k q Pass (synced_at doc q k)) (history doc (suc k)) (history doc (suc e)) (pass_in doc own q k attended due) (later_tail doc (suc k) (suc e) (omega (arith, le)))
 
@@ -132,7 +132,7 @@ later_heard true false c hc = hc
 later_heard false b c hc = refl
 
 -- a pass and an earlier one, with no pass between
-module _ (doc : Doc) (own : IsOwn doc) (q : Identity) (name r p : ℕ) (attends : Attends doc q r p) (due : has_pass doc q r ≡ true) (lt : r < p) (none : (j : ℕ) → r < j → j < p → has_pass doc q j ≡ false) where
+module _ (doc : Doc) (own : ReleasesByStop doc) (q : Identity) (name r p : ℕ) (attends : Attends doc q r p) (due : has_pass doc q r ≡ true) (lt : r < p) (none : (j : ℕ) → r < j → j < p → has_pass doc q j ≡ false) where
   abbrev low : List Entry
   low = synced_at doc q r
 
@@ -318,7 +318,7 @@ first_hears q name h none =
     ap (λ a. not a || is_news (heartbeat q name h) (kept_heartbeat q name h) || is_later (renewal q name h) (kept_renewal q name h))
     (ap (or_else false) (none_said q Bool (λ T. Some (is_found q name T)) h none))
 
-module _ (doc : Doc) (own : IsOwn doc) (q : Identity) (name e v : ℕ) (told : IsLastTold doc name v e) (renews : IsLatestRenewal name told.x told.before)
+module _ (doc : Doc) (own : ReleasesByStop doc) (q : Identity) (name e v : ℕ) (told : IsLastTold doc name v e) (renews : IsLatestRenewal name told.x told.before)
     (r m : ℕ) (attends : Attends doc q r m) (due : has_pass doc q r ≡ true) (passes : has_pass doc q m ≡ true) (early : r < v) (late : v ≤ m) (end : m ≤ e) (none : (j : ℕ) → r < j → j < m → has_pass doc q j ≡ false) where
   abbrev lt : r < m
   lt = omega (arith, early, late)

@@ -11,6 +11,7 @@ use Rattle.kube_objects.specs.Entry.{Entry, Identity, Call, Plain, Fact, First a
 use Rattle.kube_objects.specs.Identities.{is_by}
 use Rattle.kube_objects.specs.Kubelet.{is_post, ends_round, round_says, has_round, round_period, round_timer_says, round_timer, post, next_request, is_post_call, round_if, is_round_due, round}
 use Rattle.kube_objects.specs.Newest.{newest, added, when, join, or_else, or_zero}
+use Rattle.kube_objects.specs.Own.{ReleasesByStop}
 use Rattle.kube_objects.specs.Pauses.{is_paused}
 use Rattle.kube_objects.specs.Process.{alive, begun, is_send, open_as, call_says, last_call, call_in}
 use Rattle.kube_objects.specs.Turns.{expire_call, expired, expired_in, just_expired}
@@ -35,7 +36,7 @@ pub record Idle (doc : Doc) (q : Identity) (at : ℕ) (h : List Entry) : Type 0 
   pub calm : (k : ℕ) → just_expired q k h ≡ None
 
 -- another's entry, or one that says nothing of rounds
-module _ (doc : Doc) (sound : IsSound doc) (m : ℕ) (q : Identity) (role : is_controller doc q.process ≡ false) (at : ℕ) where
+module _ (doc : Doc) (sound : IsSound doc) (rules : ReleasesByStop doc) (m : ℕ) (q : Identity) (role : is_controller doc q.process ≡ false) (at : ℕ) where
   -- what an own entry that isn't a request leaves
   own_idle : (x : Entry) (h : List Entry) → Idle doc q at h → is_by q x.actor ≡ false → Idle doc q at (x ∷ h)
   own_idle x h i other = record {
@@ -70,7 +71,7 @@ module _ (doc : Doc) (sound : IsSound doc) (m : ℕ) (q : Identity) (role : is_c
 
   -- so does an own one but a start or a request: it isn't a counted reply nor an expiry, since no call waits
   mine_idle : (x : Entry) (h : List Entry) → IsTail (x ∷ h) (history doc m) → Idle doc q at h → alive q.process h ≡ Some q.incarnation → is_by q x.actor ≡ true → is_send x.fact ≡ false → Idle doc q at (x ∷ h)
-  mine_idle x h within i up mine unsent = cases x.actor x.fact refl refl mine unsent (are_made doc sound.2 m x h within)
+  mine_idle x h within i up mine unsent = cases x.actor x.fact refl refl mine unsent (are_made doc rules m x h within)
     where
       After : Actor → Fact → Type 0
       After who d = Idle doc q at (record { beat = x.beat; step = x.step; actor = who; fact = d } ∷ h)
@@ -89,7 +90,7 @@ module _ (doc : Doc) (sound : IsSound doc) (m : ℕ) (q : Identity) (role : is_c
 
       cases : (who : Actor) (d : Fact) → x.actor ≡ who → x.fact ≡ d → is_by q who ≡ true → is_send d ≡ false → MadeAs doc x.beat x.step who d h → After who d
       cases who (Sends c arrives) actor fact mine unsent made = absurd (true_is unsent)
-      cases who Starts actor fact mine unsent made = absurd (none_is q.incarnation (sym (starts_are_down doc sound.2 m x h within fact q (actor ∙ by_is q who mine)) ∙ up))
+      cases who Starts actor fact mine unsent made = absurd (none_is q.incarnation (sym (starts_are_down doc rules m x h within fact q (actor ∙ by_is q who mine)) ∙ up))
       cases who (Delivers c reply true) actor fact mine unsent made =
           let same : made.b.who ≡ q = actor_is made.b.who q (sym made.by ∙ by_is q who mine) in
           absurd (none_is c (sym i.free ∙ sym (ap (λ p. call_in p h) same) ∙ (counted_is doc made.b.who x.beat made.b.call.number h c made.counted_is).waits))
@@ -117,7 +118,7 @@ module _ (doc : Doc) (sound : IsSound doc) (m : ℕ) (q : Identity) (role : is_c
   idle_posts x h call arrives within i unfollowed actor fact = by_why s.why
     where
       s : KubeletSends doc x.beat x.step q call arrives h
-      s = sends_as doc sound m q role x h call arrives within actor fact
+      s = sends_as doc sound rules m q role x h call arrives within actor fact
 
       by_why : Follows doc x.beat q s.request h ⊎ (Seeks x.beat q h ⊎ Posts doc x.beat q s.request h) → is_post call.request ≡ true
       by_why (inl f) = absurd (unfollowed f.waiting f.reply f.before f.is f.waits s.request f.next)
@@ -142,7 +143,7 @@ pub record Begins (q : Identity) (g h : List Entry) : Type 0 where
   pub fact : z.fact ≡ Sends call arrives
   pub post : is_post call.request ≡ true
 
-module _ (doc : Doc) (sound : IsSound doc) (m : ℕ) (q : Identity) (role : is_controller doc q.process ≡ false) (at : ℕ) (g : List Entry) (idle : Idle doc q at g) (unfollowed : IsUnfollowed doc q g)
+module _ (doc : Doc) (sound : IsSound doc) (rules : ReleasesByStop doc) (m : ℕ) (q : Identity) (role : is_controller doc q.process ≡ false) (at : ℕ) (g : List Entry) (idle : Idle doc q at g) (unfollowed : IsUnfollowed doc q g)
     (up : (h : List Entry) → IsTail g h → IsTail h (history doc m) → alive q.process h ≡ Some q.incarnation) where
   -- it stays idle until it begins a round
   pub idle_on : (h : List Entry) → IsTail g h → IsTail h (history doc m) → (Idle doc q at h × IsUnfollowed doc q h) ⊎ Begins q g h
@@ -167,13 +168,13 @@ module _ (doc : Doc) (sound : IsSound doc) (m : ℕ) (q : Identity) (role : is_c
         since = since;
         actor = by_is q x.actor mine;
         fact = fact;
-        post = idle_posts doc sound m q role at x h call arrives within i (λ waiting reply before is waits next follows. u x.beat waiting reply before is waits next follows) (by_is q x.actor mine) fact;
+        post = idle_posts doc sound rules m q role at x h call arrives within i (λ waiting reply before is waits next follows. u x.beat waiting reply before is waits next follows) (by_is q x.actor mine) fact;
       }
       begins i u d fact sends mine = absurd (false_is sends)
 
       by_kind : (i : Idle doc q at h) → IsUnfollowed doc q h → (own send : Bool) → is_by q x.actor ≡ own → is_send x.fact ≡ send → (Idle doc q at (x ∷ h) × IsUnfollowed doc q (x ∷ h)) ⊎ Begins q g (x ∷ h)
-      by_kind i u false send mine sends = inl (own_idle doc sound m q role at x h i mine, next_unfollowed i)
-      by_kind i u true false mine sends = inl (mine_idle doc sound m q role at x h within i (up h since below) mine sends, next_unfollowed i)
+      by_kind i u false send mine sends = inl (own_idle doc sound rules m q role at x h i mine, next_unfollowed i)
+      by_kind i u true false mine sends = inl (mine_idle doc sound rules m q role at x h within i (up h since below) mine sends, next_unfollowed i)
       by_kind i u true true mine sends = inr (begins i u x.fact refl sends mine)
 
       cases : (Idle doc q at h × IsUnfollowed doc q h) ⊎ Begins q g h → (Idle doc q at (x ∷ h) × IsUnfollowed doc q (x ∷ h)) ⊎ Begins q g (x ∷ h)
@@ -219,7 +220,7 @@ module _ (doc : Doc) (sound : IsSound doc) (m : ℕ) (q : Identity) (role : is_c
 -- ---- the timer of a round
 
 -- it stays where no request is sent
-module _ (doc : Doc) (sound : IsSound doc) (m : ℕ) (q : Identity) (role : is_controller doc q.process ≡ false) (g : List Entry) (up : (h : List Entry) → IsTail g h → IsTail h (history doc m) → alive q.process h ≡ Some q.incarnation) where
+module _ (doc : Doc) (sound : IsSound doc) (rules : ReleasesByStop doc) (m : ℕ) (q : Identity) (role : is_controller doc q.process ≡ false) (g : List Entry) (up : (h : List Entry) → IsTail g h → IsTail h (history doc m) → alive q.process h ≡ Some q.incarnation) where
   pub timer_stays : (h : List Entry) → IsTail g h → IsTail h (history doc m) → begun q h ≤ begun q g → round_timer doc q h ≡ round_timer doc q g
   timer_stays [] since within few = ap (round_timer doc q) (sym since)
   timer_stays (x ∷ h) (inl is) within few = ap (round_timer doc q) (sym is)
@@ -237,7 +238,7 @@ module _ (doc : Doc) (sound : IsSound doc) (m : ℕ) (q : Identity) (role : is_c
 
       by_start : (who : Actor) → x.actor ≡ who → x.fact ≡ Starts → (b : Bool) → is_by q who ≡ b → when b (local doc q.process x.beat) ≡ None
       by_start who actor fact false other = refl
-      by_start who actor fact true mine = absurd (none_is q.incarnation (sym (starts_are_down doc sound.2 m x h within fact q (actor ∙ by_is q who mine)) ∙ up h since below))
+      by_start who actor fact true mine = absurd (none_is q.incarnation (sym (starts_are_down doc rules m x h within fact q (actor ∙ by_is q who mine)) ∙ up h since below))
 
       by_send : (post own : Bool) → added own (begun q h) ≤ begun q h → when (post && own) (local doc q.process x.beat + round_period doc) ≡ None
       by_send post true few = absurd (omega (arith, few))

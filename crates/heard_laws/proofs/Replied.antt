@@ -11,6 +11,7 @@ use Rattle.kube_objects.specs.Entry.{Entry, Identity, Call, Sends, Answers, Deli
 use Rattle.kube_objects.specs.Identities.{is_same, is_by}
 use Rattle.kube_objects.specs.InFlight.{is_due, replies_due}
 use Rattle.kube_objects.specs.Kubelet.{next_request, send_next}
+use Rattle.kube_objects.specs.Own.{ReleasesByStop}
 use Rattle.kube_objects.specs.Process.{alive, call_in, is_late, counted}
 use Rattle.kube_objects.specs.Turns.{with_reply}
 use Rattle.kube_objects.specs.Wire.{Back, back_of, reply_arrival}
@@ -66,7 +67,7 @@ pub record Replied (doc : Doc) (near far : ℕ) (q : Identity) (call : Call) (ar
   pub position :
       IsTail (send_next doc round.comes q (next_request doc q round.comes call.request (answer call.request round.before)) (with_reply round.comes q call (answer call.request round.before) before)) (history doc (suc round.comes))
 
-module _ (doc : Doc) (sound : IsSound doc) (near far s l e : ℕ) (q : Identity) (role : is_controller doc q.process ≡ false) (steady : IsSteady doc near far s l q.process)
+module _ (doc : Doc) (sound : IsSound doc) (rules : ReleasesByStop doc) (near far s l e : ℕ) (q : Identity) (role : is_controller doc q.process ≡ false) (steady : IsSteady doc near far s l q.process)
     (up_first : alive q.process (with_events doc s) ≡ Some q.incarnation) (fast : ℕ) (runs : RunsAtMost doc q.process s e fast) (timeout : (2 * far) * fast ≤ call_timeout doc q.process) (one : 1 ≤ near) (within : l ≤ e) where
   -- no call is late before its reply can come
   pub timely : (call : Call) (j y : ℕ) → call.sent ≡ j → s ≤ j → j ≤ y → y ≤ j + 2 * far → y ≤ e → is_late doc q y call ≡ false
@@ -80,17 +81,17 @@ module _ (doc : Doc) (sound : IsSound doc) (near far s l e : ℕ) (q : Identity)
 
       by_test : (b : Bool) → is_late doc q y call ≡ b → is_late doc q y call ≡ false
       by_test false is = is
-      by_test true is = absurd (omega (arith, ltb-true (local doc q.process call.sent + call_timeout doc q.process) (local doc q.process y) (sym (is_late-own doc sound.2 q y call) ∙ is), least))
+      by_test true is = absurd (omega (arith, ltb-true (local doc q.process call.sent + call_timeout doc q.process) (local doc q.process y) (sym (is_late-own doc rules q y call) ∙ is), least))
 
   module _ (x : Entry) (T : List Entry) (call : Call) (arrives : Option ℕ) (at : IsTail (x ∷ T) (history doc (suc l))) (actor : x.actor ≡ actor_of q) (fact : x.fact ≡ Sends call arrives) (from : s ≤ x.beat) (to : x.beat + 2 * far ≤ l) where
     sending : KubeletSends doc x.beat x.step q call arrives T
-    sending = sends_as doc sound (suc l) q role x T call arrives at actor fact
+    sending = sends_as doc sound rules (suc l) q role x T call arrives at actor fact
 
     sent_beat : call.sent ≡ x.beat
     sent_beat = ap (λ (c : Call). c.sent) sending.call_is
 
     r : IsRound doc near far q call arrives x.beat
-    r = rounds_in doc sound.2 near far s l q steady one (suc l) x T call arrives at actor fact (omega (arith, sending.late)) from (omega (arith, to)) (λ k n least is most. omega (arith, most, to))
+    r = rounds_in doc rules near far s l q steady one (suc l) x T call arrives at actor fact (omega (arith, sending.late)) from (omega (arith, to)) (λ k n least is most. omega (arith, most, to))
 
     abbrev y : ℕ
     y = r.comes
@@ -127,19 +128,19 @@ module _ (doc : Doc) (sound : IsSound doc) (near far s l e : ℕ) (q : Identity)
 
     up_at : (h : List Entry) → IsTail T h → IsTail h (history doc (suc l)) → alive q.process h ≡ Some q.incarnation
     up_at h since at_h =
-        stays_up doc sound near far s l q role steady (with_events doc s) h (tail_all (with_events doc s)) (tail_trans (with_events doc s) T h low since) at_h (omega (arith, from, to)) up_first
+        stays_up doc sound rules near far s l q role steady (with_events doc s) h (tail_all (with_events doc s)) (tail_trans (with_events doc s) T h low since) at_h (omega (arith, from, to)) up_first
 
     -- a reply to the call is that one
     same_back : (g : List Entry) (z : Entry) (b : Back) → IsTail g (history doc (suc l)) → In z g → back_of z.actor z.fact ≡ Some b → b.who ≡ q → b.call.number ≡ call.number → b ≡ back
     same_back g z b within_l stands is who number =
         let p = place_of z g stands in
-        let same = answers_differ doc sound.2 (suc l) z answer_entry p.before r.before b back (tail_trans (z ∷ p.before) g (history doc (suc l)) p.position within_l) answer_at is refl who number in
+        let same = answers_differ doc rules (suc l) z answer_entry p.before r.before b back (tail_trans (z ∷ p.before) g (history doc (suc l)) p.position within_l) answer_at is refl who number in
         some_is b back (sym is ∙ ap (λ (z : Entry). back_of z.actor z.fact) (same_head z answer_entry p.before r.before same))
 
     -- it still waits as the replies of the beat come
     unclosed : IsClosed q call (x ∷ T) two → ⊥
     unclosed c =
-        closed_by q call c.e c.before doc ⊥ (are_made doc sound.2 (suc l) c.e c.before position) c.closes delivers_it expires_it
+        closed_by q call c.e c.before doc ⊥ (are_made doc rules (suc l) c.e c.before position) c.closes delivers_it expires_it
         (λ fact own. omega (arith, since, steady.stops c.e (in_head c.e c.before (history doc (suc l)) position) fact own))
       where
         position : IsTail (c.e ∷ c.before) (history doc (suc l))
@@ -172,20 +173,20 @@ module _ (doc : Doc) (sound : IsSound doc) (near far s l e : ℕ) (q : Identity)
             let on_time = timely call x.beat y sent_beat from (omega (arith, r.least, r.comes_least)) (omega (arith, r.most, r.comes_most)) (omega (arith, comes, within)) in
             omega (
               arith,
-              ltb-true (local doc q.process call.sent + call_timeout doc q.process) (local doc q.process c.e.beat) (sym (is_late-own doc sound.2 q c.e.beat call) ∙ late),
-              ltb-false (local doc q.process call.sent + call_timeout doc q.process) (local doc q.process y) (sym (is_late-own doc sound.2 q y call) ∙ on_time),
+              ltb-true (local doc q.process call.sent + call_timeout doc q.process) (local doc q.process c.e.beat) (sym (is_late-own doc rules q c.e.beat call) ∙ late),
+              ltb-false (local doc q.process call.sent + call_timeout doc q.process) (local doc q.process y) (sym (is_late-own doc rules q y call) ∙ on_time),
               local_up doc q.process c.e.beat y upto,
             )
 
     waiting : Waits doc y q call two
     waiting = record {
       up = up_at two (tail_trans T (x ∷ T) two (inr (tail_all T)) sent_low) at_two;
-      call_is = ⊎_elim (λ waits. waits) (λ closed. absurd (unclosed closed)) (waits_on doc sound (suc l) q role call arrives x T at actor fact two at_two sent_low);
+      call_is = ⊎_elim (λ waits. waits) (λ closed. absurd (unclosed closed)) (waits_on doc sound rules (suc l) q role call arrives x T at actor fact two at_two sent_low);
     }
 
     first : First doc y q call (Coming y two) two (deliver_all doc y (replies_due y two) two)
     first =
-        first_for doc sound.2 y q call (delivered_adds doc y) (deliveries_add doc y) (Coming y two) (replies_due y two) two waiting (all_coming doc y q call two two (λ e at. at))
+        first_for doc rules y q call (delivered_adds doc y) (deliveries_add doc y) (Coming y two) (replies_due y two) two waiting (all_coming doc y q call two two (λ e at. at))
         (any_coming doc y q call two two answer_entry back (in_answers doc r.at y answer_entry r.before (omega (arith, one, r.comes_least)) r.position) refl
         (subst (λ o. is_due y o ≡ true) (sym r.comes_is) (eq-eqb y y refl)) (and_both (is_same q q) (call.number == call.number) (same_self q) (eq-eqb call.number call.number refl)))
 

@@ -27,6 +27,7 @@ use Rattle.kube_objects.specs.Keys.{key_eq}
 use Rattle.kube_objects.specs.Kinds.{kind_of, IsOfKind}
 use Rattle.kube_objects.specs.Kubelet.{node_of, next_request}
 use Rattle.kube_objects.specs.Newest.{when, join, has}
+use Rattle.kube_objects.specs.Own.{ReleasesByStop}
 use Rattle.kube_objects.specs.Process.{open_as, call_says, last_call, call_in}
 use Rattle.kube_objects.specs.Stamps.{stamped}
 use Rattle.kube_objects.specs.Stored.{election, node_key, node_lease, key_of, at_key, request_write, event_write, try_write, tick_write, node_write, write_of}
@@ -211,23 +212,23 @@ right_keeps doc sound = record {
   starts = λ k step p h s. right_more doc _ h tt s;
   crashes = λ k p i h up s. right_more doc _ h tt s;
   stalls = λ k id beats i h scripted up s. right_more doc _ h tt s;
-  stops = λ k id i h scripted up s. right_more doc _ h tt s;
-  releases = λ k id i before request scripted up awake is was s.
+  stops = λ k id i h scripted up free s. right_more doc _ h tt s;
+  releases = λ k id i before request scripted up awake is stop was s.
       right_sends doc k 1 (identity id.0 i) _ request _ (λ role. release_key doc (identity id.0 i) k before request is) (by_controller doc id.0 _ (sound_of doc k (what.Stop id) sound scripted)) s;
   answers = λ k x h at s. right_more doc _ h tt s;
   ignores = λ k b h coming is s. right_more doc _ h tt s;
-  counts = λ k b waiting h coming is s. right_more doc _ h tt s;
-  follows = λ k b waiting h request coming is role follows was s.
+  counts = λ k b waiting h coming is of s. right_more doc _ h tt s;
+  follows = λ k b waiting h request coming is role of follows was s.
       right_sends doc k 3 b.who Plain request (after_reply k b waiting h)
       (λ role. follow_key b.who (moment doc b.who k) (observed_at doc b.who (after_reply k b waiting h)) waiting.kind waiting.request b.reply request follows) (by_controller doc b.who.process _ role) s;
-  leads = λ k b waiting h version coming is role follows was s. right_more doc _ (after_reply k b waiting h) tt s;
+  leads = λ k b waiting h version coming is role of follows was s. right_more doc _ (after_reply k b waiting h) tt s;
   asks = λ k b waiting h request coming is role asked was s.
       right_sends doc k 3 b.who Plain request (after_reply k b waiting h) (by_kubelet doc b.who.process _ role)
       (λ role. next_key doc b.who k waiting.request b.reply request (was.waits b.who role waiting (counted_is doc b.who k b.call.number h waiting is).waits) asked) s;
   turns = record {
     restarts = λ k p h s. right_more doc _ h tt s;
-    expires = λ k p i call h up waits late s. right_more doc _ h tt s;
-    ends = λ k p i at h role up is before s. right_more doc _ h tt s;
+    expires = λ k p i call h up waits late of s. right_more doc _ h tt s;
+    ends = λ k p i at h role up is before stop s. right_more doc _ h tt s;
     polls = λ k p i h role up awake waits s. right_sends doc k 4 (identity p i) _ _ h (λ role. refl) (by_controller doc p _ role) s;
     attempts = λ k p i h role up awake waits s. right_sends doc k 4 (identity p i) _ _ h (λ role. attempt_key doc (identity p i) k h) (by_controller doc p _ role) s;
     seeks = λ k p i call h role up awake expired late s. right_sends doc k 4 (identity p i) _ _ h (by_kubelet doc p _ role) (λ role. inr refl) s;
@@ -240,9 +241,9 @@ put_right : (doc : Doc) (xs : List (Key × Object)) (h : List Entry) → KeyRigh
 put_right doc [] h s = s
 put_right doc (x ∷ xs) h s = put_right doc xs (script_entry 0 0 (FirstPut x.0 (stamped (whole_second (store_wall doc 0)) x.1)) ∷ h) (right_more doc _ h tt s)
 
-keys_made : (doc : Doc) → IsSound doc → (m : ℕ) (x : Entry) (before : List Entry) → IsTail (x ∷ before) (history doc m) → KeyMakes doc x.actor x.fact
-keys_made doc sound m =
-    (walk_history doc (λ k step h. KeyRight doc h) (right_keeps doc sound) (no_release doc (λ k step h. KeyRight doc h) (ap (λ r. r.release) sound.2.rules))
+keys_made : (doc : Doc) → IsSound doc → ReleasesByStop doc → (m : ℕ) (x : Entry) (before : List Entry) → IsTail (x ∷ before) (history doc m) → KeyMakes doc x.actor x.fact
+keys_made doc sound rules m =
+    (walk_history doc (λ k step h. KeyRight doc h) (right_keeps doc sound) (no_release doc (λ k step h. KeyRight doc h) rules.release)
     (put_right doc doc.objects [] (record { waits = λ q role c is. absurd (none_is c is); made = λ x before at. absurd (tail_of_empty x before at) })) m).made
 
 -- ---- who tells of a node
@@ -262,8 +263,8 @@ not_about name request (Some x) key is node lease =
     ∙ ap (λ b. has (when b (Some x)) || has (at_key (node_lease name) (Some (key, Some x)))) node
     ∙ ap (λ b. false || has (when b (Some x))) lease
 
-pub tells_alone : (doc : Doc) → IsSound doc → (s e : ℕ) (q : Identity) (name : ℕ) → IsLeftAlone doc s e q name → TellsAlone doc s e q name
-tells_alone doc sound s e q name alone y g at tells later = cases y.fact refl tells (are_made doc sound.2 (suc e) y g at)
+pub tells_alone : (doc : Doc) → IsSound doc → ReleasesByStop doc → (s e : ℕ) (q : Identity) (name : ℕ) → IsLeftAlone doc s e q name → TellsAlone doc s e q name
+tells_alone doc sound rules s e q name alone y g at tells later = cases y.fact refl tells (are_made doc rules (suc e) y g at)
   where
     answers : (c : Call) (reply : Reply) (comes : Option ℕ) (wrote : Option Object) → y.fact ≡ Answers c reply comes wrote → tells_of name (Answers c reply comes wrote) ≡ true → MadeAnswer doc y.beat y.step y.actor c reply comes wrote g → (y.actor ≡ actor_of q) × (s ≤ c.sent)
     answers c reply comes wrote fact tells made = by_role (is_controller doc made.s.who.process) refl
@@ -278,7 +279,7 @@ tells_alone doc sound s e q name alone y g at tells later = cases y.fact refl te
         f_in = tail_trans (f ∷ S) g (history doc (suc e)) (place_of f g made.arriving.stands).position (tail_trans g (y ∷ g) (history doc (suc e)) (inr (tail_all g)) at)
 
         keys : (is_controller doc made.s.who.process ≡ true → key_of made.s.call.request ≡ election) × (is_controller doc made.s.who.process ≡ false → IsNodeKey doc made.s.who made.s.call.request)
-        keys = let facts = sends_of f.actor f.fact made.s made.arriving.is in (subst (KeyMakes doc f.actor) facts.1 (keys_made doc sound (suc e) f S f_in)) made.s.who facts.0
+        keys = let facts = sends_of f.actor f.fact made.s made.arriving.is in (subst (KeyMakes doc f.actor) facts.1 (keys_made doc sound rules (suc e) f S f_in)) made.s.who facts.0
 
         same : key_of c.request ≡ key_of made.s.call.request
         same = ap (λ (c : Call). key_of c.request) made.call_is
@@ -334,7 +335,7 @@ is_lease (object.Pod pod) is = absurd (differs is)
     differs : kind.Lease ≡ kind.Pod → ⊥
     differs is = cc
 
-module _ (doc : Doc) (sound : IsSound doc) (e name : ℕ) (kinds : PutsAreOfKind doc e) where
+module _ (doc : Doc) (sound : IsSound doc) (rules : ReleasesByStop doc) (e name : ℕ) (kinds : PutsAreOfKind doc e) where
   abbrev IsLease : Object → Type 0
   IsLease x = (lease : Lease) × (x ≡ object.Lease lease)
 
@@ -401,7 +402,7 @@ module _ (doc : Doc) (sound : IsSound doc) (e name : ℕ) (kinds : PutsAreOfKind
   by_tick (Skip place x) wrote is = absurd (none_is (Some wrote) is)
 
   pub lease_key : IsLeaseKey doc e name
-  lease_key y g wrote at is = cases y.fact refl is (are_made doc sound.2 (suc e) y g at)
+  lease_key y g wrote at is = cases y.fact refl is (are_made doc rules (suc e) y g at)
     where
       by_event : (w : What) (version : Option Version) → y.fact ≡ Happens w version → at_key (node_lease name) (event_write w version) ≡ Some (Some wrote) → IsLease wrote
       by_event (what.Put key put) version fact is = by_kind key put wrote (kinds y g key put at (inr (version, fact))) is

@@ -9,7 +9,7 @@ use Rattle.kube_objects.specs.Health.{at_pass, pass_says, last_pass}
 use Rattle.kube_objects.specs.Identities.{is_by}
 use Rattle.kube_objects.specs.Newest.{newest, when, only_if}
 use Rattle.kube_objects.specs.InForce.{watches}
-use Rattle.kube_objects.specs.Own.{IsOwn}
+use Rattle.kube_objects.specs.Own.{ReleasesByStop}
 use Rattle.kube_objects.specs.Seen.{is_fresh}
 use Rattle.kube_objects.specs.Tick.{add, whole_pass, evicted, tainted, cleaned}
 use Rattle.history.specs.Evictions.{after_turn}
@@ -72,7 +72,7 @@ first_of f a (suc n) is = let e : a + suc n ≡ suc a + n = omega arith in by_te
 
 -- ---- a synced tick
 
-module _ (doc : Doc) (own : IsOwn doc) (q : Identity) (k : ℕ) (attended : IsAttended doc q k) where
+module _ (doc : Doc) (own : ReleasesByStop doc) (q : Identity) (k : ℕ) (attended : IsAttended doc q k) where
   pub synced_mirrors : Mirrors q (synced_at doc q k)
   synced_mirrors =
       subst (λ b. Mirrors q (if (b && (watches doc q.process h && not (is_fresh q h))) then add k q Sync h else h)) (sym (ready doc own q k attended).settled)
@@ -123,7 +123,7 @@ module _ (doc : Doc) (own : IsOwn doc) (q : Identity) (k : ℕ) (attended : IsAt
 
 -- ---- what passes say
 
-module _ (doc : Doc) (own : IsOwn doc) (q : Identity) (A : Type 0) (f : List Entry → Option A) where
+module _ (doc : Doc) (own : ReleasesByStop doc) (q : Identity) (A : Type 0) (f : List Entry → Option A) where
   abbrev Says : Option A → List Entry → Type 0
   Says o h = newest (λ e T. at_pass q f e.actor e.fact T) h ≡ o
 

@@ -15,6 +15,7 @@ use Rattle.kube_objects.specs.Entry.{Entry, Identity, Call, CallKind, Plain, Fac
 use Rattle.kube_objects.specs.Identities.{identity, is_same, is_by, of_process}
 use Rattle.kube_objects.specs.Kubelet.{round_says, has_round, next_request, post, node_of}
 use Rattle.kube_objects.specs.Newest.{newest, added, when, join, or_else, has}
+use Rattle.kube_objects.specs.Own.{ReleasesByStop}
 use Rattle.kube_objects.specs.Process.{born, gone, life_says, life, alive, begun, is_send, open_as, call_says, last_call, call_in, counted}
 use Rattle.kube_objects.specs.Stamps.{stamped}
 use Rattle.kube_objects.specs.Stored.{node_lease}
@@ -122,13 +123,13 @@ right_keeps doc sound = record {
   starts = λ k step p h s. right_more doc _ h (λ q role by. tt) tt s;
   crashes = λ k p i h up s. right_more doc _ h (λ q role by. tt) tt s;
   stalls = λ k id beats i h scripted up s. right_more doc _ h (λ q role by. tt) tt s;
-  stops = λ k id i h scripted up s. right_more doc _ h (λ q role by. tt) (λ q is. ap (λ (q : Identity). is_controller doc q.process) (sym (actor_is (identity id.0 i) q is)) ∙ sound_of doc k (what.Stop id) sound scripted) s;
-  releases = λ k id i before request scripted up awake is was s. right_other doc k 1 (identity id.0 i) _ request _ (sound_of doc k (what.Stop id) sound scripted) s;
+  stops = λ k id i h scripted up free s. right_more doc _ h (λ q role by. tt) (λ q is. ap (λ (q : Identity). is_controller doc q.process) (sym (actor_is (identity id.0 i) q is)) ∙ sound_of doc k (what.Stop id) sound scripted) s;
+  releases = λ k id i before request scripted up awake is stop was s. right_other doc k 1 (identity id.0 i) _ request _ (sound_of doc k (what.Stop id) sound scripted) s;
   answers = λ k x h at s. right_more doc _ h (λ q role by. tt) tt s;
   ignores = λ k b h coming is s. right_more doc _ h (λ q role by. tt) tt s;
-  counts = λ k b waiting h coming is s. right_more doc _ h (λ q role by. tt) tt s;
-  follows = λ k b waiting h request coming is role follows was s. right_other doc k 3 b.who Plain request (after_reply k b waiting h) role s;
-  leads = λ k b waiting h version coming is role follows was s. right_more doc _ (after_reply k b waiting h) (λ q role by. tt) tt s;
+  counts = λ k b waiting h coming is of s. right_more doc _ h (λ q role by. tt) tt s;
+  follows = λ k b waiting h request coming is role of follows was s. right_other doc k 3 b.who Plain request (after_reply k b waiting h) role s;
+  leads = λ k b waiting h version coming is role of follows was s. right_more doc _ (after_reply k b waiting h) (λ q role by. tt) tt s;
   asks = λ k b waiting h request coming is role asked was s.
       let c = counted_is doc b.who k b.call.number h waiting is in
       right_sends doc k 3 b.who Plain request (after_reply k b waiting h)
@@ -146,8 +147,8 @@ right_keeps doc sound = record {
       )) s;
   turns = record {
     restarts = λ k p h s. right_more doc _ h (λ q role by. tt) tt s;
-    expires = λ k p i call h up waits late s. right_more doc _ h (λ q role by. subst (λ q. call_in q h ≡ Some call) (same_is (identity p i) q by) waits) tt s;
-    ends = λ k p i at h role up is before s. right_more doc _ h (λ q role by. tt) (λ q is. ap (λ (q : Identity). is_controller doc q.process) (sym (actor_is (identity p i) q is)) ∙ role) s;
+    expires = λ k p i call h up waits late of s. right_more doc _ h (λ q role by. subst (λ q. call_in q h ≡ Some call) (same_is (identity p i) q by) waits) tt s;
+    ends = λ k p i at h role up is before stop s. right_more doc _ h (λ q role by. tt) (λ q is. ap (λ (q : Identity). is_controller doc q.process) (sym (actor_is (identity p i) q is)) ∙ role) s;
     polls = λ k p i h role up awake waits s. right_other doc k 4 (identity p i) _ _ h role s;
     attempts = λ k p i h role up awake waits s. right_other doc k 4 (identity p i) _ _ h role s;
     seeks = λ k p i call h role up awake expired late s.
@@ -170,13 +171,13 @@ put_right : (doc : Doc) (xs : List (Key × Object)) (h : List Entry) → Kubelet
 put_right doc [] h s = s
 put_right doc (x ∷ xs) h s = put_right doc xs (script_entry 0 0 (First x.0 (stamped (whole_second (store_wall doc 0)) x.1)) ∷ h) (right_more doc _ h (λ q role by. tt) tt s)
 
-all_right : (doc : Doc) → IsSound doc → (k : ℕ) → KubeletRight doc (history doc k)
-all_right doc sound k =
-    walk_history doc (λ k step h. KubeletRight doc h) (right_keeps doc sound) (no_release doc (λ k step h. KubeletRight doc h) (ap (λ r. r.release) sound.2.rules))
+all_right : (doc : Doc) → IsSound doc → ReleasesByStop doc → (k : ℕ) → KubeletRight doc (history doc k)
+all_right doc sound rules k =
+    walk_history doc (λ k step h. KubeletRight doc h) (right_keeps doc sound) (no_release doc (λ k step h. KubeletRight doc h) rules.release)
     (put_right doc doc.objects [] (record { runs = λ q role. runs_empty q; made = λ x before at. absurd (tail_of_empty x before at) })) k
 
-pub kubelet_makes : (doc : Doc) → IsSound doc → (m : ℕ) (x : Entry) (before : List Entry) → IsTail (x ∷ before) (history doc m) → KubeletMakes doc x.beat x.step x.actor x.fact before
-kubelet_makes doc sound m = (all_right doc sound m).made
+pub kubelet_makes : (doc : Doc) → IsSound doc → ReleasesByStop doc → (m : ℕ) (x : Entry) (before : List Entry) → IsTail (x ∷ before) (history doc m) → KubeletMakes doc x.beat x.step x.actor x.fact before
+kubelet_makes doc sound rules m = (all_right doc sound rules m).made
 
 pub by_is : (q : Identity) (who : Actor) → is_by q who ≡ true → who ≡ actor_of q
 by_is q actors.Script is = absurd (false_is is)
@@ -184,9 +185,9 @@ by_is q (actors.Proc id i) is = ap actor_of (same_is (identity id.0 i) q is)
 
 -- ---- a kubelet's calls
 
-module _ (doc : Doc) (sound : IsSound doc) (m : ℕ) (q : Identity) (role : is_controller doc q.process ≡ false) where
+module _ (doc : Doc) (sound : IsSound doc) (rules : ReleasesByStop doc) (m : ℕ) (q : Identity) (role : is_controller doc q.process ≡ false) where
   pub sends_as : (x : Entry) (h : List Entry) (call : Call) (arrives : Option ℕ) → IsTail (x ∷ h) (history doc m) → x.actor ≡ actor_of q → x.fact ≡ Sends call arrives → KubeletSends doc x.beat x.step q call arrives h
-  sends_as x h call arrives at actor fact = (subst (λ d. KubeletMakes doc x.beat x.step x.actor d h) fact (kubelet_makes doc sound m x h at)) q actor role
+  sends_as x h call arrives at actor fact = (subst (λ d. KubeletMakes doc x.beat x.step x.actor d h) fact (kubelet_makes doc sound rules m x h at)) q actor role
 
   below : (x : Entry) (h : List Entry) → IsTail (x ∷ h) (history doc m) → IsTail h (history doc m)
   below x h at = tail_trans h (x ∷ h) (history doc m) (inr (tail_all h)) at
@@ -194,7 +195,7 @@ module _ (doc : Doc) (sound : IsSound doc) (m : ℕ) (q : Identity) (role : is_c
   -- the call that waits is the last one that was sent
   pub newest_number : (h : List Entry) → IsTail h (history doc m) → (c : Call) → call_in q h ≡ Some c → c.number ≡ begun q h
   newest_number [] at c is = absurd (none_is c is)
-  newest_number (x ∷ h) at c is = cases x.actor x.fact (newest_number h (below x h at) c) (kubelet_makes doc sound m x h at) is
+  newest_number (x ∷ h) at c is = cases x.actor x.fact (newest_number h (below x h at) c) (kubelet_makes doc sound rules m x h at) is
     where
       closing : (b : Bool) → (call_in q h ≡ Some c → c.number ≡ begun q h) → join (upper (when b None) (last_call q h)) ≡ Some c → c.number ≡ begun q h
       closing true old is = absurd (none_is c is)
@@ -264,7 +265,7 @@ module _ (doc : Doc) (sound : IsSound doc) (m : ℕ) (q : Identity) (role : is_c
   -- what an entry closes is the call that waited
   closes_waiting : (x : Entry) (h : List Entry) (call : Call) → IsTail (x ∷ h) (history doc m) → call_in q h ≡ Some call → (join (upper (call_says q x.actor x.fact) (last_call q h)) ≡ Some call) ⊎ Closes q call x.actor x.fact
   closes_waiting x h call at waits =
-      still x.actor x.fact h call x.beat x.step (kubelet_makes doc sound m x h at) waits (λ c reply is mine. counted x.actor x.fact (are_made doc sound.2 m x h at) c reply is mine) (λ c is mine. expired x.actor x.fact (are_made doc sound.2 m x h at) c is mine)
+      still x.actor x.fact h call x.beat x.step (kubelet_makes doc sound rules m x h at) waits (λ c reply is mine. counted x.actor x.fact (are_made doc rules m x h at) c reply is mine) (λ c is mine. expired x.actor x.fact (are_made doc rules m x h at) c is mine)
     where
       counted : (who : Actor) (d : Fact) → MadeAs doc x.beat x.step who d h → (c : Call) (reply : Reply) → d ≡ Delivers c reply true → is_by q who ≡ true → c ≡ call
       counted who d made c reply is mine = by_made (subst (λ d. MadeAs doc x.beat x.step who d h) is made)
@@ -311,9 +312,9 @@ module _ (doc : Doc) (sound : IsSound doc) (m : ℕ) (q : Identity) (role : is_c
 
 -- ---- it stays up
 
-module _ (doc : Doc) (sound : IsSound doc) (near far s l : ℕ) (q : Identity) (role : is_controller doc q.process ≡ false) (steady : IsSteady doc near far s l q.process) where
+module _ (doc : Doc) (sound : IsSound doc) (rules : ReleasesByStop doc) (near far s l : ℕ) (q : Identity) (role : is_controller doc q.process ≡ false) (steady : IsSteady doc near far s l q.process) where
   stays_up_at : (x : Entry) (h : List Entry) → IsTail (x ∷ h) (history doc (suc l)) → IsSince s x → alive q.process h ≡ Some q.incarnation → alive q.process (x ∷ h) ≡ Some q.incarnation
-  stays_up_at x h at since up = cases x.actor x.fact refl refl (are_made doc sound.2 (suc l) x h at) (kubelet_makes doc sound (suc l) x h at)
+  stays_up_at x h at since up = cases x.actor x.fact refl refl (are_made doc rules (suc l) x h at) (kubelet_makes doc sound rules (suc l) x h at)
     where
       own : (who : Actor) → x.actor ≡ who → (i : ℕ) → of_process q.process who ≡ Some i → x.actor ≡ actor_of (identity q.process i)
       own actors.Script is i of = absurd (none_is i of)
@@ -342,7 +343,7 @@ module _ (doc : Doc) (sound : IsSound doc) (near far s l : ℕ) (q : Identity) (
       late one = ⊎_elim (λ lt. lt) (λ here. absurd (omega (arith, here.1, one))) since
 
       cases : (who : Actor) (d : Fact) → x.actor ≡ who → x.fact ≡ d → MadeAs doc x.beat x.step who d h → KubeletMakes doc x.beat x.step who d h → join (upper (life_says q.process who d) (life q.process h)) ≡ Some q.incarnation
-      cases who Starts actor fact made makes = by_process born refl who actor (λ i by. none_is q.incarnation (sym (starts_are_down doc sound.2 (suc l) x h at fact (identity q.process i) by) ∙ up))
+      cases who Starts actor fact made makes = by_process born refl who actor (λ i by. none_is q.incarnation (sym (starts_are_down doc rules (suc l) x h at fact (identity q.process i) by) ∙ up))
       cases who Crashes actor fact made makes = by_process gone refl who actor (λ i by. omega (arith, late made, steady.crashes x there fact (is_own i by)))
       cases who Stops actor fact made makes = by_process gone refl who actor (λ i by. omega (arith, late made, steady.stops x there fact (is_own i by)))
       cases who ReleaseEnds actor fact made makes = absurd made

@@ -17,7 +17,7 @@ use Rattle.kube_objects.specs.Entry.{Entry, Identity, Fact, First, Event, Starts
 use Rattle.kube_objects.specs.Health.{node_heartbeat, ready_heartbeat}
 use Rattle.kube_objects.specs.Keys.{key_eq}
 use Rattle.kube_objects.specs.Newest.{when, only_if, has, join}
-use Rattle.kube_objects.specs.Own.{IsOwn}
+use Rattle.kube_objects.specs.Own.{ReleasesByStop}
 use Rattle.kube_objects.specs.Seen.{is_pod}
 use Rattle.kube_objects.specs.Stamps.{stamped}
 use Rattle.kube_objects.specs.Stored.{Held, Write, node_key, node_lease, at_key, write_of, tick_write, try_write, node_write, holds, last_write, stored, next_version}
@@ -200,18 +200,18 @@ words_keep doc name = record {
   starts = λ k step p h s. (tt, s);
   crashes = λ k p i h up s. (tt, s);
   stalls = λ k id beats i h scripted up s. (tt, s);
-  stops = λ k id i h scripted up s. (tt, s);
-  releases = λ k id i before request scripted up awake is was s. (tt, s);
+  stops = λ k id i h scripted up free s. (tt, s);
+  releases = λ k id i before request scripted up awake is stop was s. (tt, s);
   answers = λ k s h at t. (refl, t);
   ignores = λ k b h coming is s. (tt, s);
-  counts = λ k b waiting h coming is s. (tt, s);
-  follows = λ k b waiting h request coming is role follows was s. (tt, s);
-  leads = λ k b waiting h version coming is role follows was s. (tt, s);
+  counts = λ k b waiting h coming is of s. (tt, s);
+  follows = λ k b waiting h request coming is role of follows was s. (tt, s);
+  leads = λ k b waiting h version coming is role of follows was s. (tt, s);
   asks = λ k b waiting h request coming is role follows was s. (tt, s);
   turns = record {
     restarts = λ k p h s. (tt, s);
-    expires = λ k p i call h up waits late s. (tt, s);
-    ends = λ k p i at h role up is before s. (tt, s);
+    expires = λ k p i call h up waits late of s. (tt, s);
+    ends = λ k p i at h role up is before stop s. (tt, s);
     polls = λ k p i h role up awake waits s. (tt, s);
     attempts = λ k p i h role up awake waits s. (tt, s);
     seeks = λ k p i call h role up awake expired late s. (tt, s);
@@ -224,9 +224,9 @@ put_words : (doc : Doc) (name : ℕ) (xs : List (Key × Object)) (h : List Entry
 put_words doc name [] h s = s
 put_words doc name (x ∷ xs) h s = put_words doc name xs (script_entry 0 0 (First x.0 (stamped (whole_second (store_wall doc 0)) x.1)) ∷ h) (refl, s)
 
-pub words : (doc : Doc) → IsOwn doc → (name k : ℕ) → Words name (history doc k)
+pub words : (doc : Doc) → ReleasesByStop doc → (name k : ℕ) → Words name (history doc k)
 words doc own name k =
-    walk_history doc (λ k step h. Words name h) (words_keep doc name) (no_release doc (λ k step h. Words name h) (ap (λ r. r.release) own.rules)) (put_words doc name doc.objects [] tt) k
+    walk_history doc (λ k step h. Words name h) (words_keep doc name) (no_release doc (λ k step h. Words name h) own.release) (put_words doc name doc.objects [] tt) k
 
 pub words_tail : (name : ℕ) (g h : List Entry) → IsTail g h → Words name h → Words name g
 words_tail name g [] at s = subst (Words name) (sym at) s

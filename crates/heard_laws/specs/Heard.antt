@@ -8,7 +8,7 @@ use Rattle.kube_objects.specs.Document.{Doc}
 use Rattle.kube_objects.specs.Entry.{Entry, Identity, Fact, Ticks}
 use Rattle.kube_objects.specs.Health.{hears, last_pass}
 use Rattle.kube_objects.specs.Newest.{has}
-use Rattle.kube_objects.specs.Own.{IsOwn, PassesTakeNoWork}
+use Rattle.kube_objects.specs.Own.{ReleasesByStop, PassesTakeNoWork}
 use Rattle.kube_objects.specs.Stored.{Write, node_key, node_lease, at_key, write_of}
 use Rattle.history.specs.Evictions.{stored_node}
 use Rattle.history.specs.History.{history}
@@ -60,7 +60,7 @@ pub record HearsAt (doc : Doc) (q : Identity) (name p : ℕ) : Type 0 where
 -- hears of a node comes sooner after the last write that tells of the node than the monitor period takes on the leader's clock
 abbrev pub PassesHearInTime : Type 0
 PassesHearInTime =
-    (doc : Doc) → IsOwn doc → PassesTakeNoWork doc → (q : Identity) (name a p e v : ℕ) → Attends doc q a e → has_pass doc q a ≡ true → IsLastTold doc name v e
+    (doc : Doc) → ReleasesByStop doc → PassesTakeNoWork doc → (q : Identity) (name a p e v : ℕ) → Attends doc q a e → has_pass doc q a ≡ true → IsLastTold doc name v e
     → (slow far : ℕ) → RunsAtLeast doc q.process a e slow → IsEnough slow (monitor_period doc) far → 1 ≤ far
     → a ≤ p → p ≤ e → HearsAt doc q name p → (p ≡ a) ⊎ (p < v + far)
 
@@ -68,7 +68,7 @@ PassesHearInTime =
 -- from then on hears of the node, if there is one
 abbrev pub RenewalsAreHeard : Type 0
 RenewalsAreHeard =
-    (doc : Doc) → IsOwn doc → (q : Identity) (name a e v : ℕ) → Attends doc q a e → last_pass q (synced_at doc q a) ≡ None → a ≤ v
+    (doc : Doc) → ReleasesByStop doc → (q : Identity) (name a e v : ℕ) → Attends doc q a e → last_pass q (synced_at doc q a) ≡ None → a ≤ v
     → (told : IsLastTold doc name v e) → IsLatestRenewal name told.x told.before
     → (k : ℕ) → v ≤ k → k ≤ e → has_pass doc q k ≡ true
     → (m : ℕ) × (v ≤ m) × (m ≤ k) × (has_pass doc q m ≡ true) × (hears q name (synced_at doc q m) ≡ true)

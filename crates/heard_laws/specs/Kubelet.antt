@@ -11,6 +11,7 @@ use Rattle.kube_objects.specs.Document.{Doc, processes, is_controller, call_time
 use Rattle.kube_objects.specs.Entry.{Entry, Identity, Call, First, Event, Starts, Answers, actor_of}
 use Rattle.kube_objects.specs.Kinds.{IsOfKind}
 use Rattle.kube_objects.specs.Kubelet.{node_of, round_period}
+use Rattle.kube_objects.specs.Own.{ReleasesByStop}
 use Rattle.kube_objects.specs.Process.{alive}
 use Rattle.kube_objects.specs.Stalls.{is_stalled}
 use Rattle.kube_objects.specs.Stored.{event_write}
@@ -63,14 +64,14 @@ PutsAreOfKind doc e =
 -- the last write that tells of its node comes no later than a message's way after its last beat
 abbrev pub LastWordsAreSoon : Type 0
 LastWordsAreSoon =
-    (doc : Doc) (near far s last e v : ℕ) (q : Identity) (name : ℕ) → IsSound doc → 1 ≤ near → LivesFrom doc near far s last q name → s ≤ last
+    (doc : Doc) (near far s last e v : ℕ) (q : Identity) (name : ℕ) → IsSound doc → ReleasesByStop doc → 1 ≤ near → LivesFrom doc near far s last q name → s ≤ last
     → IsLeftAlone doc s e q name → last + far ≤ e → IsLastTold doc name v e → v ≤ last + far
 
 -- and no sooner than five ways of its messages after the beginning of the last round that it had time for: it sends its write four ways after a
 -- round's beginning, and begins the next round as soon as a quarter of the Lease's duration is over and its messages are back
 abbrev pub LastWordsAreLate : Type 0
 LastWordsAreLate =
-    (doc : Doc) (near far s last e v : ℕ) (q : Identity) (name : ℕ) → IsSound doc → 1 ≤ near → LivesFrom doc near far s last q name → s + 4 * far ≤ last
+    (doc : Doc) (near far s last e v : ℕ) (q : Identity) (name : ℕ) → IsSound doc → ReleasesByStop doc → 1 ≤ near → LivesFrom doc near far s last q name → s + 4 * far ≤ last
     → IsAnsweredInTime doc far s e q → IsLeftAlone doc s e q name → PutsAreOfKind doc e → last + far ≤ e
     → (slow enough most : ℕ) → RunsAtLeast doc q.process s last slow → IsEnough slow (round_period doc) enough → enough ≤ most → 6 * far ≤ most
     → IsLastTold doc name v e → suc last + 5 * near ≤ v + 4 * far + most

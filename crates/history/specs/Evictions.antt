@@ -30,7 +30,7 @@ use Rattle.kube_objects.specs.Tokens.{token_size}
 use Rattle.kube_objects.specs.Tolerations.{due}
 use Rattle.kube_objects.specs.Wire.{loses_requests}
 use Rattle.history.specs.History.{whole_history, at_turn}
-use Rattle.history.specs.Safe.{Acts}
+use Rattle.history.specs.Safe.{IsActing}
 use Rattle.history.specs.Steps.{turn}
 
 -- ---- when a stored pod is due
@@ -114,7 +114,7 @@ NoneDueWithin (suc burst) doc q k h = NoneDue doc q k h ⊎ (has_room doc q k 0 
 -- settled, and none while the store stands still
 abbrev pub PromptAt : Doc → Identity → ℕ → Type 0
 PromptAt doc q k =
-    Acts doc q k
+    IsActing doc q k
     → is_stalled doc k ≡ false
     → has_settled doc k q (at_turn doc q.process k) ≡ true
     → watches doc q.process (at_turn doc q.process k) ≡ true

@@ -14,10 +14,15 @@ use Rattle.kube_objects.specs.Newest.{has}
 use Rattle.kube_objects.specs.Process.{stops}
 use Rattle.kube_objects.specs.Stored.{Held, election, stored}
 use Rattle.history.specs.History.{at_turn}
+use Rattle.history.specs.Steps.{elector_turn}
 
--- a controller acts as the leader at its turn in beat k
+-- a controller acts as the leader as its turn in beat k begins
 abbrev pub Acts : Doc → Identity → ℕ → Type 0
 Acts doc q k = (is_controller doc q.process ≡ true) × (acts doc q k (at_turn doc q.process k) ≡ true)
+
+-- it does so at its tick in beat k: its turn has ended by then what was over, and begun the release that was due
+abbrev pub IsActing : Doc → Identity → ℕ → Type 0
+IsActing doc q k = (is_controller doc q.process ≡ true) × (acts doc q k (elector_turn doc k q.process (at_turn doc q.process k)) ≡ true)
 
 abbrev pub IsHeldBy : Identity → Object → Type 0
 IsHeldBy q (object.Lease lease) = lease.holder ≡ holder_of q
@@ -51,14 +56,14 @@ MayAct ActsOn q h = Holds q h ⊎ HasEmptied q h
 -- whoever acts is the holder in the stored election Lease, and hasn't been stopped
 abbrev pub Holder : Doc → Type 0
 Holder doc =
-    (q : Identity) (k : ℕ) → k ≤ end_beat doc → Acts doc q k
+    (q : Identity) (k : ℕ) → k ≤ end_beat doc → IsActing doc q k
     → MayAct doc.settings.rules.in_release q (at_turn doc q.process k)
 
 -- two identities that act at one beat are the same
 abbrev pub Exclusive : Doc → Type 0
-Exclusive doc = (p q : Identity) (k : ℕ) → k ≤ end_beat doc → Acts doc p k → Acts doc q k → p ≡ q
+Exclusive doc = (p q : Identity) (k : ℕ) → k ≤ end_beat doc → IsActing doc p k → IsActing doc q k → p ≡ q
 
 -- with releases in which leaders act, where two identities act at one beat one of them has emptied its Lease
 abbrev pub ExclusiveUntilEmptied : Doc → Type 0
-ExclusiveUntilEmptied doc = (p q : Identity) (k : ℕ) → k ≤ end_beat doc → Acts doc p k → Acts doc q k
+ExclusiveUntilEmptied doc = (p q : Identity) (k : ℕ) → k ≤ end_beat doc → IsActing doc p k → IsActing doc q k
     → (p ≡ q) ⊎ (HasEmptied p (at_turn doc p.process k) ⊎ HasEmptied q (at_turn doc q.process k))

@@ -9,7 +9,7 @@ use Rattle.kube_objects.specs.Turns.{expired_in, just_expired}
 use Rattle.history_laws.proofs.Plainly.{upper, none_is}
 
 -- an entry of another says nothing on the call
-silent : (q : Identity) (who : Actor) (d : Fact) → is_by q who ≡ false → call_says q who d ≡ None
+pub silent : (q : Identity) (who : Actor) (d : Fact) → is_by q who ≡ false → call_says q who d ≡ None
 silent q who (First key object) other = refl
 silent q who (Event what version) other = refl
 silent q who Starts other = refl

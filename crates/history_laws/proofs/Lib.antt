@@ -8,6 +8,7 @@ pub mod Tailed
 pub mod Versions
 pub mod Order
 pub mod Lives
+pub mod Releasing
 pub mod Once
 pub mod Numbers
 pub mod Starts

@@ -1,12 +1,12 @@
 -- The present incarnation was counted, and one that is over stays so.
-use Rattle.std.proofs.Common.{◌≡◌, ℕ, ◌+◌, ◌==◌, ◌&&◌, ◌≤◌, Bool, true, false, List, ◌∷◌, Option, Some, None, refl, sym, ap, subst, arith}
+use Rattle.std.proofs.Common.{◌≡◌, ◌⊎◌, ℕ, ◌+◌, ◌==◌, ◌&&◌, ◌<◌, ◌≤◌, Bool, true, false, List, ◌∷◌, Option, Some, None, refl, sym, ap, subst, inl, inr, arith}
 use Rattle.std.proofs.lemmas.Bool.{eqb-true}
 use Rattle.kube_objects.specs.declared.deed.Actor.{Actor}
 use Rattle.kube_objects.specs.Entry.{Entry, Identity, Fact, First, Event, Starts, Crashes, Stops, Stalls, Ends, ReleaseBegins, ReleaseEnds, StepsDown, ReleaseStops, Sends, Answers, Delivers, Expires, Leads, Ticks}
 use Rattle.kube_objects.specs.Identities.{of_process}
 use Rattle.kube_objects.specs.Newest.{added, when, join, has}
 use Rattle.kube_objects.specs.Process.{born, gone, life_says, life, alive, is_start, starts}
-use Rattle.history_laws.proofs.Plainly.{upper, some_is, none_is}
+use Rattle.history_laws.proofs.Plainly.{upper, some_is, none_is, added_more}
 use Rattle.history_laws.proofs.Walk.{StartIsNext}
 
 -- the present incarnation was counted
@@ -53,6 +53,28 @@ counted_more x h next s p = cases x.actor x.fact next
     cases who (Expires call) next = s p
     cases who (Leads version) next = s p
     cases who (Ticks tick) next = s p
+
+-- who is up after an entry was so before, or hadn't started yet
+pub lived_before : (q : Identity) (x : Entry) (h : List Entry) → StartIsNext x.actor x.fact h → alive q.process (x ∷ h) ≡ Some q.incarnation
+    → (alive q.process h ≡ Some q.incarnation) ⊎ (starts q.process h < q.incarnation)
+lived_before q x h next = cases x.actor x.fact next
+  where
+    Before : Type 0
+    Before = (alive q.process h ≡ Some q.incarnation) ⊎ (starts q.process h < q.incarnation)
+
+    cases : (who : Actor) (d : Fact) → StartIsNext who d h → join (upper (life_says q.process who d) (life q.process h)) ≡ Some q.incarnation → Before
+    cases who Starts next =
+        subst (λ who. join (upper (life_says q.process who Starts) (life q.process h)) ≡ Some q.incarnation → Before) (sym next.1)
+        (started next.0 q.process h (λ n o. o ≡ Some q.incarnation → Before) (starts next.0 h + 1)
+        (λ is up. inr (omega (arith, some_is _ _ up, ap (λ d. starts d h) (eqb-true next.0 q.process is)))) (λ up. inl up))
+    cases who Crashes next = λ up. inl (lost (of_process q.process who) (life q.process h) q.incarnation up)
+    cases who Stops next = λ up. inl (lost (of_process q.process who) (life q.process h) q.incarnation up)
+    cases who Ends next = λ up. inl (lost (of_process q.process who) (life q.process h) q.incarnation up)
+    cases who ReleaseEnds next = λ up. inl (lost (of_process q.process who) (life q.process h) q.incarnation up)
+    cases who _ next = λ up. inl up
+
+pub starts_more : (p : ℕ) (x : Entry) (h : List Entry) → starts p h ≤ starts p (x ∷ h)
+starts_more p x h = added_more (is_start x.fact && has (of_process p x.actor)) (starts p h)
 
 pub over_more : (q : Identity) (x : Entry) (h : List Entry) → StartIsNext x.actor x.fact h → Over q h → Over q (x ∷ h)
 over_more q x h next s = cases x.actor x.fact next

@@ -8,24 +8,21 @@ use Rattle.kube_objects.specs.declared.deed.Actor.{Actor}
 use Rattle.kube_objects.specs.declared.key.Key.{Key}
 use Rattle.kube_objects.specs.declared.key.Kind.{Kind}
 use Rattle.kube_objects.specs.declared.key.Kind.TheVariants as kinds
-use Rattle.kube_objects.specs.declared.node.Node.{Node}
 use Rattle.kube_objects.specs.declared.pod.Bears.{Bears}
 use Rattle.kube_objects.specs.declared.pod.Bears.TheVariants.{Untainted, NotAtAll, Ever, For}
-use Rattle.kube_objects.specs.declared.pod.Due.{Due}
-use Rattle.kube_objects.specs.declared.pod.Due.TheVariants.{Never, At}
 use Rattle.kube_objects.specs.declared.pod.Pod.{Pod}
 use Rattle.kube_objects.specs.Document.{Doc}
 use Rattle.kube_objects.specs.Entry.{Entry, Identity, Fact, Ticks, Tick, Delete, actor_of, entry}
 use Rattle.kube_objects.specs.Identities.{is_by}
 use Rattle.kube_objects.specs.Newest.{newest, when, only_if, join, or_else}
 use Rattle.kube_objects.specs.Keys.{key_eq}
-use Rattle.kube_objects.specs.Seen.{seen_says, seen, seen_node, seen_pod, pod_in, is_accepted, is_refused, is_pod, stale_says, is_stale}
+use Rattle.kube_objects.specs.Seen.{seen_says, seen, seen_pod, pod_in, is_accepted, is_refused, is_pod, stale_says, is_stale}
 use Rattle.kube_objects.specs.Sightings.{bears_on, sighted_pod, sight, is_own_tick, last_sight, is_one_row, begins_row, row_at, row, due_in_row, sighted_due}
 use Rattle.kube_objects.specs.Stored.{Held, holds, at_key, tick_write, node_key}
 use Rattle.kube_objects.specs.Tainting.{is_tick_of, before_tick}
 use Rattle.kube_objects.specs.Tick.{add}
 use Rattle.kube_objects.specs.Answers.{as_kind, node_in}
-use Rattle.history_laws.proofs.Plainly.{upper, some_is, none_is, true_is, same_self, and_left, and_right}
+use Rattle.history_laws.proofs.Plainly.{upper, some_is, true_is, same_self, and_left, and_right}
 
 abbrev latest_sight : Identity → Key → List Entry → Option Bears
 latest_sight q pod = newest (λ e T. only_if (is_own_tick q e.actor e.fact) (sight q pod (e ∷ T)))

@@ -1,5 +1,5 @@
 -- One walk through the steps of every beat: what each kind of entry keeps holds of every history.
-use Rattle.std.proofs.Common.{◌≡◌, ◌⊎◌, ℕ, zero, suc, ◌+◌, ◌==◌, ◌&&◌, not, nat_lt, Bool, true, false, List, [], ◌∷◌, Option, Some, None, IfSome, refl, sym, subst, inl, inr}
+use Rattle.std.proofs.Common.{◌≡◌, ◌⊎◌, ℕ, zero, suc, ◌+◌, ◌==◌, ◌&&◌, not, nat_lt, Bool, true, false, List, [], ◌∷◌, Option, Some, None, IfSome, refl, sym, ap, ◌∙◌, subst, inl, inr}
 use Rattle.kube_objects.specs.InFlight.{is_due}
 use Rattle.history.proofs.Due.{step_two-walks, step_three-walks, each, answer_due, deliver_due}
 use Rattle.std.specs.Prelude.{if◌then◌else◌}
@@ -22,7 +22,7 @@ use Rattle.kube_objects.specs.Identities.{identity}
 use Rattle.kube_objects.specs.Kubelet.{node_of, is_post, has_round, next_request, post, send_next, is_post_call, round_if, is_round_due, round_timer, round}
 use Rattle.kube_objects.specs.Newest.{has, only_if}
 use Rattle.kube_objects.specs.Pauses.{is_paused}
-use Rattle.kube_objects.specs.Process.{alive, starts, begun, is_releasing, call_in, counted, is_late, release_begun, ended, is_restart_due}
+use Rattle.kube_objects.specs.Process.{alive, starts, begun, is_releasing, call_in, counted, is_late, begun_by, release_begun, ended, is_restart_due}
 use Rattle.kube_objects.specs.Releases.{and_end, end_release, first_call, send_first, begin_release, is_mine, after_look, empty_or_end, react_in_release}
 use Rattle.kube_objects.specs.Stalls.{is_stalled}
 use Rattle.kube_objects.specs.Stored.{election, node_lease}
@@ -85,13 +85,17 @@ Anyone q k = Unit {0}
 abbrev pub Begins : Doc → (Identity → ℕ → Type 0) → ℕ → ℕ → List Entry → Type 0
 Begins doc A k p h = (i : ℕ) → is_controller doc p ≡ true → alive p (elector_turn doc k p h) ≡ Some i → acts doc (identity p i) k (elector_turn doc k p h) ≡ true → A (identity p i) k
 
+-- releases have one update, which a stop sends
+abbrev pub IsStop : Doc → Type 0
+IsStop doc = doc.settings.rules.release ≡ rules.Stop
+
 -- a property at a beat that each kind of entry of a turn keeps; A says who ticks
 pub record KeepsTurn (doc : Doc) (A : Identity → ℕ → Type 0) (P : ℕ → List Entry → Type 0) : Type 0 where
   pub restarts : (k p : ℕ) (h : List Entry) → P k h → P k (start k 4 p h)
   pub expires : (k p i : ℕ) (call : Call) (h : List Entry) → alive p h ≡ Some i → call_in (identity p i) h ≡ Some call → is_late doc (identity p i) k call ≡ true
-      → P k h → P k (entry k 4 (identity p i) (Expires call) ∷ h)
+      → release_begun doc.settings.rules.release call.kind ≡ None → P k h → P k (entry k 4 (identity p i) (Expires call) ∷ h)
   pub ends : (k p i at : ℕ) (h : List Entry) → is_controller doc p ≡ true → alive p h ≡ Some i → deadline doc (identity p i) h ≡ Some at → nat_lt (local doc p k) at ≡ false
-      → P k h → P k (entry k 4 (identity p i) Ends ∷ h)
+      → IsStop doc → P k h → P k (entry k 4 (identity p i) Ends ∷ h)
   pub polls : (k p i : ℕ) (h : List Entry) → is_controller doc p ≡ true → alive p h ≡ Some i → is_paused doc p k ≡ false → call_in (identity p i) h ≡ None
       → P k h → P k (send doc k 4 (identity p i) Plain (Get election) h)
   pub attempts : (k p i : ℕ) (h : List Entry) → is_controller doc p ≡ true → alive p h ≡ Some i → is_paused doc p k ≡ false → call_in (identity p i) h ≡ None
@@ -104,23 +108,27 @@ pub record KeepsTurn (doc : Doc) (A : Identity → ℕ → Type 0) (P : ℕ → 
 
 -- ---- releases, which a document knows whose rule isn't that of a stop's single update
 
-abbrev pub IsStop : Doc → Type 0
-IsStop doc = doc.settings.rules.release ≡ rules.Stop
-
 -- a property at a beat that what a release adds in a turn keeps: its end by time, and its begin at the deadline
 pub record KeepsReleaseTurn (doc : Doc) (P : ℕ → List Entry → Type 0) : Type 0 where
   pub closes : (k p i begun : ℕ) (call : Call) (h : List Entry) → alive p h ≡ Some i → call_in (identity p i) h ≡ Some call → is_late doc (identity p i) k call ≡ true
       → release_begun doc.settings.rules.release call.kind ≡ Some begun → P k h → P k (end_release doc k 4 (identity p i) h)
-  pub begins : (k p i at : ℕ) (h : List Entry) → is_controller doc p ≡ true → alive p h ≡ Some i → deadline doc (identity p i) h ≡ Some at → nat_lt (local doc p k) at ≡ false
-      → (IsStop doc → ⊥) → P k h → P k (end_as doc.settings.rules.release doc k (identity p i) h)
+  pub begins : (k p i at : ℕ) (h : List Entry) → is_controller doc p ≡ true → alive p h ≡ Some i → is_paused doc p k ≡ false → deadline doc (identity p i) h ≡ Some at → nat_lt (local doc p k) at ≡ false
+      → (IsStop doc → ⊥) → is_releasing (identity p i) h ≡ false → P k h
+      → P k (begin_release doc k 4 (identity p i) true (and_end k 4 (identity p i) (not (acts_by doc.settings.rules.in_release true)) h))
 
--- and at a beat and a step: a stop while it runs, its begin at a stop, and what a reply in it causes
+-- and at a beat and a step: a stop while it runs, its begin at a stop, and the two things that a reply in it causes, an emptying and its end
 pub record KeepsRelease (doc : Doc) (P : ℕ → ℕ → List Entry → Type 0) : Type 0 where
-  pub halts : (k : ℕ) (id : ProcId) (i : ℕ) (h : List Entry) → Scripted doc k (what.Stop id) → alive id.0 h ≡ Some i → (IsStop doc → ⊥) → P k 1 h → P k 1 (entry k 1 (identity id.0 i) ReleaseStops ∷ h)
+  pub halts : (k : ℕ) (id : ProcId) (i : ℕ) (h : List Entry) → Scripted doc k (what.Stop id) → alive id.0 h ≡ Some i → (IsStop doc → ⊥) → is_releasing (identity id.0 i) h ≡ true
+      → P k 1 h → P k 1 (entry k 1 (identity id.0 i) ReleaseStops ∷ h)
   pub begins : (k : ℕ) (id : ProcId) (i : ℕ) (before : List Entry) → Scripted doc k (what.Stop id) → alive id.0 before ≡ Some i → is_paused doc id.0 k ≡ false → (IsStop doc → ⊥)
-      → leads (identity id.0 i) before ≡ true → P k 1 (halted_at k id i before) → P k 1 (begin_release doc k 1 (identity id.0 i) false (halted_at k id i before))
-  pub reacts : (k begun : ℕ) (b : Back) (waiting : Call) (h : List Entry) → Coming k h b → counted doc b.who k b.call.number h ≡ Some waiting → is_controller doc b.who.process ≡ true
-      → release_begun doc.settings.rules.release waiting.kind ≡ Some begun → P k 3 h → P k 3 (after_reply k b waiting h) → P k 3 (react_in_release doc k b.who waiting.kind b.reply (after_reply k b waiting h))
+      → is_releasing (identity id.0 i) before ≡ false → leads (identity id.0 i) before ≡ true → P k 1 (script_entry k 1 (Happens (what.Stop id) None) ∷ before)
+      → P k 1 (begin_release doc k 1 (identity id.0 i) false (halted_at k id i before))
+  pub empties : (k begun : ℕ) (b : Back) (waiting : Call) (h : List Entry) (request : Request) → Coming k h b → counted doc b.who k b.call.number h ≡ Some waiting → is_controller doc b.who.process ≡ true
+      → release_begun doc.settings.rules.release waiting.kind ≡ Some begun → waiting.kind ≡ Look begun
+      → after_look doc.settings.rules.release b.who (wall doc b.who.process k) (is_mine b.who (after_reply k b waiting h)) b.reply ≡ Some request
+      → P k 3 h → P k 3 (send doc k 3 b.who (Emptying begun) request (after_reply k b waiting h))
+  pub closes : (k begun : ℕ) (b : Back) (waiting : Call) (h : List Entry) → Coming k h b → counted doc b.who k b.call.number h ≡ Some waiting → is_controller doc b.who.process ≡ true
+      → release_begun doc.settings.rules.release waiting.kind ≡ Some begun → P k 3 h → P k 3 (end_release doc k 3 b.who (after_reply k b waiting h))
   pub turns : KeepsReleaseTurn doc (λ k h. P k 4 h)
 
 -- under the rule of a stop's single update there is nothing to keep
@@ -130,17 +138,25 @@ none_begun rules.Own kind begun stop is = cc
 none_begun rules.Checked kind begun stop is = cc
 none_begun rules.Reread kind begun stop is = cc
 
+-- and under another one a call is of the release that its kind says
+as_begun : (rule : ReleaseRule) (kind : CallKind) (begun : ℕ) → release_begun rule kind ≡ Some begun → release_begun rule kind ≡ begun_by kind
+as_begun rules.Stop kind begun is = cc
+as_begun rules.Own kind begun is = refl
+as_begun rules.Checked kind begun is = refl
+as_begun rules.Reread kind begun is = refl
+
 pub no_release_turn : (doc : Doc) (P : ℕ → List Entry → Type 0) → IsStop doc → KeepsReleaseTurn doc P
 no_release_turn doc P stop = record {
   closes = λ k p i begun call h up waits late is s. absurd (none_begun doc.settings.rules.release call.kind begun stop is);
-  begins = λ k p i at h role up is before other s. absurd (other stop);
+  begins = λ k p i at h role up awake is before other fresh s. absurd (other stop);
 }
 
 pub no_release : (doc : Doc) (P : ℕ → ℕ → List Entry → Type 0) → IsStop doc → KeepsRelease doc P
 no_release doc P stop = record {
-  halts = λ k id i h scripted up other s. absurd (other stop);
-  begins = λ k id i before scripted up awake other led s. absurd (other stop);
-  reacts = λ k begun b waiting h coming is role of was s. absurd (none_begun doc.settings.rules.release waiting.kind begun stop of);
+  halts = λ k id i h scripted up other runs s. absurd (other stop);
+  begins = λ k id i before scripted up awake other fresh led s. absurd (other stop);
+  empties = λ k begun b waiting h request coming is role of look asked s. absurd (none_begun doc.settings.rules.release waiting.kind begun stop of);
+  closes = λ k begun b waiting h coming is role of s. absurd (none_begun doc.settings.rules.release waiting.kind begun stop of);
   turns = no_release_turn doc (λ k h. P k 4 h) stop;
 }
 
@@ -152,17 +168,21 @@ pub record Keeps (doc : Doc) (P : ℕ → ℕ → List Entry → Type 0) : Type 
   pub starts : (k step p : ℕ) (h : List Entry) → P k step h → P k step (start k step p h)
   pub crashes : (k p i : ℕ) (h : List Entry) → alive p h ≡ Some i → P k 1 h → P k 1 (entry k 1 (identity p i) Crashes ∷ h)
   pub stalls : (k : ℕ) (id : ProcId) (beats i : ℕ) (h : List Entry) → Scripted doc k (what.Pause id beats) → alive id.0 h ≡ Some i → P k 1 h → P k 1 (entry k 1 (identity id.0 i) (Stalls beats) ∷ h)
-  pub stops : (k : ℕ) (id : ProcId) (i : ℕ) (h : List Entry) → Scripted doc k (what.Stop id) → alive id.0 h ≡ Some i → P k 1 h → P k 1 (entry k 1 (identity id.0 i) Stops ∷ h)
+  pub stops : (k : ℕ) (id : ProcId) (i : ℕ) (h : List Entry) → Scripted doc k (what.Stop id) → alive id.0 h ≡ Some i → ((IsStop doc → ⊥) → is_releasing (identity id.0 i) h ≡ false)
+      → P k 1 h → P k 1 (entry k 1 (identity id.0 i) Stops ∷ h)
   pub releases : (k : ℕ) (id : ProcId) (i : ℕ) (before : List Entry) (request : Request) → Scripted doc k (what.Stop id) → alive id.0 before ≡ Some i → is_paused doc id.0 k ≡ false
-      → releases_of doc (identity id.0 i) k before ≡ Some request → P k 1 (script_entry k 1 (Happens (what.Stop id) None) ∷ before) → P k 1 (stopped_at k id i before) → P k 1 (send doc k 1 (identity id.0 i) Release request (stopped_at k id i before))
+      → releases_of doc (identity id.0 i) k before ≡ Some request → IsStop doc → P k 1 (script_entry k 1 (Happens (what.Stop id) None) ∷ before) → P k 1 (stopped_at k id i before) → P k 1 (send doc k 1 (identity id.0 i) Release request (stopped_at k id i before))
   pub answers : (k : ℕ) (s : Sent) (h : List Entry) → Arriving k h s → P k 2 h → P k 2 (answered doc k s h)
   pub ignores : (k : ℕ) (b : Back) (h : List Entry) → Coming k h b → counted doc b.who k b.call.number h ≡ None → P k 3 h → P k 3 (entry k 3 b.who (Delivers b.call b.reply false) ∷ h)
-  pub counts : (k : ℕ) (b : Back) (waiting : Call) (h : List Entry) → Coming k h b → counted doc b.who k b.call.number h ≡ Some waiting → P k 3 h → P k 3 (after_reply k b waiting h)
+  pub counts : (k : ℕ) (b : Back) (waiting : Call) (h : List Entry) → Coming k h b → counted doc b.who k b.call.number h ≡ Some waiting
+      → (is_controller doc b.who.process ≡ true → release_begun doc.settings.rules.release waiting.kind ≡ None) → P k 3 h → P k 3 (after_reply k b waiting h)
   pub follows : (k : ℕ) (b : Back) (waiting : Call) (h : List Entry) (request : Request) → Coming k h b → counted doc b.who k b.call.number h ≡ Some waiting
-      → is_controller doc b.who.process ≡ true → follow_on doc b.who k waiting.kind waiting.request b.reply (after_reply k b waiting h) ≡ Asks request
+      → is_controller doc b.who.process ≡ true → release_begun doc.settings.rules.release waiting.kind ≡ None
+      → follow_on doc b.who k waiting.kind waiting.request b.reply (after_reply k b waiting h) ≡ Asks request
       → P k 3 h → P k 3 (after_reply k b waiting h) → P k 3 (send doc k 3 b.who Plain request (after_reply k b waiting h))
   pub leads : (k : ℕ) (b : Back) (waiting : Call) (h : List Entry) (version : Version) → Coming k h b → counted doc b.who k b.call.number h ≡ Some waiting
-      → is_controller doc b.who.process ≡ true → follow_on doc b.who k waiting.kind waiting.request b.reply (after_reply k b waiting h) ≡ Succeeds version
+      → is_controller doc b.who.process ≡ true → release_begun doc.settings.rules.release waiting.kind ≡ None
+      → follow_on doc b.who k waiting.kind waiting.request b.reply (after_reply k b waiting h) ≡ Succeeds version
       → P k 3 h → P k 3 (after_reply k b waiting h) → P k 3 (entry k 3 b.who (Leads version) ∷ after_reply k b waiting h)
   pub asks : (k : ℕ) (b : Back) (waiting : Call) (h : List Entry) (request : Request) → Coming k h b → counted doc b.who k b.call.number h ≡ Some waiting
       → is_controller doc b.who.process ≡ false → next_request doc b.who k waiting.request b.reply ≡ Some request
@@ -201,14 +221,14 @@ plain_made doc k who d h plain = tt
 
 -- what a release adds, for a property that every new entry keeps
 module _ (doc : Doc) (P : List Entry → Type 0) (k step : ℕ) (more : (x : Entry) (h : List Entry) → x.beat ≡ k → x.step ≡ step → IsNext x h → IsPlain x.fact → P h → P (x ∷ h)) where
-  keeps_and_end : (q : Identity) (b : Bool) (h : List Entry) → P h → P (and_end k step q b h)
+  pub keeps_and_end : (q : Identity) (b : Bool) (h : List Entry) → P h → P (and_end k step q b h)
   keeps_and_end q true h s = more _ h refl refl (tt, tt, tt) tt s
   keeps_and_end q false h s = s
 
   pub keeps_end_release : (q : Identity) (h : List Entry) → P h → P (end_release doc k step q h)
   keeps_end_release q h s = more _ (and_end k step q (acts_on doc q h) h) refl refl (tt, tt, tt) tt (keeps_and_end q (acts_on doc q h) h s)
 
-  keeps_send : (q : Identity) (kind : CallKind) (request : Request) (h : List Entry) → P h → P (send doc k step q kind request h)
+  pub keeps_send : (q : Identity) (kind : CallKind) (request : Request) (h : List Entry) → P h → P (send doc k step q kind request h)
   keeps_send q kind request h s = more _ h refl refl (tt, refl, tt) tt s
 
   keeps_first : (q : Identity) (o : Option (CallKind × Request)) (h : List Entry) → P h → P (send_first doc k step q o h)
@@ -220,16 +240,17 @@ module _ (doc : Doc) (P : List Entry → Type 0) (k step : ℕ) (more : (x : Ent
       keeps_first q (first_call doc.settings.rules.release k (release_from q (wall doc q.process k) (shown q h))) (entry k step q (ReleaseBegins at_deadline) ∷ h)
       (more _ h refl refl (tt, tt, tt) tt s)
 
+  -- at the deadline
+  pub keeps_late : (q : Identity) (h : List Entry) → step ≡ 4 → P h → P (begin_release doc k 4 q true (and_end k 4 q (not (acts_by doc.settings.rules.in_release true)) h))
+  keeps_late q h is s = subst (λ n. P (begin_release doc k n q true (and_end k n q (not (acts_by doc.settings.rules.in_release true)) h))) is
+      (keeps_begin_release q true (and_end k step q (not (acts_by doc.settings.rules.in_release true)) h) (keeps_and_end q (not (acts_by doc.settings.rules.in_release true)) h s))
+
   pub keeps_end_as : (rule : ReleaseRule) (q : Identity) (h : List Entry) → step ≡ 4 → P h → P (end_as rule doc k q h)
   keeps_end_as rule q h is s = by_rule rule
     where
-      late : P (begin_release doc k 4 q true (and_end k 4 q (not (acts_by doc.settings.rules.in_release true)) h))
-      late = subst (λ n. P (begin_release doc k n q true (and_end k n q (not (acts_by doc.settings.rules.in_release true)) h))) is
-          (keeps_begin_release q true (and_end k step q (not (acts_by doc.settings.rules.in_release true)) h) (keeps_and_end q (not (acts_by doc.settings.rules.in_release true)) h s))
-
       by_running : (b : Bool) → P (end_released doc k q b h)
       by_running true = s
-      by_running false = late
+      by_running false = keeps_late q h is s
 
       by_rule : (rule : ReleaseRule) → P (end_as rule doc k q h)
       by_rule rules.Stop = more _ h refl (sym is) (tt, tt, tt) tt s
@@ -237,23 +258,12 @@ module _ (doc : Doc) (P : List Entry → Type 0) (k step : ℕ) (more : (x : Ent
       by_rule rules.Checked = by_running (is_releasing q h)
       by_rule rules.Reread = by_running (is_releasing q h)
 
-  keeps_empty : (q : Identity) (begun : ℕ) (o : Option Request) (h : List Entry) → step ≡ 3 → P h → P (empty_or_end doc k q begun o h)
-  keeps_empty q begun None h is s = subst (λ n. P (end_release doc k n q h)) is (keeps_end_release q h s)
-  keeps_empty q begun (Some request) h is s = subst (λ n. P (send doc k n q (Emptying begun) request h)) is (keeps_send q (Emptying begun) request h s)
-
-  pub keeps_react : (q : Identity) (kind : CallKind) (reply : Reply) (h : List Entry) → step ≡ 3 → P h → P (react_in_release doc k q kind reply h)
-  keeps_react q (Look begun) reply h is s = keeps_empty q begun (after_look doc.settings.rules.release q (wall doc q.process k) (is_mine q h) reply) h is s
-  keeps_react q Plain reply h is s = subst (λ n. P (end_release doc k n q h)) is (keeps_end_release q h s)
-  keeps_react q Fast reply h is s = subst (λ n. P (end_release doc k n q h)) is (keeps_end_release q h s)
-  keeps_react q Release reply h is s = subst (λ n. P (end_release doc k n q h)) is (keeps_end_release q h s)
-  keeps_react q (Emptying begun) reply h is s = subst (λ n. P (end_release doc k n q h)) is (keeps_end_release q h s)
-
 -- a property of turns that every new entry keeps, what a release adds
 pub all_release_turns : (doc : Doc) (P : ℕ → List Entry → Type 0)
     → ((k : ℕ) (x : Entry) (h : List Entry) → x.beat ≡ k → x.step ≡ 4 → IsNext x h → P k h → P k (x ∷ h)) → KeepsReleaseTurn doc P
 all_release_turns doc P more = record {
   closes = λ k p i begun call h up waits late is s. keeps_end_release doc (P k) k 4 (λ x h beat is next plain. more k x h beat is next) (identity p i) h s;
-  begins = λ k p i at h role up is before other s. keeps_end_as doc (P k) k 4 (λ x h beat is next plain. more k x h beat is next) doc.settings.rules.release (identity p i) h refl s;
+  begins = λ k p i at h role up awake is before other fresh s. keeps_late doc (P k) k 4 (λ x h beat is next plain. more k x h beat is next) (identity p i) h refl s;
 }
 
 -- a property of turns that every new entry keeps, whatever its kind
@@ -261,8 +271,8 @@ pub all_turns : (doc : Doc) (A : Identity → ℕ → Type 0) (P : ℕ → List 
     → ((k : ℕ) (x : Entry) (h : List Entry) → x.beat ≡ k → x.step ≡ 4 → IsNext x h → P k h → P k (x ∷ h)) → KeepsTurn doc A P
 all_turns doc A P more = record {
   restarts = λ k p h s. more k _ h refl refl ((p, refl), tt, tt) s;
-  expires = λ k p i call h up waits late s. more k _ h refl refl (tt, tt, tt) s;
-  ends = λ k p i at h role up is before s. more k _ h refl refl (tt, tt, tt) s;
+  expires = λ k p i call h up waits late of s. more k _ h refl refl (tt, tt, tt) s;
+  ends = λ k p i at h role up is before stop s. more k _ h refl refl (tt, tt, tt) s;
   polls = λ k p i h role up awake waits s. more k _ h refl refl (tt, refl, tt) s;
   attempts = λ k p i h role up awake waits s. more k _ h refl refl (tt, refl, tt) s;
   seeks = λ k p i call h role up awake expired late s. more k _ h refl refl (tt, refl, tt) s;
@@ -283,13 +293,13 @@ all_kinds doc P on next more = record {
   starts = λ k step p h s. more _ h ((p, refl), tt, tt) s;
   crashes = λ k p i h up s. more _ h (tt, tt, tt) s;
   stalls = λ k id beats i h scripted up s. more _ h (tt, tt, tt) s;
-  stops = λ k id i h scripted up s. more _ h (tt, tt, tt) s;
-  releases = λ k id i before request scripted up awake is was s. more _ (stopped_at k id i before) (tt, refl, tt) s;
+  stops = λ k id i h scripted up free s. more _ h (tt, tt, tt) s;
+  releases = λ k id i before request scripted up awake is stop was s. more _ (stopped_at k id i before) (tt, refl, tt) s;
   answers = λ k s h at t. more _ h (tt, tt, tt) t;
   ignores = λ k b h coming is s. more _ h (tt, tt, tt) s;
-  counts = λ k b waiting h coming is s. more _ h (tt, tt, tt) s;
-  follows = λ k b waiting h request coming is role follows was s. more _ (after_reply k b waiting h) (tt, refl, tt) s;
-  leads = λ k b waiting h version coming is role follows was s. more _ (after_reply k b waiting h) (tt, tt, (b.who, refl, (counted_is doc b.who k b.call.number h waiting is).up)) s;
+  counts = λ k b waiting h coming is of s. more _ h (tt, tt, tt) s;
+  follows = λ k b waiting h request coming is role of follows was s. more _ (after_reply k b waiting h) (tt, refl, tt) s;
+  leads = λ k b waiting h version coming is role of follows was s. more _ (after_reply k b waiting h) (tt, tt, (b.who, refl, (counted_is doc b.who k b.call.number h waiting is).up)) s;
   asks = λ k b waiting h request coming is role follows was s. more _ (after_reply k b waiting h) (tt, refl, tt) s;
   turns = all_turns doc (Ticking doc) (λ k h. P k 4 h) (λ k x h beat step next s.
       subst (λ step. P k step (x ∷ h)) step (subst (λ k. P k x.step (x ∷ h)) beat (more x h next (subst (λ k. P k x.step h) (sym beat) (subst (λ step. P k step h) (sym step) s)))));
@@ -300,9 +310,13 @@ pub all_release : (doc : Doc) (P : ℕ → ℕ → List Entry → Type 0)
     → ((x : Entry) (h : List Entry) → IsNext x h → P x.beat x.step h → P x.beat x.step (x ∷ h))
     → KeepsRelease doc P
 all_release doc P more = record {
-  halts = λ k id i h scripted up other s. more _ h (tt, tt, tt) s;
-  begins = λ k id i before scripted up awake other led s. keeps_begin_release doc (P k 1) k 1 (λ x h beat is next plain. at k 1 x h beat is next) (identity id.0 i) false (halted_at k id i before) s;
-  reacts = λ k begun b waiting h coming is role of was s. keeps_react doc (P k 3) k 3 (λ x h beat is next plain. at k 3 x h beat is next) b.who waiting.kind b.reply (after_reply k b waiting h) refl s;
+  halts = λ k id i h scripted up other runs s. more _ h (tt, tt, tt) s;
+  begins = λ k id i before scripted up awake other fresh led s.
+      keeps_begin_release doc (P k 1) k 1 (λ x h beat is next plain. at k 1 x h beat is next) (identity id.0 i) false (halted_at k id i before)
+      (more _ (script_entry k 1 (Happens (what.Stop id) None) ∷ before) (tt, tt, tt) s);
+  empties = λ k begun b waiting h request coming is role of look asked s. more _ (after_reply k b waiting h) (tt, refl, tt) (more _ h (tt, tt, tt) s);
+  closes = λ k begun b waiting h coming is role of s.
+      keeps_end_release doc (P k 3) k 3 (λ x h beat is next plain. at k 3 x h beat is next) b.who (after_reply k b waiting h) (more _ h (tt, tt, tt) s);
   turns = all_release_turns doc (λ k h. P k 4 h) (λ k x h beat step next s. at k 4 x h beat step next s);
 }
   where
@@ -323,18 +337,18 @@ all_made doc P on next more = record {
   starts = λ k step p h s. more _ h tt s;
   crashes = λ k p i h up s. more _ h tt s;
   stalls = λ k id beats i h scripted up s. more _ h tt s;
-  stops = λ k id i h scripted up s. more _ h tt s;
-  releases = λ k id i before request scripted up awake is was s. more _ (stopped_at k id i before) tt s;
+  stops = λ k id i h scripted up free s. more _ h tt s;
+  releases = λ k id i before request scripted up awake is stop was s. more _ (stopped_at k id i before) tt s;
   answers = λ k s h at t. more _ h tt t;
   ignores = λ k b h coming is s. more _ h tt s;
-  counts = λ k b waiting h coming is s. more _ h tt s;
-  follows = λ k b waiting h request coming is role follows was s. more _ (after_reply k b waiting h) tt s;
-  leads = λ k b waiting h version coming is role follows was s. more _ (after_reply k b waiting h) tt s;
+  counts = λ k b waiting h coming is of s. more _ h tt s;
+  follows = λ k b waiting h request coming is role of follows was s. more _ (after_reply k b waiting h) tt s;
+  leads = λ k b waiting h version coming is role of follows was s. more _ (after_reply k b waiting h) tt s;
   asks = λ k b waiting h request coming is role follows was s. more _ (after_reply k b waiting h) tt s;
   turns = record {
     restarts = λ k p h s. more _ h tt s;
-    expires = λ k p i call h up waits late s. more _ h tt s;
-    ends = λ k p i at h role up is before s. more _ h tt s;
+    expires = λ k p i call h up waits late of s. more _ h tt s;
+    ends = λ k p i at h role up is before stop s. more _ h tt s;
     polls = λ k p i h role up awake waits s. more _ h tt s;
     attempts = λ k p i h role up awake waits s. more _ h tt s;
     seeks = λ k p i call h role up awake expired late s. more _ h tt s;
@@ -348,12 +362,14 @@ pub plain_release : (doc : Doc) (P : ℕ → ℕ → List Entry → Type 0)
     → ((x : Entry) (h : List Entry) → IsPlain x.fact → P x.beat x.step h → P x.beat x.step (x ∷ h))
     → KeepsRelease doc P
 plain_release doc P more = record {
-  halts = λ k id i h scripted up other s. more _ h tt s;
-  begins = λ k id i before scripted up awake other led s. keeps_begin_release doc (P k 1) k 1 (at k 1) (identity id.0 i) false (halted_at k id i before) s;
-  reacts = λ k begun b waiting h coming is role of was s. keeps_react doc (P k 3) k 3 (at k 3) b.who waiting.kind b.reply (after_reply k b waiting h) refl s;
+  halts = λ k id i h scripted up other runs s. more _ h tt s;
+  begins = λ k id i before scripted up awake other fresh led s.
+      keeps_begin_release doc (P k 1) k 1 (at k 1) (identity id.0 i) false (halted_at k id i before) (more _ (script_entry k 1 (Happens (what.Stop id) None) ∷ before) tt s);
+  empties = λ k begun b waiting h request coming is role of look asked s. more _ (after_reply k b waiting h) tt (more _ h tt s);
+  closes = λ k begun b waiting h coming is role of s. keeps_end_release doc (P k 3) k 3 (at k 3) b.who (after_reply k b waiting h) (more _ h tt s);
   turns = record {
     closes = λ k p i begun call h up waits late is s. keeps_end_release doc (P k 4) k 4 (at k 4) (identity p i) h s;
-    begins = λ k p i reading h role up is before other s. keeps_end_as doc (P k 4) k 4 (at k 4) doc.settings.rules.release (identity p i) h refl s;
+    begins = λ k p i reading h role up awake is before other fresh s. keeps_late doc (P k 4) k 4 (at k 4) (identity p i) h refl s;
   };
 }
   where
@@ -383,7 +399,7 @@ module _ (doc : Doc) (A : Identity → ℕ → Type 0) (P : ℕ → List Entry �
 
   walk_expired : (k p i : ℕ) (call : Call) (h : List Entry) → alive p h ≡ Some i → call_in (identity p i) h ≡ Some call → is_late doc (identity p i) k call ≡ true
       → (o : Option ℕ) → release_begun doc.settings.rules.release call.kind ≡ o → P k h → P k (expire_as doc k (identity p i) call o h)
-  walk_expired k p i call h up waits late None of s = keeps.expires k p i call h up waits late s
+  walk_expired k p i call h up waits late None of s = keeps.expires k p i call h up waits late of s
   walk_expired k p i call h up waits late (Some begun) of s = release.closes k p i begun call h up waits late of s
 
   walk_expire_as : (k p i : ℕ) (call : Call) (h : List Entry) → alive p h ≡ Some i → call_in (identity p i) h ≡ Some call → (b : Bool) → is_late doc (identity p i) k call ≡ b
@@ -395,21 +411,28 @@ module _ (doc : Doc) (A : Identity → ℕ → Type 0) (P : ℕ → List Entry �
   walk_expire k p i h up None waits s = s
   walk_expire k p i h up (Some call) waits s = walk_expire_as k p i call h up waits (is_late doc (identity p i) k call) refl s
 
-  walk_deadline : (k p i at : ℕ) → is_controller doc p ≡ true → (h : List Entry) → alive p h ≡ Some i → deadline doc (identity p i) h ≡ Some at → nat_lt (local doc p k) at ≡ false
+  walk_deadline : (k p i at : ℕ) → is_controller doc p ≡ true → (h : List Entry) → alive p h ≡ Some i → is_paused doc p k ≡ false → deadline doc (identity p i) h ≡ Some at → nat_lt (local doc p k) at ≡ false
       → (rule : ReleaseRule) → doc.settings.rules.release ≡ rule → P k h → P k (end_as rule doc k (identity p i) h)
-  walk_deadline k p i at role h up is before rules.Stop by s = keeps.ends k p i at h role up is before s
-  walk_deadline k p i at role h up is before rules.Own by s = subst (λ r. P k (end_as r doc k (identity p i) h)) by (release.begins k p i at h role up is before (λ stop. cc) s)
-  walk_deadline k p i at role h up is before rules.Checked by s = subst (λ r. P k (end_as r doc k (identity p i) h)) by (release.begins k p i at h role up is before (λ stop. cc) s)
-  walk_deadline k p i at role h up is before rules.Reread by s = subst (λ r. P k (end_as r doc k (identity p i) h)) by (release.begins k p i at h role up is before (λ stop. cc) s)
+  walk_deadline k p i at role h up awake is before rule by s = by_rule rule by
+    where
+      by_running : (IsStop doc → ⊥) → (b : Bool) → is_releasing (identity p i) h ≡ b → P k (end_released doc k (identity p i) b h)
+      by_running other true runs = s
+      by_running other false fresh = release.begins k p i at h role up awake is before other fresh s
 
-  walk_end_as : (k p i at : ℕ) → is_controller doc p ≡ true → (h : List Entry) → alive p h ≡ Some i → deadline doc (identity p i) h ≡ Some at → (b : Bool) → nat_lt (local doc p k) at ≡ b
+      by_rule : (rule : ReleaseRule) → doc.settings.rules.release ≡ rule → P k (end_as rule doc k (identity p i) h)
+      by_rule rules.Stop by = keeps.ends k p i at h role up is before by s
+      by_rule rules.Own by = by_running (λ stop. cc) (is_releasing (identity p i) h) refl
+      by_rule rules.Checked by = by_running (λ stop. cc) (is_releasing (identity p i) h) refl
+      by_rule rules.Reread by = by_running (λ stop. cc) (is_releasing (identity p i) h) refl
+
+  walk_end_as : (k p i at : ℕ) → is_controller doc p ≡ true → (h : List Entry) → alive p h ≡ Some i → is_paused doc p k ≡ false → deadline doc (identity p i) h ≡ Some at → (b : Bool) → nat_lt (local doc p k) at ≡ b
       → P k h → P k (if b then h else end_as doc.settings.rules.release doc k (identity p i) h)
-  walk_end_as k p i at role h up is true before s = s
-  walk_end_as k p i at role h up is false before s = walk_deadline k p i at role h up is before doc.settings.rules.release refl s
+  walk_end_as k p i at role h up awake is true before s = s
+  walk_end_as k p i at role h up awake is false before s = walk_deadline k p i at role h up awake is before doc.settings.rules.release refl s
 
-  walk_end : (k p i : ℕ) → is_controller doc p ≡ true → (h : List Entry) → alive p h ≡ Some i → (o : Option ℕ) → deadline doc (identity p i) h ≡ o → P k h → P k (end_term doc k (identity p i) o h)
-  walk_end k p i role h up None is s = s
-  walk_end k p i role h up (Some at) is s = walk_end_as k p i at role h up is (nat_lt (local doc p k) at) refl s
+  walk_end : (k p i : ℕ) → is_controller doc p ≡ true → (h : List Entry) → alive p h ≡ Some i → is_paused doc p k ≡ false → (o : Option ℕ) → deadline doc (identity p i) h ≡ o → P k h → P k (end_term doc k (identity p i) o h)
+  walk_end k p i role h up awake None is s = s
+  walk_end k p i role h up awake (Some at) is s = walk_end_as k p i at role h up awake is (nat_lt (local doc p k) at) refl s
 
   walk_attempt : (k p i : ℕ) → is_controller doc p ≡ true → (h : List Entry) → alive p h ≡ Some i → is_paused doc p k ≡ false → (fast due : Bool)
       → (fast ≡ true → call_in (identity p i) h ≡ None) → (due ≡ true → call_in (identity p i) h ≡ None) → P k h → P k (attempt_if doc k (identity p i) fast due h)
@@ -437,8 +460,8 @@ module _ (doc : Doc) (A : Identity → ℕ → Type 0) (P : ℕ → List Entry �
   pub walk_expiry : (k p : ℕ) (h : List Entry) → P k h → P k (expire doc k p h)
   walk_expiry k p h s = walk_if_up k p (λ q T. expire_call doc k q (call_in q T) T) (λ i T up s. walk_expire k p i T up (call_in (identity p i) T) refl s) (alive p h) h refl s
 
-  walk_finish : (k p : ℕ) → is_controller doc p ≡ true → (h : List Entry) → P k h → P k (finish doc k p h)
-  walk_finish k p role h s = walk_if_up k p (λ q T. end_term doc k q (deadline doc q T) T) (λ i T up s. walk_end k p i role T up (deadline doc (identity p i) T) refl s) (alive p h) h refl s
+  walk_finish : (k p : ℕ) → is_controller doc p ≡ true → is_paused doc p k ≡ false → (h : List Entry) → P k h → P k (finish doc k p h)
+  walk_finish k p role awake h s = walk_if_up k p (λ q T. end_term doc k q (deadline doc q T) T) (λ i T up s. walk_end k p i role T up awake (deadline doc (identity p i) T) refl s) (alive p h) h refl s
 
   pub walk_attempts : (k p : ℕ) → is_controller doc p ≡ true → is_paused doc p k ≡ false → (h : List Entry) → P k h → P k (attempts doc k p h)
   walk_attempts k p role awake h s = walk_if_up k p (try doc k) (λ i T up s. walk_try k p i role T up awake s) (alive p h) h refl s
@@ -450,7 +473,7 @@ module _ (doc : Doc) (A : Identity → ℕ → Type 0) (P : ℕ → List Entry �
       let s1 : P k h1 = walk_restart k p (alive p h) h s in
       let h2 = expire doc k p h1 in
       let s2 : P k h2 = walk_expiry k p h1 s1 in
-      walk_attempts k p role awake (finish doc k p h2) (walk_finish k p role h2 s2)
+      walk_attempts k p role awake (finish doc k p h2) (walk_finish k p role awake h2 s2)
 
   pub walk_ticks : (k p : ℕ) (h : List Entry) → ((i : ℕ) → alive p h ≡ Some i → acts doc (identity p i) k h ≡ true → A (identity p i) k) → P k h → P k (ticks doc k p h)
   walk_ticks k p h acting s = by_stall (is_stalled doc k)
@@ -545,9 +568,9 @@ module _ (doc : Doc) (P : ℕ → ℕ → List Entry → Type 0) (keeps : Keeps 
   walk_stall k id beats (Some i) h scripted is s = keeps.stalls k id beats i h scripted is s
 
   walk_released : (k : ℕ) (id : ProcId) (i : ℕ) (before : List Entry) → Scripted doc k (what.Stop id) → alive id.0 before ≡ Some i → is_paused doc id.0 k ≡ false → (o : Option Request) → releases_of doc (identity id.0 i) k before ≡ o
-      → P k 1 (script_entry k 1 (Happens (what.Stop id) None) ∷ before) → P k 1 (stopped_at k id i before) → P k 1 (released doc k (identity id.0 i) o (stopped_at k id i before))
-  walk_released k id i before scripted up awake None is was s = s
-  walk_released k id i before scripted up awake (Some request) is was s = keeps.releases k id i before request scripted up awake is was s
+      → IsStop doc → P k 1 (script_entry k 1 (Happens (what.Stop id) None) ∷ before) → P k 1 (stopped_at k id i before) → P k 1 (released doc k (identity id.0 i) o (stopped_at k id i before))
+  walk_released k id i before scripted up awake None is stop was s = s
+  walk_released k id i before scripted up awake (Some request) is stop was s = keeps.releases k id i before request scripted up awake is stop was s
 
   walk_stop : (k : ℕ) (id : ProcId) (up : Option ℕ) (before : List Entry) → Scripted doc k (what.Stop id) → ((i : ℕ) → up ≡ Some i → (alive id.0 before ≡ Some i) × (is_paused doc id.0 k ≡ false))
       → P k 1 (script_entry k 1 (Happens (what.Stop id) None) ∷ before) → P k 1 (stop doc k id.0 up before (script_entry k 1 (Happens (what.Stop id) None) ∷ before))
@@ -557,25 +580,24 @@ module _ (doc : Doc) (P : ℕ → ℕ → List Entry → Type 0) (keeps : Keeps 
       up : alive id.0 before ≡ Some i
       up = (is i refl).0
 
-      stopped : P k 1 (stopped_at k id i before)
-      stopped = keeps.stops k id i (script_entry k 1 (Happens (what.Stop id) None) ∷ before) scripted up s
+      stopped : ((IsStop doc → ⊥) → is_releasing (identity id.0 i) before ≡ false) → P k 1 (stopped_at k id i before)
+      stopped free = keeps.stops k id i (script_entry k 1 (Happens (what.Stop id) None) ∷ before) scripted up free s
 
-      halted : (IsStop doc → ⊥) → P k 1 (halted_at k id i before)
-      halted other = release.halts k id i (script_entry k 1 (Happens (what.Stop id) None) ∷ before) scripted up other s
+      by_led : (IsStop doc → ⊥) → is_releasing (identity id.0 i) before ≡ false → (b : Bool) → leads (identity id.0 i) before ≡ b
+          → P k 1 (stop_at_once doc k (identity id.0 i) b (script_entry k 1 (Happens (what.Stop id) None) ∷ before))
+      by_led other fresh true led = release.begins k id i before scripted up (is i refl).1 other fresh led s
+      by_led other fresh false led = stopped (λ o. fresh)
 
-      by_led : (IsStop doc → ⊥) → (b : Bool) → leads (identity id.0 i) before ≡ b → P k 1 (stop_at_once doc k (identity id.0 i) b (script_entry k 1 (Happens (what.Stop id) None) ∷ before))
-      by_led other true led = release.begins k id i before scripted up (is i refl).1 other led (halted other)
-      by_led other false led = stopped
-
-      by_running : (IsStop doc → ⊥) → (b : Bool) → P k 1 (stop_releasing doc k (identity id.0 i) b (leads (identity id.0 i) before) (script_entry k 1 (Happens (what.Stop id) None) ∷ before))
-      by_running other true = halted other
-      by_running other false = by_led other (leads (identity id.0 i) before) refl
+      by_running : (IsStop doc → ⊥) → (b : Bool) → is_releasing (identity id.0 i) before ≡ b
+          → P k 1 (stop_releasing doc k (identity id.0 i) b (leads (identity id.0 i) before) (script_entry k 1 (Happens (what.Stop id) None) ∷ before))
+      by_running other true runs = release.halts k id i (script_entry k 1 (Happens (what.Stop id) None) ∷ before) scripted up other runs s
+      by_running other false fresh = by_led other fresh (leads (identity id.0 i) before) refl
 
       by_rule : (rule : ReleaseRule) → doc.settings.rules.release ≡ rule → P k 1 (stop_as rule doc k (identity id.0 i) before (script_entry k 1 (Happens (what.Stop id) None) ∷ before))
-      by_rule rules.Stop by = walk_released k id i before scripted up (is i refl).1 (releases_of doc (identity id.0 i) k before) refl s stopped
-      by_rule rules.Own by = by_running (λ stop. cc) (is_releasing (identity id.0 i) before)
-      by_rule rules.Checked by = by_running (λ stop. cc) (is_releasing (identity id.0 i) before)
-      by_rule rules.Reread by = by_running (λ stop. cc) (is_releasing (identity id.0 i) before)
+      by_rule rules.Stop by = walk_released k id i before scripted up (is i refl).1 (releases_of doc (identity id.0 i) k before) refl by s (stopped (λ other. absurd (other by)))
+      by_rule rules.Own by = by_running (λ stop. cc) (is_releasing (identity id.0 i) before) refl
+      by_rule rules.Checked by = by_running (λ stop. cc) (is_releasing (identity id.0 i) before) refl
+      by_rule rules.Reread by = by_running (λ stop. cc) (is_releasing (identity id.0 i) before) refl
 
   walk_effect : (k : ℕ) (w : What) (before : List Entry) → Scripted doc k w → P k 1 (script_entry k 1 (Happens (stamp doc k w) (event_version w before)) ∷ before)
       → P k 1 (effect doc k w before (script_entry k 1 (Happens (stamp doc k w) (event_version w before)) ∷ before))
@@ -637,10 +659,10 @@ module _ (doc : Doc) (P : ℕ → ℕ → List Entry → Type 0) (keeps : Keeps 
   walk_lead k g b waiting h false version s new = more_over g k 3 _ (after_reply k b waiting h) s (new s.0)
 
   walk_react : (k : ℕ) (g : List Entry) (b : Back) (waiting : Call) (h : List Entry) → Coming k h b → counted doc b.who k b.call.number h ≡ Some waiting → is_controller doc b.who.process ≡ true
-      → (led : Bool) (f : Follow) → follow_on doc b.who k waiting.kind waiting.request b.reply (after_reply k b waiting h) ≡ f → P k 3 h → Over g k 3 (after_reply k b waiting h) → Over g k 3 (react doc k b.who led f (after_reply k b waiting h))
-  walk_react k g b waiting h coming is role led Fails follows was s = s
-  walk_react k g b waiting h coming is role led (Asks request) follows was s = more_over g k 3 _ (after_reply k b waiting h) s (keeps.follows k b waiting h request coming is role follows was s.0)
-  walk_react k g b waiting h coming is role led (Succeeds version) follows was s = walk_lead k g b waiting h led version s (keeps.leads k b waiting h version coming is role follows was)
+      → release_begun doc.settings.rules.release waiting.kind ≡ None → (led : Bool) (f : Follow) → follow_on doc b.who k waiting.kind waiting.request b.reply (after_reply k b waiting h) ≡ f → P k 3 h → Over g k 3 (after_reply k b waiting h) → Over g k 3 (react doc k b.who led f (after_reply k b waiting h))
+  walk_react k g b waiting h coming is role of led Fails follows was s = s
+  walk_react k g b waiting h coming is role of led (Asks request) follows was s = more_over g k 3 _ (after_reply k b waiting h) s (keeps.follows k b waiting h request coming is role of follows was s.0)
+  walk_react k g b waiting h coming is role of led (Succeeds version) follows was s = walk_lead k g b waiting h led version s (keeps.leads k b waiting h version coming is role of follows was)
 
   walk_ask : (k : ℕ) (g : List Entry) (b : Back) (waiting : Call) (h : List Entry) → Coming k h b → counted doc b.who k b.call.number h ≡ Some waiting → is_controller doc b.who.process ≡ false
       → (o : Option Request) → next_request doc b.who k waiting.request b.reply ≡ o → P k 3 h → Over g k 3 (after_reply k b waiting h) → Over g k 3 (send_next doc k b.who o (after_reply k b waiting h))
@@ -663,22 +685,46 @@ module _ (doc : Doc) (P : ℕ → ℕ → List Entry → Type 0) (keeps : Keeps 
   in_reaction k q Release reply e h at = inr (in_and_end k q (acts_on doc q h) e h at)
   in_reaction k q (Emptying begun) reply e h at = inr (in_and_end k q (acts_on doc q h) e h at)
 
+  walk_counted : (k : ℕ) (g : List Entry) (b : Back) (waiting : Call) (h : List Entry) → Coming k h b → counted doc b.who k b.call.number h ≡ Some waiting
+      → (is_controller doc b.who.process ≡ true → release_begun doc.settings.rules.release waiting.kind ≡ None) → Over g k 3 h → Over g k 3 (after_reply k b waiting h)
+  walk_counted k g b waiting h coming is of s = more_over g k 3 _ h s (keeps.counts k b waiting h coming is of s.0)
+
+  -- in a release
+  walk_empty : (k begun : ℕ) (b : Back) (waiting : Call) (h : List Entry) → Coming k h b → counted doc b.who k b.call.number h ≡ Some waiting → is_controller doc b.who.process ≡ true
+      → release_begun doc.settings.rules.release waiting.kind ≡ Some begun → waiting.kind ≡ Look begun
+      → (o : Option Request) → after_look doc.settings.rules.release b.who (wall doc b.who.process k) (is_mine b.who (after_reply k b waiting h)) b.reply ≡ o
+      → P k 3 h → P k 3 (empty_or_end doc k b.who begun o (after_reply k b waiting h))
+  walk_empty k begun b waiting h coming is role of look None asked s = release.closes k begun b waiting h coming is role of s
+  walk_empty k begun b waiting h coming is role of look (Some request) asked s = release.empties k begun b waiting h request coming is role of look asked s
+
+  walk_released_reply : (k begun : ℕ) (b : Back) (waiting : Call) (h : List Entry) → Coming k h b → counted doc b.who k b.call.number h ≡ Some waiting → is_controller doc b.who.process ≡ true
+      → release_begun doc.settings.rules.release waiting.kind ≡ Some begun → (kind : CallKind) → waiting.kind ≡ kind → P k 3 h → P k 3 (react_in_release doc k b.who kind b.reply (after_reply k b waiting h))
+  walk_released_reply k begun b waiting h coming is role of (Look from) kind s =
+      walk_empty k from b waiting h coming is role (as_begun doc.settings.rules.release waiting.kind begun of ∙ ap begun_by kind) kind
+      (after_look doc.settings.rules.release b.who (wall doc b.who.process k) (is_mine b.who (after_reply k b waiting h)) b.reply) refl s
+  walk_released_reply k begun b waiting h coming is role of Plain kind s = release.closes k begun b waiting h coming is role of s
+  walk_released_reply k begun b waiting h coming is role of Fast kind s = release.closes k begun b waiting h coming is role of s
+  walk_released_reply k begun b waiting h coming is role of Release kind s = release.closes k begun b waiting h coming is role of s
+  walk_released_reply k begun b waiting h coming is role of (Emptying from) kind s = release.closes k begun b waiting h coming is role of s
+
   walk_elector : (k : ℕ) (g : List Entry) (b : Back) (waiting : Call) (h : List Entry) → Coming k h b → counted doc b.who k b.call.number h ≡ Some waiting → is_controller doc b.who.process ≡ true
-      → (o : Option ℕ) → release_begun doc.settings.rules.release waiting.kind ≡ o → P k 3 h → Over g k 3 (after_reply k b waiting h) → Over g k 3 (elector_react doc k b.who waiting b.reply o (after_reply k b waiting h))
-  walk_elector k g b waiting h coming is role None of was s =
-      walk_react k g b waiting h coming is role (leads b.who (after_reply k b waiting h)) (follow_on doc b.who k waiting.kind waiting.request b.reply (after_reply k b waiting h)) refl was s
-  walk_elector k g b waiting h coming is role (Some begun) of was s =
-      (release.reacts k begun b waiting h coming is role of was s.0, λ e at. in_reaction k b.who waiting.kind b.reply e (after_reply k b waiting h) (s.1 e at))
+      → (o : Option ℕ) → release_begun doc.settings.rules.release waiting.kind ≡ o → Over g k 3 h → Over g k 3 (elector_react doc k b.who waiting b.reply o (after_reply k b waiting h))
+  walk_elector k g b waiting h coming is role None of s =
+      walk_react k g b waiting h coming is role of (leads b.who (after_reply k b waiting h)) (follow_on doc b.who k waiting.kind waiting.request b.reply (after_reply k b waiting h)) refl s.0
+      (walk_counted k g b waiting h coming is (λ role. of) s)
+  walk_elector k g b waiting h coming is role (Some begun) of s =
+      (walk_released_reply k begun b waiting h coming is role of waiting.kind refl s.0, λ e at. in_reaction k b.who waiting.kind b.reply e (after_reply k b waiting h) (inr (s.1 e at)))
 
   walk_react_as : (k : ℕ) (g : List Entry) (b : Back) (waiting : Call) (h : List Entry) → Coming k h b → counted doc b.who k b.call.number h ≡ Some waiting
-      → (role : Bool) → is_controller doc b.who.process ≡ role → P k 3 h → Over g k 3 (after_reply k b waiting h) → Over g k 3 (react_as doc k b.who waiting b.reply role (after_reply k b waiting h))
-  walk_react_as k g b waiting h coming is true role was s = walk_elector k g b waiting h coming is role (release_begun doc.settings.rules.release waiting.kind) refl was s
-  walk_react_as k g b waiting h coming is false role was s = walk_ask k g b waiting h coming is role (next_request doc b.who k waiting.request b.reply) refl was s
+      → (role : Bool) → is_controller doc b.who.process ≡ role → Over g k 3 h → Over g k 3 (react_as doc k b.who waiting b.reply role (after_reply k b waiting h))
+  walk_react_as k g b waiting h coming is true role s = walk_elector k g b waiting h coming is role (release_begun doc.settings.rules.release waiting.kind) refl s
+  walk_react_as k g b waiting h coming is false role s =
+      walk_ask k g b waiting h coming is role (next_request doc b.who k waiting.request b.reply) refl s.0
+      (walk_counted k g b waiting h coming is (λ other. absurd (true_is (sym other ∙ role))) s)
 
   walk_deliver_as : (k : ℕ) (g : List Entry) (b : Back) (h : List Entry) → Coming k h b → (o : Option Call) → counted doc b.who k b.call.number h ≡ o → Over g k 3 h → Over g k 3 (deliver_as doc k b.who b.call b.reply o h)
   walk_deliver_as k g b h coming None is s = more_over g k 3 _ h s (keeps.ignores k b h coming is s.0)
-  walk_deliver_as k g b h coming (Some waiting) is s =
-      walk_react_as k g b waiting h coming is (is_controller doc b.who.process) refl s.0 (more_over g k 3 _ h s (keeps.counts k b waiting h coming is s.0))
+  walk_deliver_as k g b h coming (Some waiting) is s = walk_react_as k g b waiting h coming is (is_controller doc b.who.process) refl s
 
   walk_deliver_if : (k : ℕ) (g : List Entry) (e : Entry) (x : Back) (b : Bool) → In e g → back_of e.actor e.fact ≡ Some x → is_due k x.comes ≡ b → (h : List Entry) → Over g k 3 h → Over g k 3 (if b then delivered doc k x h else h)
   walk_deliver_if k g e x false stands is now h s = s

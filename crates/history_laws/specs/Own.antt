@@ -12,7 +12,7 @@ use Rattle.kube_objects.specs.Elector.{acts, in_term, moment, respected, retry_a
 use Rattle.kube_objects.specs.Entry.{Entry, Identity, Place, Call, Stops, Ends, Expires, entry}
 use Rattle.kube_objects.specs.Health.{heard, probe, pass_period}
 use Rattle.kube_objects.specs.Modes.{nodes, places}
-use Rattle.kube_objects.specs.Own.{AreUnstalled, IsOwn, ElectsByOwn, EvictsByOwn, JudgesByOwn, PassesTakeNoWork, ProbesByRun, SettlesAtOnce, StartsEmpty}
+use Rattle.kube_objects.specs.Own.{AreUnstalled, ReleasesByStop, ElectsByOwn, EvictsByOwn, JudgesByOwn, PassesTakeNoWork, ProbesByRun, SettlesAtOnce, StartsEmpty}
 use Rattle.kube_objects.specs.Pauses.{is_paused}
 use Rattle.kube_objects.specs.Process.{alive, is_late, release_begun}
 use Rattle.kube_objects.specs.Seen.{node_names, pod_keys, is_stale, seen_pod}
@@ -64,6 +64,6 @@ pub record PromisesAsBefore (doc : Doc) : Type 0 where
   pub all : lease_premise doc ≡ lease_part doc
 
 abbrev pub OwnRulesChangeNothing : Type 0
-OwnRulesChangeNothing = (doc : Doc) → IsOwn doc → AreUnstalled doc.events
+OwnRulesChangeNothing = (doc : Doc) → ReleasesByStop doc → AreUnstalled doc.events
     → (SettlesAtOnce doc → ProbesByRun doc → JudgesByOwn doc → StartsEmpty doc → PassesTakeNoWork doc → EvictsByOwn doc → TicksAsBefore doc)
     × (ElectsByOwn doc → ElectsAsBefore doc × PromisesAsBefore doc)

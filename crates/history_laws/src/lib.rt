@@ -1,7 +1,7 @@
 //! Laws of every history, whatever its document. Each is the contract of a function with an empty body.
 #![tactic(auto)]
 
-ghost use Rattle.history_laws.specs.Calls.{NumbersCount, NumbersDiffer, OneCallABeat, CallsAreFew};
+ghost use Rattle.history_laws.specs.Calls.{NumbersCount, NumbersDiffer, TwoCallsABeat, CallsAreFew, OneCallABeat, StopsMakeFewer, ReleasesWait, OthersAreOrdinary};
 ghost use Rattle.history_laws.specs.Own.{OwnRulesChangeNothing};
 ghost use Rattle.history_laws.specs.Order.{EntriesAreOrdered, EntriesAreEarlier, TurnsArePositions, HistoriesArePositions, StepsOnlyAdd};
 ghost use Rattle.history_laws.specs.Starts.{StartsAreFew};
@@ -14,12 +14,17 @@ pub fn versions_are_writes()
     ensures contents { VersionsAreContents }
 {}
 
-/// The numbers of an incarnation's requests count them, so they differ; it sends at most one request in a beat.
+/// The numbers of an incarnation's requests count them, so they differ; it sends at most two requests in a beat, and at most one where a stop
+/// sends a single update. While a release runs a call of it waits, and of whoever is up and releases nothing none does.
 pub fn calls_are_numbered()
     ensures count { NumbersCount }
     ensures differ { NumbersDiffer }
-    ensures one { OneCallABeat }
+    ensures two { TwoCallsABeat }
     ensures few { CallsAreFew }
+    ensures one { OneCallABeat }
+    ensures fewer { StopsMakeFewer }
+    ensures waits { ReleasesWait }
+    ensures ordinary { OthersAreOrdinary }
 {}
 
 /// A process starts at most once at first, once for each event, and once in each beat.

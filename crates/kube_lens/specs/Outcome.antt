@@ -29,7 +29,7 @@ use Rattle.kube_lens.specs.Commands.{command_of}
 abbrev pub help : Reply
 help = record {
   verdict = Done;
-  text = codes "kube_lens: answers on leader elections, in a person's words\n\nkube_lens margin < document         for each controller what its lease has to outlast, and what is left\nkube_lens margin --json < document  the same as one JSON object\nkube_lens margin --lease 15s ..     the same of flags: --lease --renew --retry --timeout --skew --beat --json\nkube_lens bounds < document         how long nobody leads and a dead node's pods stay, at least and at most\nkube_lens bounds --json < document  the same as one JSON object\nkube_lens bounds --timeout 5s ..    the same of flags: those of margin, --wait --delay --least-delay --grace ..\nkube_lens tune --failover 10s ..    the flags by which another leads so soon after a crash; --timeout --skew ..\nkube_lens leaders < trace           who led from when to when, when nobody did, and whether two did at once\nkube_lens leaders --json < trace    the same as one JSON object\nkube_lens summary < trace           what a trace comes to, as tables: terms, zones, nodes, evictions, totals\nkube_lens summary --json < trace    the same as one JSON object\nkube_lens summary --document        the tables of a document and, behind it, its trace, and how late pods were evicted\nkube_lens summary --document --json the same as one JSON object\nkube_lens lines --json < trace      each line of a trace as a JSON object on a line of its own, for jq\nkube_lens explain < document        why a document is refused, where, and what may stand there\nkube_lens explain --json < document the same as one JSON object\nkube_lens --help                    these lines\n\nExit status: 0 safe or told, 1 unsafe or refused, 2 no such command, 3 the input can't be read,\n4 the output can't be written, 5 memory ran out, 6 a word isn't UTF-8.\n";
+  text = codes "kube_lens: answers on leader elections, in a person's words\n\nkube_lens margin < document         for each controller what its lease has to outlast, and what is left\nkube_lens margin --json < document  the same as one JSON object\nkube_lens margin --lease 15s ..     the same of flags: --lease --renew --retry --timeout --skew --beat --release ..\nkube_lens bounds < document         how long nobody leads and a dead node's pods stay, at least and at most\nkube_lens bounds --json < document  the same as one JSON object\nkube_lens bounds --timeout 5s ..    the same of flags: those of margin but of releases, --wait --delay --grace ..\nkube_lens tune --failover 10s ..    the flags by which another leads so soon after a crash; --timeout --skew ..\nkube_lens leaders < trace           who led from when to when, when nobody did, and whether two did at once\nkube_lens leaders --json < trace    the same as one JSON object\nkube_lens summary < trace           what a trace comes to, as tables: terms, zones, nodes, evictions, totals\nkube_lens summary --json < trace    the same as one JSON object\nkube_lens summary --document        the tables of a document and, behind it, its trace, and how late pods were evicted\nkube_lens summary --document --json the same as one JSON object\nkube_lens lines --json < trace      each line of a trace as a JSON object on a line of its own, for jq\nkube_lens explain < document        why a document is refused, where, and what may stand there\nkube_lens explain --json < document the same as one JSON object\nkube_lens --help                    these lines\n\nExit status: 0 safe or told, 1 unsafe or refused, 2 no such command, 3 the input can't be read,\n4 the output can't be written, 5 memory ran out, 6 a word isn't UTF-8.\n";
 }
 
 -- the words are no command

@@ -90,10 +90,10 @@ fn help() -> &'static [u8]
 \n\
 kube_lens margin < document         for each controller what its lease has to outlast, and what is left\n\
 kube_lens margin --json < document  the same as one JSON object\n\
-kube_lens margin --lease 15s ..     the same of flags: --lease --renew --retry --timeout --skew --beat --json\n\
+kube_lens margin --lease 15s ..     the same of flags: --lease --renew --retry --timeout --skew --beat --release ..\n\
 kube_lens bounds < document         how long nobody leads and a dead node's pods stay, at least and at most\n\
 kube_lens bounds --json < document  the same as one JSON object\n\
-kube_lens bounds --timeout 5s ..    the same of flags: those of margin, --wait --delay --least-delay --grace ..\n\
+kube_lens bounds --timeout 5s ..    the same of flags: those of margin but of releases, --wait --delay --grace ..\n\
 kube_lens tune --failover 10s ..    the flags by which another leads so soon after a crash; --timeout --skew ..\n\
 kube_lens leaders < trace           who led from when to when, when nobody did, and whether two did at once\n\
 kube_lens leaders --json < trace    the same as one JSON object\n\

@@ -9,7 +9,7 @@ use Rattle.kube_objects.specs.Elector.{acts, leads_on, in_term, led_at, moment, 
 use Rattle.kube_objects.specs.Entry.{Entry, Identity, Place, Call, CallKind, Ends, Expires, entry}
 use Rattle.kube_objects.specs.Health.{heard, probe, pass_period, pass_work}
 use Rattle.kube_objects.specs.Newest.{or_else}
-use Rattle.kube_objects.specs.Own.{IsOwn, ElectsByOwn, EvictsByOwn, JudgesByOwn, PassesTakeNoWork, ProbesByRun, SettlesAtOnce, StartsEmpty}
+use Rattle.kube_objects.specs.Own.{ReleasesByStop, ElectsByOwn, EvictsByOwn, JudgesByOwn, PassesTakeNoWork, ProbesByRun, SettlesAtOnce, StartsEmpty}
 use Rattle.kube_objects.specs.Pauses.{is_paused}
 use Rattle.kube_objects.specs.Process.{release_begun, is_release_over, is_late}
 use Rattle.kube_objects.specs.Retries.{wait_after}
@@ -20,11 +20,11 @@ use Rattle.kube_objects.specs.Modes.{nodes, places}
 use Rattle.kube_objects.specs.Tokens.{has_token, token_by, is_grown, grown, rated}
 use Rattle.kube_objects.specs.Turns.{end_as, expire_as}
 
-module _ (doc : Doc) (own : IsOwn doc) where
+module _ (doc : Doc) (own : ReleasesByStop doc) where
   -- ---- calls
 
   pub release_begun-own : (kind : CallKind) → release_begun doc.settings.rules.release kind ≡ None
-  release_begun-own kind = ap (λ r. release_begun r.release kind) own.rules
+  release_begun-own kind = ap (λ r. release_begun r kind) own.release
 
   pub is_late-own : (q : Identity) (k : ℕ) (call : Call)
       → is_late doc q k call ≡ nat_lt (local doc q.process call.sent + call_timeout doc q.process) (local doc q.process k)
@@ -41,10 +41,10 @@ module _ (doc : Doc) (own : IsOwn doc) where
 
   pub acts-own : (q : Identity) (k : ℕ) (h : List Entry) → acts doc q k h ≡ (not (is_paused doc q.process k) && in_term doc q k h)
   acts-own q k h =
-      ap (λ r. not (is_paused doc q.process k) && leads_on r.release doc q k h) own.rules
+      ap (λ r. not (is_paused doc q.process k) && leads_on r doc q k h) own.release
 
   pub end_term-own : (k : ℕ) (q : Identity) (h : List Entry) → end_as doc.settings.rules.release doc k q h ≡ entry k 4 q Ends ∷ h
-  end_term-own k q h = ap (λ r. end_as r.release doc k q h) own.rules
+  end_term-own k q h = ap (λ r. end_as r doc k q h) own.release
 
 -- ---- the tick
 

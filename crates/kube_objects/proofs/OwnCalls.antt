@@ -4,6 +4,8 @@ use Rattle.std.specs.Prelude.{if◌then◌else◌}
 use Rattle.std.proofs.lemmas.Bool.Decides.{nat_tests}
 use Rattle.kube_objects.specs.declared.call.Reply.{Reply}
 use Rattle.kube_objects.specs.declared.call.Request.{Request}
+use Rattle.kube_objects.specs.declared.rules.ReleaseRule.{ReleaseRule}
+use Rattle.kube_objects.specs.declared.rules.ReleaseRule.TheVariants.{Stop, Own, Checked, Reread}
 use Rattle.kube_objects.specs.CallSlots.{is_late_call, waits}
 use Rattle.kube_objects.specs.Clocks.{local}
 use Rattle.kube_objects.specs.Document.{Doc, call_timeout}
@@ -11,7 +13,7 @@ use Rattle.kube_objects.specs.Elector.{acts_on}
 use Rattle.kube_objects.specs.Entry.{Entry, Identity, Call, CallKind, Plain, Fast, Release, Look, Emptying, Fact, Sends, Expires, actor_of, entry}
 use Rattle.kube_objects.specs.Identities.{is_by}
 use Rattle.kube_objects.specs.Newest.{newest, only_if, when, join}
-use Rattle.kube_objects.specs.Process.{answered_call, begun, call_in, counted, is_late, is_release_over, last_call, release_begun}
+use Rattle.kube_objects.specs.Process.{answered_call, begun, begun_by, call_in, counted, is_late, is_release_over, last_call, release_begun}
 use Rattle.kube_objects.specs.Releases.{and_end}
 use Rattle.kube_objects.specs.Turns.{expire_as, expire_call, expired_in, just_expired, with_reply}
 use Rattle.kube_objects.specs.Wire.{next_call}
@@ -25,6 +27,28 @@ same_beat k = grind (arith, nat_tests)
 -- what an entry says, and else the entries before it
 abbrev pub said : {A : Type 0} → Option A → Option A → Option A
 said now before = elim now [ None ↦ before | Some x ↦ Some x ]
+
+-- ---- a call that is of no release
+
+begun_by-ordinary : (kind : CallKind) → waits kind ≡ true → begun_by kind ≡ None
+begun_by-ordinary Plain waiting = refl
+begun_by-ordinary Fast waiting = refl
+begun_by-ordinary Release waiting = absurd (cc)
+begun_by-ordinary (Look begun) waiting = absurd (cc)
+begun_by-ordinary (Emptying begun) waiting = absurd (cc)
+
+-- whatever the rule of releases
+pub release_begun-ordinary : (rule : ReleaseRule) (kind : CallKind) → waits kind ≡ true → release_begun rule kind ≡ None
+release_begun-ordinary Stop kind waiting = refl
+release_begun-ordinary Own kind waiting = begun_by-ordinary kind waiting
+release_begun-ordinary Checked kind waiting = begun_by-ordinary kind waiting
+release_begun-ordinary Reread kind waiting = begun_by-ordinary kind waiting
+
+-- its timeout alone makes it late
+pub is_late-ordinary : (doc : Doc) (q : Identity) (k : ℕ) (call : Call) → release_begun doc.settings.rules.release call.kind ≡ None
+    → is_late doc q k call ≡ nat_lt (local doc q.process call.sent + call_timeout doc q.process) (local doc q.process k)
+is_late-ordinary doc q k call none =
+    ap (λ o. is_release_over doc q k o || nat_lt (local doc q.process call.sent + call_timeout doc q.process) (local doc q.process k)) none
 
 -- ---- the call that waits
 

@@ -1,8 +1,7 @@
--- A document that goes by the project's own rules in all that nothing runs yet, as every one of versions 1 to 3 does; and one that goes by
--- them in its elections too, in a term's first sync, in when nodes are silent and when it judges them, in how zones' buckets start, in its
--- evictions, or in what a pass takes. Source: profile.
+-- A document that goes by the project's own rules, as every one of versions 1 to 3 does: in releases, in its elections, in a term's first
+-- sync, in when nodes are silent and when it judges them, in how zones' buckets start, in its evictions, or in what a pass takes. Source:
+-- profile.
 use Rattle.std.specs.Prelude.{◌≡◌, List, [], ◌∷◌, None}
-use Rattle.kube_objects.specs.declared.rules.Rules.{Rules}
 use Rattle.kube_objects.specs.declared.rules.RetryRule.TheVariants as retries
 use Rattle.kube_objects.specs.declared.rules.RespectRule.TheVariants as respects
 use Rattle.kube_objects.specs.declared.rules.JudgeRule.TheVariants as judges
@@ -10,9 +9,10 @@ use Rattle.kube_objects.specs.declared.rules.SightRule.TheVariants as sights
 use Rattle.kube_objects.specs.declared.rules.BucketRule.TheVariants as buckets
 use Rattle.kube_objects.specs.declared.rules.EvictRule.TheVariants as evictions
 use Rattle.kube_objects.specs.declared.rules.ProbeRule.TheVariants as probes
+use Rattle.kube_objects.specs.declared.rules.ReleaseRule.TheVariants as releases
+use Rattle.kube_objects.specs.declared.rules.ReleaseActing.TheVariants as acting
 use Rattle.kube_objects.specs.declared.script.Event.{Event}
 use Rattle.kube_objects.specs.Document.{Doc, own_waits_each}
-use Rattle.kube_objects.specs.Rules.{own_rules}
 use Rattle.kube_objects.specs.Stalls.{stall_of}
 
 -- a script that doesn't stop the store
@@ -20,28 +20,10 @@ abbrev pub AreUnstalled : List Event → Type 0
 AreUnstalled [] = Unit {0}
 AreUnstalled (e ∷ es) = (stall_of e.what ≡ None) × AreUnstalled es
 
--- the own rules, but for those that run: the ones of elections, how long a term waits with its first sync, from when a node counts as silent,
--- when nodes are judged, what a term does with one that it first sees and how often a queue holds it, how a zone's bucket starts, the ones of
--- evictions, and how long a pass takes for the pods that it sets not ready
-abbrev pub own_but_built : Rules → Rules
-own_but_built rules = record own_rules {
-  retries = rules.retries;
-  respect = rules.respect;
-  first_sync_millis = rules.first_sync_millis;
-  probe = rules.probe;
-  judge = rules.judge;
-  first_sight = rules.first_sight;
-  queue = rules.queue;
-  bucket = rules.bucket;
-  evict_from = rules.evict_from;
-  evict_burst = rules.evict_burst;
-  evict_rate = rules.evict_rate;
-  ready_millis = rules.ready_millis;
-  ready_burst = rules.ready_burst;
-}
-
-pub record IsOwn (doc : Doc) : Type 0 where
-  pub rules : doc.settings.rules ≡ own_but_built doc.settings.rules
+-- leaders give up their Leases at stops alone, each by one update, and nobody acts meanwhile
+pub record ReleasesByStop (doc : Doc) : Type 0 where
+  pub release : doc.settings.rules.release ≡ releases.Stop
+  pub still : doc.settings.rules.in_release ≡ acting.Still
 
 -- when failed attempts are made again, and whose lease duration is respected
 pub record ElectsByOwn (doc : Doc) : Type 0 where

@@ -9,14 +9,15 @@ use Rattle.kube_objects.specs.Document.{Doc}
 use Rattle.kube_objects.specs.Elector.{timer, acts_on, fails, is_fast, leads, deadline, retry_at, trying_says}
 use Rattle.kube_objects.specs.Entry.{Entry, Identity, Call, Expires, entry}
 use Rattle.kube_objects.specs.Newest.{has, when, or_else}
-use Rattle.kube_objects.specs.Process.{call_in, is_late, release_begun}
+use Rattle.kube_objects.specs.Process.{call_in, is_late, is_releasing, release_begun}
 use Rattle.kube_objects.specs.Releases.{and_end}
 use Rattle.kube_objects.specs.Turns.{expire_as, expire_call, is_fast_call, just_expired}
-use Rattle.kube_objects.proofs.OwnCalls.{call_in-expired, late_expires, mine}
+use Rattle.kube_objects.proofs.OwnCalls.{call_in-expired, late_expires, mine, said}
 use Rattle.leader_elector.specs.declared.elector.Elector.{Elector}
 use Rattle.leader_elector.specs.declared.attempts.Attempts.{Attempts}
 use Rattle.leader_elector.specs.Attempts.{after_failure, attempts_of, waits_until}
 use Rattle.leader_elector.specs.Stands.{AreWaitsIf, AttemptsStand, ElectorStands, IsSettled, is_fast_wait, waiting_in}
+use Rattle.leader_elector.proofs.Frames.{last_releasing}
 use Rattle.leader_elector.proofs.Failing.{attempts-beside, attempts-failed, until-is}
 use Rattle.leader_elector.proofs.Own.{timer-expired, fast_expired, settled-slow}
 
@@ -53,6 +54,18 @@ module _ (doc : Doc) (k : ℕ) (q : Identity) (h : List Entry) where
   pub deadline-expiry : (c : Option Call) → deadline doc q (expire_call doc k q c h) ≡ deadline doc q h
   deadline-expiry None = refl
   deadline-expiry (Some call) = deadline_as call (is_late doc q k call)
+
+  unreleased_expired : (call : Call) (o : Option ℕ) → is_releasing q h ≡ false → is_releasing q (expire_as doc k q call o h) ≡ false
+  unreleased_expired call None is = is
+  unreleased_expired call (Some begun) is = ap (λ b. or_else false (said (when b false) (last_releasing q (and_end k 4 q (acts_on doc q h) h)))) (mine q)
+
+  unreleased_as : (call : Call) (b : Bool) → is_releasing q h ≡ false → is_releasing q (if b then expire_as doc k q call (release_begun doc.settings.rules.release call.kind) h else h) ≡ false
+  unreleased_as call true is = unreleased_expired call (release_begun doc.settings.rules.release call.kind) is
+  unreleased_as call false is = is
+
+  pub unreleased-expiry : (c : Option Call) → is_releasing q h ≡ false → is_releasing q (expire_call doc k q c h) ≡ false
+  unreleased-expiry None is = is
+  unreleased-expiry (Some call) is = unreleased_as call (is_late doc q k call) is
 
   -- the state after an expiry: that of an update without a Get is no failure
   module _ (call : Call) (e : Elector) (slot : CallSlot) (at : Local) (tried : Attempts) (s : ElectorStands doc q h e) (is : call_in q h ≡ Some call)

@@ -1,5 +1,5 @@
 -- Failed attempts in the history, and what an elector keeps of them.
-use Rattle.std.proofs.Common.{◌≡◌, ◌∙◌, ℕ, zero, suc, ◌+◌, ◌%◌, ◌≤◌, ◌<◌, ◌&&◌, ◌||◌, not, nat_lt, Bool, true, false, cond, List, [], ◌∷◌, length, Option, Some, None, refl, sym, ap, subst, arith}
+use Rattle.std.proofs.Common.{◌≡◌, ◌∙◌, ℕ, ◌+◌, ◌%◌, ◌≤◌, ◌<◌, ◌&&◌, ◌||◌, not, nat_lt, Bool, true, false, cond, List, [], ◌∷◌, length, Option, Some, None, refl, sym, ap, subst, arith}
 use Rattle.std.proofs.Math.Nat.{mod-eq_of_lt, mod-lt, mod_self, suc-mod, zero-mod}
 use Rattle.std.proofs.Math.Numerals.{suc-eq-add-one}
 use Rattle.std.proofs.lemmas.Bool.Decides.{nat_tests}
@@ -12,7 +12,7 @@ use Rattle.kube_objects.specs.Elector.{attempt_began, begins, failures, fails, f
 use Rattle.kube_objects.specs.Entry.{Call, Entry, Fact, Identity, Sends, Starts, entry}
 use Rattle.kube_objects.specs.Identities.{is_by}
 use Rattle.kube_objects.specs.Newest.{added, newest, or_else, or_zero, when}
-use Rattle.kube_objects.specs.Retries.{next_point, next_tick, wait_after}
+use Rattle.kube_objects.specs.Retries.{next_point, next_tick}
 use Rattle.kube_objects.proofs.OwnCalls.{mine, said}
 use Rattle.leader_elector.specs.declared.timing.Timing.{Timing}
 use Rattle.leader_elector.specs.Attempts.{AttemptState, after_failure, candidate_waits, counts_from, leader_waits, next_place, none_yet, waits_until, with_begin, with_success}

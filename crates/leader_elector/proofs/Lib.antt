@@ -1,6 +1,8 @@
 pub mod Own
 pub mod Expiry
 pub mod Beginning
+pub mod Begins
+pub mod Endings
 pub mod Failing
 pub mod Replies
 pub mod Taken

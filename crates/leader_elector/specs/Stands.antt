@@ -8,27 +8,30 @@ use Rattle.kube_objects.specs.declared.rules.RetryRule.TheVariants.{After, Grid,
 use Rattle.kube_objects.specs.Document.{Doc, lease_seconds, renew_deadline, retry_period, call_timeout, waits_of}
 use Rattle.kube_objects.specs.Elector.{Shown, Follow, Fails, Asks, Succeeds, is_fast, shown, observed_at, timer, leads, deadline}
 use Rattle.kube_objects.specs.Elector.{attempt_began, failures, first_attempt, first_failure, is_failing, is_trying}
-use Rattle.kube_objects.specs.Entry.{Entry, Identity, Call, CallKind, Plain, Fast}
+use Rattle.kube_objects.specs.Entry.{Entry, Identity, Call, CallKind, Plain, Fast, Release, Look, Emptying}
 use Rattle.kube_objects.specs.Identities.{identity}
 use Rattle.kube_objects.specs.Newest.{has, when}
-use Rattle.kube_objects.specs.Own.{IsOwn}
-use Rattle.kube_objects.specs.Process.{begun, call_in}
+use Rattle.kube_objects.specs.Process.{begun, call_in, is_ending, is_releasing, release_begun}
+use Rattle.kube_objects.specs.Releases.{is_mine}
 use Rattle.kube_objects.specs.Turns.{is_fast_call, just_expired}
 use Rattle.leader_elector.specs.declared.acting.Acting.{Acting}
 use Rattle.leader_elector.specs.declared.candidate.Candidate.{Candidate}
 use Rattle.leader_elector.specs.declared.elector.Elector.{Elector}
 use Rattle.leader_elector.specs.declared.ended.Ended.{Ended}
+use Rattle.leader_elector.specs.declared.ended.Released.{Released}
+use Rattle.leader_elector.specs.declared.ended.Released.TheVariants.{AtOnce, Begins}
 use Rattle.leader_elector.specs.declared.follow.Follow as code
 use Rattle.leader_elector.specs.declared.follow.Follow.TheVariants as follow
 use Rattle.leader_elector.specs.declared.leading.Leading.{Leading}
+use Rattle.leader_elector.specs.declared.releasing.Releasing.{Releasing}
 use Rattle.leader_elector.specs.declared.seen.Seen.{Seen}
 use Rattle.leader_elector.specs.declared.timing.Timing.{Timing}
 use Rattle.leader_elector.specs.declared.waiting.Waiting.{Waiting}
 use Rattle.leader_elector.specs.declared.won.Won.{Won}
-use Rattle.kube_objects.specs.CallSlots.{CallSlotStands}
+use Rattle.kube_objects.specs.CallSlots.{CallSlotStands, calls_of, held_call}
 use Rattle.leader_elector.specs.Attempts.{AttemptState, attempts_of}
 
--- the timings are those of a process of the document, which goes by the project's own rules but for those of elections
+-- the timings are those of a process of the document
 pub record IsTimingOf (doc : Doc) (p : ℕ) (t : Timing) : Type 0 where
   pub lease : t.lease_seconds ≡ lease_seconds doc p
   pub renew : t.renew ≡ renew_deadline doc p
@@ -37,7 +40,8 @@ pub record IsTimingOf (doc : Doc) (p : ℕ) (t : Timing) : Type 0 where
   pub fast : t.fast ≡ doc.settings.fast_renew
   pub retries : t.retries ≡ doc.settings.rules.retries
   pub respect : t.respect ≡ doc.settings.rules.respect
-  pub own : IsOwn doc
+  pub release : t.release ≡ doc.settings.rules.release
+  pub in_release : t.in_release ≡ doc.settings.rules.in_release
 
 -- the waits are those of a controller
 pub record AreWaitsOf (doc : Doc) (p : ℕ) (waits : List ℕ) : Type 0 where
@@ -117,11 +121,13 @@ pub record CandidateStands (doc : Doc) (q : Identity) (h : List Entry) (c : Cand
   pub elector : ElectorStands doc q h c.elector
   pub settled : IsSettled q h
   pub leads : leads q h ≡ false
+  pub unreleased : is_releasing q h ≡ false
 
 -- a candidate that a reply at beat k has made the holder, and that is to lead
 pub record IsChosen (doc : Doc) (q : Identity) (k : ℕ) (h : List Entry) (w : Won) : Type 0 where
   pub elector : ElectorStands doc q h w.elector
   pub idle : call_in q h ≡ None
+  pub unreleased : is_releasing q h ≡ false
   pub now : w.now.0 ≡ local doc q.process k
 
 pub record LeadingStands (doc : Doc) (q : Identity) (h : List Entry) (l : Leading) : Type 0 where
@@ -129,6 +135,32 @@ pub record LeadingStands (doc : Doc) (q : Identity) (h : List Entry) (l : Leadin
   pub settled : IsSettled q h
   pub leads : leads q h ≡ true
   pub deadline : Some l.deadline.0 ≡ deadline doc q h
+  pub unreleased : is_releasing q h ≡ false
+
+abbrev pub looks_in : CallKind → Bool
+looks_in Plain = false
+looks_in Fast = false
+looks_in Release = false
+looks_in (Look begun) = true
+looks_in (Emptying begun) = false
+
+-- a process whose release runs: it began at a beat, and its call waits
+pub record ReleasingStands (doc : Doc) (q : Identity) (h : List Entry) (r : Releasing) : Type 0 where
+  pub process : r.elector.me.0 ≡ q.process
+  pub incarnation : r.elector.incarnation ≡ q.incarnation
+  pub timing : IsTimingOf doc q.process r.elector.timing
+  pub calls : calls_of r.elector.slot ≡ begun q h
+  pub call : Call
+  pub waits : call_in q h ≡ Some call
+  pub held : held_call r.elector.slot ≡ Some (call.number, local doc q.process call.sent)
+  pub late : r.late.0 ≡ local doc q.process call.sent + call_timeout doc q.process + 1
+  pub looks : r.looks ≡ looks_in call.kind
+  pub from : ℕ
+  pub began : release_begun doc.settings.rules.release call.kind ≡ Some from
+  pub until : r.until.0 ≡ local doc q.process from + renew_deadline doc q.process
+  pub mine : r.mine ≡ is_mine q h
+  pub ending : r.ending ≡ is_ending q h
+  pub runs : is_releasing q h ≡ true
 
 -- an identity of which the history tells nothing
 pub record IsNew (doc : Doc) (q : Identity) (h : List Entry) : Type 0 where
@@ -137,6 +169,7 @@ pub record IsNew (doc : Doc) (q : Identity) (h : List Entry) : Type 0 where
   pub shown : shown q h ≡ None
   pub observed : observed_at doc q h ≡ 0
   pub leads : leads q h ≡ false
+  pub unreleased : is_releasing q h ≡ false
   pub failures : failures doc q h ≡ 0
   pub trying : is_trying doc q h ≡ false
   pub failing : is_failing doc q h ≡ false
@@ -156,8 +189,15 @@ leading_identity l = identity l.elector.me.0 l.elector.incarnation
 abbrev pub ended_identity : Ended → Identity
 ended_identity x = identity x.me.0 x.incarnation
 
+abbrev pub releasing_identity : Releasing → Identity
+releasing_identity r = identity r.elector.me.0 r.elector.incarnation
+
+abbrev pub released_identity : Released → Identity
+released_identity (AtOnce x ask) = ended_identity x
+released_identity (Begins r ask) = releasing_identity r
+
 abbrev pub acting_identity : Acting → Identity
-acting_identity a = leading_identity a.leading.now
+acting_identity a = identity a.elector.now.me.0 a.elector.now.incarnation
 
 -- the reading at which the term ends
 abbrev pub deadline_of : Leading → ℕ

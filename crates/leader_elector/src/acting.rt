@@ -2,13 +2,14 @@
 ghost use Rattle.std.specs.Prelude.{◌≡◌};
 ghost use Rattle.leader_elector.specs.Stands.{Names, acting_identity};
 
-use crate::Leading;
+use crate::elector::Elector;
 use kube_base::ProcId;
 
-/// A leader whose deadline isn't reached. It exists only while its `Leading` is borrowed.
+/// A leader whose deadline isn't reached, or that acts until its release has ended. It exists only while its `Leading` or its
+/// `Releasing` is borrowed.
 #[derive(Drop)]
 pub struct Acting<'a> {
-    pub(crate) leading: &'a Leading,
+    pub(crate) elector: &'a Elector,
 }
 
 impl Acting<'_> {
@@ -16,6 +17,6 @@ impl Acting<'_> {
     pub fn identity(&self) -> (ProcId, u32)
         ensures { Names (acting_identity self.now) result }
     {
-        (self.leading.elector.me, self.leading.elector.incarnation)
+        (self.elector.me, self.elector.incarnation)
     }
 }

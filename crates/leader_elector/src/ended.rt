@@ -2,6 +2,7 @@
 ghost use Rattle.std.specs.Prelude.{◌≡◌};
 ghost use Rattle.leader_elector.specs.Stands.{Names, ended_identity};
 
+use crate::Releasing;
 use kube_base::ProcId;
 use kube_objects::Ask;
 
@@ -12,11 +13,19 @@ pub struct Ended {
     pub(crate) incarnation: u32,
 }
 
-/// A term that was given up, and the update that gives up the lead.
+/// How a term is given up: at once, with the update that gives up the lead, or by a release, which begins with a call.
+#[derive(Drop)]
+pub enum Released {
+    AtOnce(Ended, Option<Ask>),
+    Begins(Releasing, Ask),
+}
+
+/// A release that is over: whether its leader acted until then, and whether its process starts again.
 #[derive(Debug, Drop)]
-pub struct Released {
+pub struct ReleaseEnd {
     pub ended: Ended,
-    pub ask: Option<Ask>,
+    pub acted: bool,
+    pub restarts: bool,
 }
 
 impl Ended {

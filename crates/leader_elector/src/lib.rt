@@ -1,7 +1,8 @@
 //! Leader election as client-go's `leaderelection` does it, as typed states: a candidate, a leader, and the end of a term.
 //!
 //! Its `acquire` is `Candidate` (`candidate.rt`): `turn` is one round of the loop, `hear` takes a reply, `Won` (`won.rt`) is the success, from which alone a term begins.
-//! Its `renew` is `Leading` (`leading.rt`), with `on_timer`, `on_reply` and the `deadline`; its `release` is `Leading::release`.
+//! Its `renew` is `Leading` (`leading.rt`), with `on_timer`, `on_reply` and the `deadline`; its `release` is `Releasing` (`releasing.rt`), which
+//! a deadline or `Leading::release` begins.
 //! An attempt of either, `tryAcquireOrRenew`, goes through `Elector` (`elector.rt`):
 //! 1. `expire` forgets a call without a reply; where it is time `attempt` begins, with a Get or, in `renew`, the fast path's update.
 //! 2. `receive` drops replies that don't count, and `note` keeps what is shown (`observedRecord`, `observedTime`).
@@ -18,6 +19,7 @@ mod ended;
 mod follow;
 mod leading;
 mod reading;
+mod releasing;
 mod seen;
 mod timing;
 mod waiting;
@@ -25,8 +27,9 @@ mod won;
 
 pub use acting::Acting;
 pub use candidate::{Candidate, CandidateNext, Heard};
-pub use ended::{Ended, Released};
+pub use ended::{Ended, ReleaseEnd, Released};
 pub use leading::{Leading, LeadingNext};
+pub use releasing::{Releasing, ReleasingNext};
 pub use timing::Timing;
 pub use won::Won;
 

@@ -1,1 +1,2 @@
 pub mod Respects
+pub mod Emptied

@@ -10,7 +10,7 @@ use Rattle.kube_objects.specs.Document.{Doc}
 use Rattle.script_reader.specs.Lawful.{IsLawful, AreWaits, IsLawfulDoc, IsLawfulWhat, AreLawfulFrom}
 use Rattle.takeover_laws.specs.Waits.{least_from, greatest_from}
 use Rattle.lens_bounds.specs.declared.reach.Reach.{Reach}
-use Rattle.lens_bounds.specs.Documents.{nothing, with_rate, with_delay, rate_if, delay_if, with_processes, with_event, with_events, is_meant, processes_of, least_in, greatest_in, reach_of, calm_with, calm_of, with_far, outage_of}
+use Rattle.lens_bounds.specs.Documents.{nothing, with_rate, rate_if, delay_if, with_processes, with_event, with_events, is_meant, processes_of, least_in, greatest_in, reach_of, calm_with, calm_of, with_far, outage_of}
 use Rattle.lens_bounds.specs.Elections.{IsCalm}
 use Rattle.lens_bounds.specs.Outages.{IsOutage}
 

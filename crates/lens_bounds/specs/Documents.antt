@@ -8,6 +8,10 @@ use Rattle.kube_objects.specs.declared.rules.JudgeRule.{JudgeRule}
 use Rattle.kube_objects.specs.declared.rules.JudgeRule.TheVariants as judges
 use Rattle.kube_objects.specs.declared.rules.ProbeRule.{ProbeRule}
 use Rattle.kube_objects.specs.declared.rules.ProbeRule.TheVariants as probes
+use Rattle.kube_objects.specs.declared.rules.ReleaseActing.{ReleaseActing}
+use Rattle.kube_objects.specs.declared.rules.ReleaseActing.TheVariants as acting
+use Rattle.kube_objects.specs.declared.rules.ReleaseRule.{ReleaseRule}
+use Rattle.kube_objects.specs.declared.rules.ReleaseRule.TheVariants as releases
 use Rattle.kube_objects.specs.declared.rules.SightRule.{SightRule}
 use Rattle.kube_objects.specs.declared.rules.SightRule.TheVariants as sights
 use Rattle.kube_objects.specs.declared.script.Event.{Event}
@@ -88,6 +92,16 @@ greatest_in most (ws ∷ more) = greatest_in (greatest_from most ws) more
 abbrev pub waits_in : List (List ℕ) → Waits
 waits_in lists = Between (least_in 2200 lists) (greatest_in 1000 lists)
 
+abbrev pub is_stop : ReleaseRule → Bool
+is_stop releases.Stop = true
+is_stop releases.Own = false
+is_stop releases.Checked = false
+is_stop releases.Reread = false
+
+abbrev pub is_still : ReleaseActing → Bool
+is_still acting.Still = true
+is_still acting.Acts = false
+
 -- calm spans with these delays and clocks
 abbrev pub calm_with : Doc → Reach → Calm
 calm_with doc r = record {
@@ -99,6 +113,7 @@ calm_with doc r = record {
   waits = waits_in doc.waits;
   respect = doc.settings.rules.respect;
   fast_renew = doc.settings.fast_renew;
+  releases_by_stop = is_stop doc.settings.rules.release && is_still doc.settings.rules.in_release;
 }
 
 abbrev pub calm_of : Doc → Calm

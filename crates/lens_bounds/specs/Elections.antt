@@ -95,9 +95,12 @@ outlasts c p = nat_lt ((retry c p + 5 * c.far - c.near) * c.fast) (of_seconds p.
 abbrev pub stays_by : Calm → Proc → Bool
 stays_by c p = replies_count c p && renews c p && outlasts c p
 
--- somebody comes to lead
+-- somebody comes to lead, where leaders give up their Leases at stops alone
+abbrev pub all_count : Calm → List Proc → Bool
+all_count c ps = list_all (replies_count c) ps
+
 abbrev pub lead : Calm → List Proc → Bool
-lead c ps = list_all (replies_count c) ps
+lead c ps = c.releases_by_stop && all_count c ps
 
 -- a leader as somebody respects it whose own lease has so many seconds
 abbrev pub as_respected : RespectRule → ℕ → Proc → Proc
@@ -112,8 +115,11 @@ abbrev pub shortest_lease : List Proc → ℕ
 shortest_lease ps = shortest_from 4294967295 ps
 
 -- and whoever leads stays, also where others respect its records for the shortest lease alone
+abbrev pub all_stay : Calm → List Proc → Bool
+all_stay c ps = list_all (λ p. stays_by c (as_respected c.respect (shortest_lease ps) p)) ps
+
 abbrev pub stay : Calm → List Proc → Bool
-stay c ps = list_all (λ p. stays_by c (as_respected c.respect (shortest_lease ps) p)) ps
+stay c ps = c.releases_by_stop && all_stay c ps
 
 -- ---- the bounds, of a leader and of another candidate
 

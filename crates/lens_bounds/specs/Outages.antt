@@ -85,9 +85,9 @@ abbrev pub marked_if : Outage → Bool → Option Marked
 marked_if o true = Some (record { least = since_death o (unknown_least o); most = unknown_most o * o.calm.beat_millis })
 marked_if o false = None
 
--- and passes take no time, and nodes are silent by the run
+-- and passes take no time, nodes are silent by the run, and leaders give up their Leases at stops alone
 abbrev pub marks : Outage → Bool
-marks o = ((o.kubelets && posts o) && o.passes_take_no_work) && o.probes_by_run
+marks o = (((o.kubelets && posts o) && o.passes_take_no_work) && o.probes_by_run) && o.calm.releases_by_stop
 
 -- from the death of a node's kubelet until the node is marked Unknown
 unfoldable pub until_unknown : Outage → Option Marked

@@ -29,4 +29,6 @@ pub struct Calm {
     pub respect: RespectRule,
     /// Whether a leader renews without a Get where it can.
     pub fast_renew: bool,
+    /// Whether leaders give up their Leases at stops alone, each by one update, and nobody acts meanwhile.
+    pub releases_by_stop: bool,
 }

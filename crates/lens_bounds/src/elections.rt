@@ -160,9 +160,16 @@ fn outlasts(c: Calm, p: Proc) -> bool
     beats * u128::from(c.fast) < of_seconds(u64::from(p.lease_seconds))
 }
 
-/// Whether somebody comes to lead in a calm span: each controller's replies come within its call timeout. Takes no memory.
+/// Whether somebody comes to lead in a calm span: leaders give up their Leases at stops alone, and each controller's replies come within its call
+/// timeout. Takes no memory.
 pub fn leads(c: Calm, controllers: &[Proc]) -> bool
     ensures { result ≡ spec.lead c controllers.now }
+{
+    c.releases_by_stop && all_count(c, controllers)
+}
+
+fn all_count(c: Calm, controllers: &[Proc]) -> bool
+    ensures { result ≡ spec.all_count c controllers.now }
 {
     controllers.iter().all(|p| replies_count(c, *p))
 }
@@ -172,6 +179,13 @@ pub fn leads(c: Calm, controllers: &[Proc]) -> bool
 pub fn stays(c: Calm, controllers: &[Proc]) -> bool
     requires { IsCalm c }
     ensures { result ≡ spec.stay c controllers.now }
+{
+    c.releases_by_stop && all_stay(c, controllers)
+}
+
+fn all_stay(c: Calm, controllers: &[Proc]) -> bool
+    requires { IsCalm c }
+    ensures { result ≡ spec.all_stay c controllers.now }
 {
     let least = shortest_lease(controllers);
     for p in controllers {

@@ -175,7 +175,8 @@ fn posts(o: Outage) -> bool
 fn marks(o: Outage) -> bool
     ensures { result ≡ spec.marks o }
 {
-    o.kubelets && posts(o) && o.passes_take_no_work && o.probes_by_run
+    let heard = o.kubelets && posts(o);
+    heard && o.passes_take_no_work && o.probes_by_run && o.calm.releases_by_stop
 }
 
 /// So many beats in milliseconds.
@@ -199,7 +200,8 @@ fn since_death(o: Outage, beats: u128) -> Since
 }
 
 /// From the death of a node's kubelet until the node is marked Unknown, at least and at most, while a leader attends to its nodes. None where
-/// the kubelets' replies come too late, there is no kubelet, passes take time, or nodes are silent by what a term has recorded. Takes no memory.
+/// the kubelets' replies come too late, there is no kubelet, passes take time, nodes are silent by what a term has recorded, or leaders give up
+/// their Leases not at stops alone. Takes no memory.
 #[tactic(auto, unfolding(crate::specs::Outages::until_unknown))]
 pub fn until_unknown(o: Outage) -> Option<Marked>
     requires { IsOutage o }

@@ -10,7 +10,8 @@ ghost use Rattle.lens_bounds.specs.Outages.{IsOutage};
 use crate::calm::{Calm, Waits};
 use crate::outages::Outage;
 use kube_objects::{
-    BucketRule, EvictRule, JudgeRule, NumberList, ProbeRule, Proc, Rules, SightRule, What,
+    BucketRule, EvictRule, JudgeRule, NumberList, ProbeRule, Proc, ReleaseActing, ReleaseRule,
+    Rules, SightRule, What,
 };
 use script_reader::Document;
 
@@ -185,6 +186,13 @@ fn greatest_in(lists: &[NumberList]) -> u32
     most
 }
 
+/// Whether leaders give up their Leases at stops alone, each by one update, and nobody acts meanwhile.
+fn releases_by_stop(rules: Rules) -> bool
+    ensures { result ≡ (spec.is_stop rules.release && spec.is_still rules.in_release) }
+{
+    matches!(rules.release, ReleaseRule::Stop) && matches!(rules.in_release, ReleaseActing::Still)
+}
+
 fn calm_with(document: &Document, reach: Reach) -> Calm
     requires { document.now.settings.beat_millis ≤ 1000 }
     ensures { result ≡ spec.calm_with (doc_of document.now) reach }
@@ -199,6 +207,7 @@ fn calm_with(document: &Document, reach: Reach) -> Calm
         waits: waits_of(document),
         respect: document.settings.rules.respect,
         fast_renew: document.settings.fast_renew,
+        releases_by_stop: releases_by_stop(document.settings.rules),
     }
 }
 

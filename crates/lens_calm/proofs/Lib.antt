@@ -2,3 +2,5 @@
 pub mod Joins
 -- ---- how a run by flags ends
 pub mod Endings
+-- ---- settings with a value
+pub mod InRange

@@ -1,12 +1,11 @@
 -- The settings that words behind `bounds` give: those of `margin`, and what else a calm span depends on.
 use Rattle.std.specs.Int.{div_ceil}
-use Rattle.std.specs.Prelude.{ℕ, ◌+◌, ◌-◌, ◌*◌, ◌/◌, ◌≤◌, max, true, false, List, [], ◌∷◌, Option, Some, None, unwrap_or}
+use Rattle.std.specs.Prelude.{ℕ, ◌*◌, ◌/◌, ◌≤◌, max, true, false, List, [], ◌∷◌, Option, Some, None, unwrap_or}
 use Rattle.kube_objects.specs.declared.rules.RespectRule.TheVariants.{Record}
 use Rattle.kube_objects.specs.declared.script.Proc.{Proc}
 use Rattle.lens_bounds.specs.declared.calm.Calm.{Calm}
 use Rattle.lens_bounds.specs.declared.calm.Waits.TheVariants.{UpTo}
 use Rattle.lens_bounds.specs.declared.outages.Outage.{Outage}
-use Rattle.lens_room.specs.declared.by_flags.flag.Flag.{Flag}
 use Rattle.lens_room.specs.declared.by_flags.flags.Flags.{Flags}
 use Rattle.lens_room.specs.Described.{slow, fast, controller}
 use Rattle.lens_room.specs.Flags.{standard, timeout_of, with_value}
@@ -68,7 +67,7 @@ micros_of s = s.flags.beat_millis * 1000
 abbrev pub longest_wait : Settings → ℕ
 longest_wait s = unwrap_or s.wait_millis s.flags.retry_millis
 
--- a leader renews by a Get and an Update
+-- a leader renews by a Get and an Update, and gives up its Lease at a stop alone
 abbrev pub calm_of : Settings → Calm
 calm_of s = record {
   beat_millis = s.flags.beat_millis;
@@ -79,6 +78,7 @@ calm_of s = record {
   waits = UpTo (longest_wait s);
   respect = Record;
   fast_renew = false;
+  releases_by_stop = true;
 }
 
 -- every controller has these timings

@@ -147,6 +147,7 @@ impl Settings {
             waits: Waits::UpTo(self.longest_wait()),
             respect: RespectRule::Record,
             fast_renew: false,
+            releases_by_stop: true,
         }
     }
 

@@ -71,9 +71,6 @@ const SECOND_SETTINGS: usize = 18;
 /// How many of them version 1 has.
 const FIRST_SETTINGS: usize = 17;
 
-/// The keys of version 4 that nothing runs yet.
-const UNBUILT: [&str; 2] = ["release", "inRelease"];
-
 const CONTROLLER: [&str; 10] = [
     "name",
     "ratePpm",
@@ -300,7 +297,7 @@ const EVENT_RULES: [Rule; 7] = [
 const LATER_RULES: [Rule; 18] = [
     Rule {
         key: "rules",
-        allowed: "\"own\" or \"1.20\"; \"1.36\" is known, but not built yet",
+        allowed: "\"own\", \"1.20\" or \"1.36\"",
     },
     Rule {
         key: "retries",
@@ -409,11 +406,6 @@ pub(crate) fn allowed_at(key: &[u8]) -> Option<&'static str> {
 /// What may stand at a key of a set of pods.
 pub(crate) fn allowed_in_set(key: &[u8]) -> Option<&'static str> {
     find(&SET_RULES, key)
-}
-
-/// Whether nothing runs a document with this key yet.
-pub(crate) fn is_unbuilt(key: &[u8]) -> bool {
-    UNBUILT.iter().any(|other| other.as_bytes() == key)
 }
 
 fn find(rules: &[Rule], key: &[u8]) -> Option<&'static str> {

@@ -3,7 +3,7 @@ ghost use Rattle.std.specs.Prelude.{IfOk};
 ghost use Rattle.lens_explain.specs.Places.{IsPlace, IsShownOf};
 
 use crate::broken::hint;
-use crate::known::{allowed_at, allowed_in_set, is_known, is_unbuilt, keys_in};
+use crate::known::{allowed_at, allowed_in_set, is_known, keys_in};
 use crate::nearest::nearest;
 use crate::odd::{Odd, odd_spot};
 use crate::place::{Shown, shown_at};
@@ -147,8 +147,6 @@ fn add_version(text: &mut Vec<u8>, key: &[u8], third: Table) -> Result<(), NoMem
             text,
             b"It is one of version 2 and later: write \"version\": 2.\n",
         )
-    } else if is_unbuilt(key) {
-        add(text, b"It is one of version 4, and nothing runs it yet.\n")
     } else {
         add(text, b"It is one of version 4: write \"version\": 4.\n")
     }

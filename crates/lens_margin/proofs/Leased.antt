@@ -1,18 +1,22 @@
 -- A document with another lease of a controller, or of all, has the same rates, and all else that the lease premise reads.
-use Rattle.std.proofs.Common.{◌≡◌, ℕ, zero, suc, ◌+◌, ◌-◌, ◌*◌, ◌<◌, ◌++◌, nat_lt, Bool, true, false, cond, List, [], ◌∷◌, length, map, slice_get, refl, ap, ap₂, ◌∙◌, arith}
+use Rattle.std.proofs.Common.{◌≡◌, ℕ, zero, suc, ◌+◌, ◌-◌, ◌*◌, ◌<◌, ◌++◌, ◌&&◌, not, nat_lt, Bool, true, false, cond, List, [], ◌∷◌, length, map, slice_get, refl, ap, ap₂, ◌∙◌, arith}
 use Rattle.std.proofs.lemmas.List.{length-map}
+use Rattle.kube_objects.specs.declared.rules.ReleaseActing.{ReleaseActing}
+use Rattle.kube_objects.specs.declared.rules.ReleaseActing.TheVariants.{Still, Acts}
 use Rattle.kube_objects.specs.declared.rules.RespectRule.{RespectRule}
 use Rattle.kube_objects.specs.declared.rules.RespectRule.TheVariants as respects
+use Rattle.kube_objects.specs.declared.script.Event.{Event}
 use Rattle.kube_objects.specs.declared.script.Proc.{Proc}
+use Rattle.kube_objects.specs.declared.script.What.{What}
+use Rattle.kube_objects.specs.declared.script.What.TheVariants as whats
 use Rattle.kube_objects.specs.Clocks.{rate, last_rate}
-use Rattle.kube_objects.specs.Document.{Doc, end_beat, field, process_at, beat_micros, lease_seconds, of_seconds, of_millis}
+use Rattle.kube_objects.specs.Document.{Doc, is_controller, end_beat, field, process_at, beat_micros, lease_seconds, call_timeout, retry_period, renew_deadline, of_seconds, of_millis}
 use Rattle.kube_objects.specs.Newest.{or_else}
-use Rattle.history.specs.Premise.{less, more, longest, least_rate, greatest_rate, greatest_below}
+use Rattle.history.specs.Premise.{less, more, least_rate, greatest_rate, greatest_below, calls_late, stall_by, span_by, is_prompt_event, are_prompt, answers_come}
 use Rattle.script_reader.specs.Leases.{least_up_to, waited_seconds}
 use Rattle.script_reader.proofs.LeaseLemmas.{waited-is}
-use Rattle.lens_margin.specs.Laws.{outlasted, leased_by, with_lease, with_leases, leased, is_long_with}
+use Rattle.lens_margin.specs.Laws.{outlasted, leased_by, with_lease, with_leases, leased, is_enough_with}
 use Rattle.lens_margin.specs.Margins.{fastest, slowest}
-use Rattle.lens_margin.proofs.Tested.{AreInTime, test-of}
 
 -- ---- the lease of one controller
 
@@ -109,12 +113,56 @@ module _ (doc : Doc) (p seconds : ℕ) where
       least-at (has respects.Own) seconds (length (map (leased_by seconds) doc.controllers) - 1)
       (λ q below. all-at seconds doc.controllers doc.kubelets q (omega (arith, below, count, inside)))
 
-  pub leased-is : AreInTime doc → p < length doc.controllers → is_long_with doc p seconds ≡ nat_lt (outlasted doc p (longest doc p)) (of_seconds seconds * slowest doc p)
-  leased-is none inside =
+  -- what the rules of releases add
+  stall-same : (calls : ℕ) → stall_by calls other p ≡ stall_by calls doc p
+  stall-same zero = refl
+  stall-same (suc calls) = refl
+
+  timeout-same : call_timeout other p ≡ call_timeout doc p
+  timeout-same = ap of_millis (at-same (λ x. x.timeout_millis) (λ c. refl) p)
+
+  retry-same : retry_period other p ≡ retry_period doc p
+  retry-same = ap of_millis (at-same (λ x. x.retry_millis) (λ c. refl) p)
+
+  renew-same : renew_deadline other p ≡ renew_deadline doc p
+  renew-same = ap of_millis (at-same (λ x. x.renew_millis) (λ c. refl) p)
+
+  span-same : (calls : ℕ) → span_by calls other p ≡ span_by calls doc p
+  span-same zero = λ i. timeout-same i + retry-same i + renew-same i
+  span-same (suc calls) = λ i. timeout-same i + retry-same i + renew-same i + less (suc calls * timeout-same i) (renew-same i)
+
+  controller-same : (q : ℕ) → is_controller other q ≡ is_controller doc q
+  controller-same q = ap (nat_lt q) (counts-same doc.settings.rules.respect seconds doc.controllers p)
+
+  event-same : (what : What) → is_prompt_event other what ≡ is_prompt_event doc what
+  event-same (whats.Loss id requests replies) = ap (λ b. not (b && replies)) (controller-same id.0)
+  event-same (whats.Delay id requests replies) = ap (λ b. not (b && nat_lt 3 replies)) (controller-same id.0)
+  event-same (whats.Rate id ppm) = refl
+  event-same (whats.Crash id) = refl
+  event-same (whats.Start id) = refl
+  event-same (whats.Stop id) = refl
+  event-same (whats.Watch id on) = refl
+  event-same (whats.Ready id status) = refl
+  event-same (whats.Pause id beats) = refl
+  event-same (whats.Stall beats) = refl
+  event-same (whats.Put key object) = refl
+  event-same (whats.Remove key) = refl
+
+  prompt-same : (es : List Event) → are_prompt other es ≡ are_prompt doc es
+  prompt-same [] = refl
+  prompt-same (e ∷ es) = ap₂ (λ a b. a && b) (event-same e.what) (prompt-same es)
+
+  answers-same : (acting : ReleaseActing) → answers_come acting other ≡ answers_come acting doc
+  answers-same Still = refl
+  answers-same Acts = prompt-same doc.events
+
+  pub leased-is : p < length doc.controllers → is_enough_with doc p seconds
+      ≡ (answers_come doc.settings.rules.in_release doc && nat_lt (outlasted doc p (stall_by (calls_late doc) doc p)) (of_seconds seconds * slowest doc p))
+  leased-is inside =
       let respect = doc.settings.rules.respect in
-      test-of other none p
-      ∙ λ i.
-      nat_lt
-      (longest doc p * (beat_micros doc * fastest-same i) * least-same p (end_beat doc) i
-      + (of_millis (at-same (λ x. x.timeout_millis) (λ c. refl) p i) + of_millis (at-same (λ x. x.retry_millis) (λ c. refl) p i) + of_millis (at-same (λ x. x.renew_millis) (λ c. refl) p i)) * fastest-same i)
+      let calls = calls_late doc in
+      λ i.
+      answers-same doc.settings.rules.in_release i
+      && nat_lt
+      (stall-same calls i * (beat_micros doc * fastest-same i) * least-same p (end_beat doc) i + span-same calls i * fastest-same i)
       ((waited-is respect other p ∙ ap of_seconds (waited-at respect inside)) i * least-same p (end_beat doc) i)

@@ -2,7 +2,6 @@
 -- ---- numbers
 pub mod Bounds
 pub mod Positive
-mod Tested
 pub mod Leased
 pub mod Paused
 pub mod Numbers

@@ -1,23 +1,21 @@
 -- The numbers of a margin are the least and the greatest that the lease premise's tests allow.
-use Rattle.std.proofs.Common.{◌≡◌, ◌⊎◌, ℕ, zero, suc, ◌+◌, ◌-◌, ◌*◌, ◌/◌, ◌<◌, ◌≤◌, nat_lt, Bool, true, false, cond, List, [], ◌∷◌, ◌++◌, length, get_or, slice_get, Some, None, is_some, refl, sym, ap, ap₂, ◌∙◌, subst, inl, inr, arith}
+use Rattle.std.proofs.Common.{◌≡◌, ◌⊎◌, ℕ, zero, suc, ◌+◌, ◌-◌, ◌*◌, ◌/◌, ◌<◌, ◌≤◌, ◌&&◌, nat_lt, Bool, true, false, cond, length, Some, None, is_some, refl, sym, ap, ap₂, ◌∙◌, subst, inl, inr, arith}
 use Rattle.std.specs.Int.{div_ceil}
 use Rattle.std.proofs.Math.Nat.{mul-le-mul_right}
-use Rattle.std.proofs.lemmas.Bool.{cases_lt, lt-ltb, ltb-true}
+use Rattle.std.proofs.lemmas.Bool.{and_parts, cases_lt, lt-ltb, ltb-true}
 use Rattle.std.proofs.lemmas.Bool.Decides.{nat_tests}
 use Rattle.std.proofs.lemmas.Grind.{div_ceil_times}
 use Rattle.std.proofs.lemmas.Nat.{div-add-mod', mod_below, le-div}
-use Rattle.kube_objects.specs.declared.script.Proc.{Proc}
-use Rattle.kube_objects.specs.Document.{Doc, field, process_at, of_seconds, of_millis}
-use Rattle.history.specs.Premise.{more, longest, waited_by, is_long}
+use Rattle.kube_objects.specs.Document.{Doc, of_seconds, of_millis}
+use Rattle.history.specs.Premise.{more, waited_by, is_long, calls_late, stall_by, span_by, answers_come}
 use Rattle.script_reader.specs.Lawful.{IsLawfulDoc}
-use Rattle.script_reader.specs.Leases.{waited_seconds}
+use Rattle.script_reader.specs.Leases.{beside_by, waited_seconds}
 use Rattle.script_reader.proofs.LeaseLemmas.{waited-is}
-use Rattle.lens_margin.specs.Laws.{IsLeast, IsLeastLease, IsLongestStall, IsMargin, outlasted, is_long_with, bears}
-use Rattle.lens_margin.specs.Margins.{acting, fastest, slowest, numbers, margin_of}
-use Rattle.lens_margin.proofs.Tested.{AreInTime, in-time, test-of}
+use Rattle.lens_margin.specs.Laws.{IsLeast, IsLeastLease, IsLongestStall, IsMargin, outlasted, is_enough_with, bears}
+use Rattle.lens_margin.specs.Margins.{acting, fastest, slowest, least_within, numbers, margin_of}
 use Rattle.lens_margin.proofs.Positive.{slowest-some, fastest-some}
 use Rattle.lens_margin.proofs.Leased.{leased-is}
-use Rattle.lens_margin.proofs.Paused.{counts, bears-is}
+use Rattle.lens_margin.proofs.Paused.{counts, bears-is, rest_by, stall-parts}
 
 -- ---- rounded up
 
@@ -95,8 +93,21 @@ module _ (doc : Doc) (p : ℕ) where
   abbrev one : ℕ
   one = doc.settings.beat_millis * 1000 * fastest doc * slowest doc p
 
+  abbrev stall : ℕ
+  stall = stall_by (calls_late doc) doc p
+
   abbrev need : ℕ
-  need = longest doc p * one + acting doc p
+  need = stall * one + acting doc p
+
+  -- the beats that a further pause is added to, and those that it takes the place of
+  abbrev beside : ℕ
+  beside = beside_by (calls_late doc) doc p
+
+  abbrev rest : ℕ
+  rest = rest_by (calls_late doc) doc p
+
+  abbrev beside_acts : ℕ
+  beside_acts = beside * one + acting doc p
 
   abbrev lease : ℕ
   lease = waited doc p * 1000 * unit
@@ -125,95 +136,101 @@ module _ (doc : Doc) (p : ℕ) where
   in-seconds : (left : ℕ) → nat_lt left (waited_by doc.settings.rules.respect doc p * slowest doc p) ≡ nat_lt left (of_seconds (waited doc p) * slowest doc p)
   in-seconds left = ap (λ w. nat_lt left (w * slowest doc p)) (waited-is doc.settings.rules.respect doc p)
 
-  module _ (none : AreInTime doc) (inside : p < length doc.controllers) (slow : 0 < slowest doc p) where
-    must-least : IsLeast (λ n. outlasted doc p (longest doc p) ≤ of_millis n * slowest doc p) (div_ceil need unit)
+  abbrev come : Bool
+  come = answers_come doc.settings.rules.in_release doc
+
+  to-fit : (n : ℕ) → (beside + n) * one + acting doc p < lease → Fits lease beside_acts one n
+  to-fit n less = omega (arith, less)
+
+  of-fit : (n : ℕ) → Fits lease beside_acts one n → (beside + n) * one + acting doc p < lease
+  of-fit n fits = omega (arith, fits)
+
+  module _ (inside : p < length doc.controllers) (slow : 0 < slowest doc p) where
+    must-least : IsLeast (λ n. outlasted doc p stall ≤ of_millis n * slowest doc p) (div_ceil need unit)
     must-least = record {
-      holds = omega (arith, outlasted-is (longest doc p), milli-is (div_ceil need unit), (div_ceil_times need unit (omega arith)).0);
-      least = λ n enough. rounded-least need unit (omega arith) n (omega (arith, outlasted-is (longest doc p), milli-is n, enough));
+      holds = omega (arith, outlasted-is stall, milli-is (div_ceil need unit), (div_ceil_times need unit (omega arith)).0);
+      least = λ n enough. rounded-least need unit (omega arith) n (omega (arith, outlasted-is stall, milli-is n, enough));
     }
 
     abbrev second : ℕ
     second = unit * 1000
 
-    seconds-least : IsLeast (λ s. is_long_with doc p s ≡ true) (need / second + 1)
-    seconds-least = record {
-      holds = leased-is doc p (need / second + 1) none inside ∙ passes (longest doc p) (need / second + 1) (omega (arith, unit-above need second (omega arith)));
-      least = λ s long. unit-least need second (omega arith) s (omega (arith, passed (longest doc p) s (sym (leased-is doc p s none inside) ∙ long)));
+    enough-long : (s : ℕ) → is_enough_with doc p s ≡ true → (come ≡ true) × (nat_lt (outlasted doc p stall) (of_seconds s * slowest doc p) ≡ true)
+    enough-long s enough = and_parts come _ (sym (leased-is doc p s inside) ∙ enough)
+
+    seconds-least : come ≡ true → IsLeast (λ s. is_enough_with doc p s ≡ true) (need / second + 1)
+    seconds-least comes = record {
+      holds = leased-is doc p (need / second + 1) inside
+          ∙ ap₂ (λ a b. a && b) comes (passes stall (need / second + 1) (omega (arith, unit-above need second (omega arith))));
+      least = λ s enough. unit-least need second (omega arith) s (omega (arith, passed stall s (enough-long s enough).1));
     }
 
-    least-by : (b : Bool) → nat_lt (need / second) 86400 ≡ b → IsLeastLease doc p (cond b (Some (need / second + 1)) None)
-    least-by true is = (omega (arith, ltb-true (need / second) 86400 is), seconds-least)
-    least-by false is = λ s long. let enough = seconds-least.least s long in grind (arith, nat_tests)
+    least-by : come ≡ true → (b : Bool) → nat_lt (need / second) 86400 ≡ b → IsLeastLease doc p (cond b (Some (need / second + 1)) None)
+    least-by comes true is = (omega (arith, ltb-true (need / second) 86400 is), seconds-least comes)
+    least-by comes false is = λ s enough. let least = (seconds-least comes).least s enough in grind (arith, nat_tests)
 
-    test-at : is_long doc (fastest doc) p ≡ nat_lt (outlasted doc p (longest doc p)) (of_seconds (waited doc p) * slowest doc p)
-    test-at = test-of doc none p ∙ in-seconds (outlasted doc p (longest doc p))
+    least-where : (b : Bool) → come ≡ b → IsLeastLease doc p (cond b (least_within need unit) None)
+    least-where true comes = least-by comes _ refl
+    least-where false late = λ s enough. let comes = (enough-long s enough).0 in absurd (let never : false ≡ true = sym late ∙ comes in cc)
 
-    bears-at : (n : ℕ) → bears doc p n ≡ nat_lt (outlasted doc p (more (longest doc p) (counts n))) (of_seconds (waited doc p) * slowest doc p)
-    bears-at n = bears-is doc none p n ∙ in-seconds (outlasted doc p (more (longest doc p) (counts n)))
+    test-at : is_long doc (fastest doc) p ≡ nat_lt (outlasted doc p stall) (of_seconds (waited doc p) * slowest doc p)
+    test-at = in-seconds (outlasted doc p stall)
+
+    bears-at : (n : ℕ) → bears doc p n ≡ nat_lt (outlasted doc p (beside + more rest (counts n))) (of_seconds (waited doc p) * slowest doc p)
+    bears-at n = bears-is doc p n ∙ in-seconds (outlasted doc p (beside + more rest (counts n)))
 
     module _ (some : 0 < one) where
-      stall-by : (b : Bool) → nat_lt need lease ≡ b → IsLongestStall doc p (cond b (Some (((lease - acting doc p - 1) / one - 1) * doc.settings.beat_millis)) None)
-      stall-by true is =
-          let now : Fits lease (acting doc p) one (longest doc p) = ltb-true need lease is in
-          let beats : ℕ = (lease - acting doc p - 1) / one - 1 in (
+      longest-by : (b : Bool) → nat_lt need lease ≡ b → IsLongestStall doc p (cond b (Some (((lease - beside_acts - 1) / one - 1) * doc.settings.beat_millis)) None)
+      longest-by true is =
+          let parts : stall * one ≡ (beside + rest) * one = ap (λ n. n * one) (stall-parts (calls_late doc) doc p) in
+          let now : Fits lease beside_acts one rest = to-fit rest (omega (arith, parts, ltb-true need lease is)) in
+          let beats : ℕ = (lease - beside_acts - 1) / one - 1 in (
             beats,
             refl,
             record {
-              holds = bears-at beats ∙ passes (more (longest doc p) (counts beats)) (waited doc p) (stall-fits lease (acting doc p) one (longest doc p) some now beats refl);
-              greatest = λ n bears. stall-most lease (acting doc p) one (longest doc p) some now n (passed (more (longest doc p) (counts n)) (waited doc p) (sym (bears-at n) ∙ bears));
+              holds = bears-at beats ∙ passes (beside + more rest (counts beats)) (waited doc p) (of-fit (more rest (counts beats)) (stall-fits lease beside_acts one rest some now beats refl));
+              greatest = λ n bears. stall-most lease beside_acts one rest some now n
+                  (to-fit (more rest (counts n)) (passed (beside + more rest (counts n)) (waited doc p) (sym (bears-at n) ∙ bears)));
             },
           )
-      stall-by false is = λ long. let never : false ≡ true = sym is ∙ sym (test-is (longest doc p) (waited doc p)) ∙ sym test-at ∙ long in cc
+      longest-by false is = λ long. let never : false ≡ true = sym is ∙ sym (test-is stall (waited doc p)) ∙ sym test-at ∙ long in cc
 
 product-some : (a b : ℕ) → 0 < a → 0 < b → 0 < a * b
 product-some zero b one two = absurd (omega arith)
 product-some (suc a) b one two = omega (arith, two)
 
-pub margin-law-of : (doc : Doc) → AreInTime doc → (p : ℕ) → p < length doc.controllers → 0 < slowest doc p → 0 < fastest doc → 0 < doc.settings.beat_millis → IsMargin doc p (margin_of doc p)
-margin-law-of doc none p inside slow fast beat =
+pub margin-law-of : (doc : Doc) (p : ℕ) → p < length doc.controllers → 0 < slowest doc p → 0 < fastest doc → 0 < doc.settings.beat_millis → IsMargin doc p (margin_of doc p)
+margin-law-of doc p inside slow fast beat =
     let some : 0 < one doc p = product-some (doc.settings.beat_millis * 1000 * fastest doc) (slowest doc p) (product-some (doc.settings.beat_millis * 1000) (fastest doc) (omega (arith, beat)) fast) slow in
     record {
       lease = refl;
-      must_exceed = must-least doc p none inside slow;
-      least_seconds = least-by doc p none inside slow _ refl;
-      longest_stall = stall-by doc p none inside slow some _ refl;
+      must_exceed = must-least doc p inside slow;
+      least_seconds = least-where doc p inside slow _ refl;
+      longest_stall = longest-by doc p inside slow some _ refl;
     }
 
 pub margin-law : (doc : Doc) → IsLawfulDoc doc → (p : ℕ) → p < length doc.controllers → IsMargin doc p (margin_of doc p)
-margin-law doc lawful p inside = margin-law-of doc (in-time doc lawful) p inside (slowest-some doc lawful p inside) (fastest-some doc lawful) (omega (arith, lawful.settings.beat_least))
+margin-law doc lawful p inside = margin-law-of doc p inside (slowest-some doc lawful p inside) (fastest-some doc lawful) (omega (arith, lawful.settings.beat_least))
 
 some-when : (b : Bool) (n : ℕ) → is_some (cond b (Some n) None) ≡ b
 some-when true n = refl
 some-when false n = refl
 
 -- where a stall is borne, if only of no beat, the lease is long enough
-pub stall-tells : (doc : Doc) → AreInTime doc → (p : ℕ) → is_some (margin_of doc p).longest_stall ≡ is_long doc (fastest doc) p
-stall-tells doc none p = some-when (nat_lt (need doc p) (lease doc p)) _ ∙ sym (test-is doc p (longest doc p) (waited doc p)) ∙ sym (in-seconds doc p (outlasted doc p (longest doc p))) ∙ sym (test-of doc none p)
+pub stall-tells : (doc : Doc) (p : ℕ) → is_some (margin_of doc p).longest_stall ≡ is_long doc (fastest doc) p
+stall-tells doc p = some-when (nat_lt (need doc p) (lease doc p)) _ ∙ sym (test-is doc p (stall doc p) (waited doc p)) ∙ sym (in-seconds doc p (outlasted doc p (stall doc p)))
 
 -- ---- what the code counts with
 
--- a field of a controller, which stands before the kubelets
-field-at : {A : Type 0} (f : Proc → A) (none : A) (controllers kubelets : List Proc) (p : ℕ) (d : Proc) → p < length controllers → field f none (slice_get (controllers ++ kubelets) p) ≡ f (get_or controllers p d)
-field-at f none [] kubelets p d inside = absurd (omega arith)
-field-at f none (c ∷ cs) kubelets zero d inside = refl
-field-at f none (c ∷ cs) kubelets (suc p) d inside = field-at f none cs kubelets p d (omega arith)
+millis-are : (millis fast span : ℕ) → of_millis millis ≡ span → millis * 1000000000 * fast ≡ span * fast
+unfolding of_millis
+millis-are millis fast span is = ap (λ n. n * fast) is
 
-module _ (doc : Doc) (p : ℕ) (controllers : List Proc) (d : Proc) (same : controllers ≡ doc.controllers) (inside : p < length doc.controllers) where
-  own : (f : Proc → ℕ) → f (get_or controllers p d) ≡ field f 0 (process_at doc p)
-  own f = ap (λ cs. f (get_or cs p d)) same ∙ sym (field-at f 0 doc.controllers doc.kubelets p d inside)
-
-  in-units : (timeout retry renew fast : ℕ) → (timeout + retry + renew) * 1000000000 * fast ≡ (of_millis timeout + of_millis retry + of_millis renew) * fast
-  unfolding of_millis
-  in-units timeout retry renew fast = omega arith
-
-  abbrev c : Proc
-  c = get_or controllers p d
-
-  acting-is : (fast : ℕ) → fast ≡ fastest doc → (c.timeout_millis + c.retry_millis + c.renew_millis) * 1000000000 * fast ≡ acting doc p
-  acting-is fast is =
-      (λ i. (own (λ x. x.timeout_millis) i + own (λ x. x.retry_millis) i + own (λ x. x.renew_millis) i) * 1000000000 * is i)
-      ∙ in-units (field (λ x. x.timeout_millis) 0 (process_at doc p)) (field (λ x. x.retry_millis) 0 (process_at doc p)) (field (λ x. x.renew_millis) 0 (process_at doc p)) (fastest doc)
-
-  pub numbers-are : (awaited pauses slow fast : ℕ) → awaited ≡ waited doc p → pauses ≡ longest doc p → slow ≡ slowest doc p → fast ≡ fastest doc
-      → numbers awaited ((c.timeout_millis + c.retry_millis + c.renew_millis) * 1000000000 * fast) pauses doc.settings.beat_millis slow fast ≡ margin_of doc p
-  numbers-are awaited pauses slow fast leased long low high = λ i. numbers (leased i) (acting-is fast high i) (long i) doc.settings.beat_millis (low i) (high i)
+pub numbers-are : (doc : Doc) (p : ℕ) (hears : Bool) (awaited acts stands further slow fast : ℕ) → hears ≡ answers_come doc.settings.rules.in_release doc → awaited ≡ waited doc p
+    → of_millis acts ≡ span_by (calls_late doc) doc p → stands ≡ stall_by (calls_late doc) doc p → further ≡ beside_by (calls_late doc) doc p
+    → slow ≡ slowest doc p → fast ≡ fastest doc
+    → numbers hears awaited (acts * 1000000000 * fast) stands further doc.settings.beat_millis slow fast ≡ margin_of doc p
+numbers-are doc p hears awaited acts stands further slow fast comes leased acting pauses besides low high =
+    λ i.
+    numbers (comes i) (leased i) ((millis-are acts fast _ acting ∙ ap (λ f. span_by (calls_late doc) doc p * f) high) i) (pauses i) (besides i)
+    doc.settings.beat_millis (low i) (high i)

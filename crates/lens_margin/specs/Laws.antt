@@ -1,11 +1,11 @@
 -- What the numbers of a margin are: the least and the greatest for which the lease premise's own tests hold.
-use Rattle.std.specs.Prelude.{◌≡◌, ℕ, zero, suc, ◌+◌, ◌*◌, ◌<◌, ◌≤◌, Bool, true, List, [], ◌∷◌, length, map, Option, Some, None}
-use Rattle.kube_objects.specs.Document.{Doc, beat_micros, call_timeout, retry_period, renew_deadline, of_millis}
+use Rattle.std.specs.Prelude.{◌≡◌, ℕ, zero, suc, ◌+◌, ◌*◌, ◌<◌, ◌≤◌, ◌&&◌, Bool, true, List, [], ◌∷◌, length, map, Option, Some, None}
+use Rattle.kube_objects.specs.Document.{Doc, beat_micros, of_millis}
 use Rattle.kube_objects.specs.declared.rules.RespectRule.{RespectRule}
 use Rattle.kube_objects.specs.declared.rules.RespectRule.TheVariants as respects
 use Rattle.kube_objects.specs.declared.script.Proc.{Proc}
 use Rattle.kube_objects.specs.declared.script.What.TheVariants.{Pause}
-use Rattle.history.specs.Premise.{longest, is_long}
+use Rattle.history.specs.Premise.{calls_late, span_by, stall_by, is_long, answers_come}
 use Rattle.script_reader.specs.Leases.{waited_seconds}
 use Rattle.lens_margin.specs.declared.margin.Margin.{Margin}
 use Rattle.lens_margin.specs.Margins.{fastest, slowest, margin_of}
@@ -32,10 +32,9 @@ leased_by seconds c = record {
   timeout_millis = c.timeout_millis;
 }
 
--- the left side of the premise's test, with this for the longest pause's beats and one more
+-- the left side of the premise's test, with this for the beats that pauses may add
 abbrev pub outlasted : Doc → ℕ → ℕ → ℕ
-outlasted doc p pauses =
-    pauses * (beat_micros doc * fastest doc) * slowest doc p + (call_timeout doc p + retry_period doc p + renew_deadline doc p) * fastest doc
+outlasted doc p pauses = pauses * (beat_micros doc * fastest doc) * slowest doc p + span_by (calls_late doc) doc p * fastest doc
 
 -- the same controllers but for the lease of the one at this place
 abbrev pub with_lease : ℕ → ℕ → List Proc → List Proc
@@ -59,9 +58,13 @@ leased doc p seconds = record {
   events = doc.events;
 }
 
--- the premise's test of that document
-abbrev pub is_long_with : Doc → ℕ → ℕ → Bool
-is_long_with doc p seconds = is_long (leased doc p seconds) (fastest (leased doc p seconds)) p
+-- what the premise asks of a controller: that what others wait for its lease is long enough, and that answers come in time
+abbrev pub is_enough : Doc → ℕ → Bool
+is_enough doc p = answers_come doc.settings.rules.in_release doc && is_long doc (fastest doc) p
+
+-- so it is of the document with that lease
+abbrev pub is_enough_with : Doc → ℕ → ℕ → Bool
+is_enough_with doc p seconds = is_enough (leased doc p seconds) p
 
 -- the document with one more pause of a process from its start on, of so many beats; of none it is no pause
 abbrev pub paused : Doc → ℕ → ℕ → Doc
@@ -75,14 +78,14 @@ paused doc p (suc n) = record {
   events = record { beat = record { 0 = 0 }; what = Pause (record { 0 = p }) (suc n) } ∷ doc.events;
 }
 
--- the test of that document
+-- the premise's test of that document's lease
 abbrev pub bears : Doc → ℕ → ℕ → Bool
 bears doc p beats = is_long (paused doc p beats) (fastest (paused doc p beats)) p
 
--- the least lease of at most a day for which the test holds, or none where it holds for none
+-- the least lease of at most a day that is enough, or none where none is
 abbrev pub IsLeastLease : Doc → ℕ → Option ℕ → Type 0
-IsLeastLease doc p (Some seconds) = (seconds ≤ 86400) × IsLeast (λ s. is_long_with doc p s ≡ true) seconds
-IsLeastLease doc p None = (s : ℕ) → is_long_with doc p s ≡ true → 86400 < s
+IsLeastLease doc p (Some seconds) = (seconds ≤ 86400) × IsLeast (λ s. is_enough_with doc p s ≡ true) seconds
+IsLeastLease doc p None = (s : ℕ) → is_enough_with doc p s ≡ true → 86400 < s
 
 -- the milliseconds of the greatest pause for which the test still holds, or none where it doesn't hold as it is
 abbrev pub IsLongestStall : Doc → ℕ → Option ℕ → Type 0
@@ -94,7 +97,7 @@ IsLongestStall doc p None = ¬ (is_long doc (fastest doc) p ≡ true)
 -- isn't more than
 pub record IsMargin (doc : Doc) (p : ℕ) (m : Margin) : Type 0 where
   pub lease : m.lease ≡ waited_seconds doc.settings.rules.respect doc p * 1000
-  pub must_exceed : IsLeast (λ n. outlasted doc p (longest doc p) ≤ of_millis n * slowest doc p) m.must_exceed
+  pub must_exceed : IsLeast (λ n. outlasted doc p (stall_by (calls_late doc) doc p) ≤ of_millis n * slowest doc p) m.must_exceed
   pub least_seconds : IsLeastLease doc p m.least_seconds
   pub longest_stall : IsLongestStall doc p m.longest_stall
 

@@ -6,8 +6,7 @@ ghost use Rattle.lens_margin.specs.Laws.{IsMargin};
 ghost use Rattle.lens_margin.specs.Margins.{margin_of, numbers, least_within, stall_within};
 
 use crate::rates::fastest;
-use kube_objects::Proc;
-use script_reader::{Document, longest_pause, rates_of, waited_seconds};
+use script_reader::{Demand, Document, answers_come, demand_of, rates_of, waited_seconds};
 
 /// The most seconds that a lease duration may have.
 const LONGEST_LEASE: u128 = 86_400;
@@ -19,7 +18,7 @@ pub struct Margin {
     pub lease: u128,
     /// What the lease must exceed, rounded up.
     pub must_exceed: u128,
-    /// The least lease in whole seconds that is long enough, for all where each goes by its own, where one of at most a day is.
+    /// The least lease in whole seconds that is enough, for all where each goes by its own, where one of at most a day is.
     pub least_seconds: Option<u32>,
     /// The longest further stall that the lease bears, where it is long enough at all.
     pub longest_stall: Option<u128>,
@@ -33,50 +32,48 @@ pub fn controller_margin(document: &Document, controller: usize) -> Margin
     ensures law { IsMargin (doc_of document.now) controller result }
 {
     let lease_seconds = waited_seconds(document, controller);
-    let process = document.controllers.as_slice()[controller];
     margin_at(
-        Proc {
-            lease_seconds,
-            ..process
-        },
-        longest_pause(document, controller),
+        answers_come(document),
+        lease_seconds,
+        demand_of(document, controller),
         document.settings.beat_millis,
         rates_of(document, controller).least,
         fastest(document),
     )
 }
 
-/// The numbers of a controller, by the beats of its longest pause and one more, the length of a beat, its slowest rate and the fastest of
-/// any. Takes no memory.
+/// The numbers of a controller, by whether answers come in time, what is waited for its lease, what that has to outlast, the length of a
+/// beat, its slowest rate and the fastest of any. Takes no memory.
 pub fn margin_at(
-    process: Proc,
-    longest: u64,
+    come: bool,
+    lease_seconds: u32,
+    demand: Demand,
     beat_millis: u32,
     slowest: u32,
     fastest: u32,
 ) -> Margin
-    requires longest { longest ≤ 4294967296 }
     requires short_beat { beat_millis ≤ 1000 }
     requires some_beat { 0 < beat_millis }
     requires slowest { 0 < slowest }
     requires fastest { 0 < fastest }
-    ensures { result ≡ numbers process.lease_seconds
-        ((process.timeout_millis + process.retry_millis + process.renew_millis) * 1000000000 * fastest) longest beat_millis slowest fastest }
+    ensures { result ≡ numbers come lease_seconds (demand.acting_millis * 1000000000 * fastest) demand.stall demand.beside beat_millis slowest fastest }
 {
     let milli = u128::from(slowest) * 1_000_000_000;
     let beat_micros = u128::from(beat_millis) * 1000;
     let beat = beat_micros * u128::from(fastest) * u128::from(slowest);
-    let acting_millis = u128::from(process.timeout_millis)
-        + u128::from(process.retry_millis)
-        + u128::from(process.renew_millis);
-    let acting = acting_millis * 1_000_000_000 * u128::from(fastest);
-    let demand = u128::from(longest) * beat + acting;
-    let lease = u128::from(process.lease_seconds) * 1000;
+    let acting = u128::from(demand.acting_millis) * 1_000_000_000 * u128::from(fastest);
+    let beside = u128::from(demand.beside) * beat + acting;
+    let demand = u128::from(demand.stall) * beat + acting;
+    let lease = u128::from(lease_seconds) * 1000;
     Margin {
         lease,
         must_exceed: demand.div_ceil(milli),
-        least_seconds: least_seconds(demand, milli),
-        longest_stall: longest_stall(lease * milli, demand, acting, beat, beat_millis),
+        least_seconds: if come {
+            least_seconds(demand, milli)
+        } else {
+            None
+        },
+        longest_stall: longest_stall(lease * milli, demand, beside, beat, beat_millis),
     }
 }
 
@@ -94,22 +91,22 @@ fn least_seconds(demand: u128, milli: u128) -> Option<u32>
     }
 }
 
-// The milliseconds of the longest pause, of which each beat counts the same, that a lease bears beside the acting.
+// The milliseconds of the longest pause, of which each beat counts the same, that a lease bears beside the acting and the pauses that count with it.
 fn longest_stall(
     lease: u128,
     demand: u128,
-    acting: u128,
+    beside: u128,
     beat: u128,
     beat_millis: u32,
 ) -> Option<u128>
     requires some { 0 < beat }
-    requires part { acting ≤ demand }
+    requires part { beside ≤ demand }
     requires beat { beat_millis ≤ beat }
-    ensures { result ≡ stall_within lease demand acting beat beat_millis }
+    ensures { result ≡ stall_within lease demand beside beat beat_millis }
 {
     if demand >= lease {
         return None;
     }
-    let beats = (lease - acting - 1) / beat;
+    let beats = (lease - beside - 1) / beat;
     Some(beats.saturating_sub(1) * u128::from(beat_millis))
 }

@@ -3,6 +3,8 @@ pub mod Added
 pub mod VerdictLaws
 -- ---- durations
 pub mod Sums
+-- ---- the reply that is late
+pub mod LateReplies
 -- ---- numbers of flags
 pub mod Skews
 pub mod FlagNumbers

@@ -1,8 +1,10 @@
--- The document that settings describe: two controllers of the same timings, one with a clock as slow and one as fast as the skew lets it be,
--- with no event. What a lease premise doesn't read is as in a document that doesn't say it.
-use Rattle.std.specs.Prelude.{ℕ, pos, ◌+◌, ◌-◌, true, [], ◌∷◌}
+-- The document that settings describe: two controllers of the same timings, one with a clock as slow and one as fast as the skew lets it be.
+-- Settings say nothing of the network, so replies may be lost. What a lease premise doesn't read is as in a document that doesn't say it.
+use Rattle.std.specs.Prelude.{ℕ, pos, ◌+◌, ◌-◌, true, false, [], ◌∷◌}
 use Rattle.kube_objects.specs.declared.node.ReadyStatus.TheVariants.{True}
+use Rattle.kube_objects.specs.declared.script.Event.{Event}
 use Rattle.kube_objects.specs.declared.script.Proc.{Proc}
+use Rattle.kube_objects.specs.declared.script.What.TheVariants.{Loss}
 use Rattle.kube_objects.specs.declared.settings.RatePolicy.TheVariants.{Standard}
 use Rattle.kube_objects.specs.declared.settings.Settings.{Settings}
 use Rattle.kube_objects.specs.Document.{Doc}
@@ -51,8 +53,12 @@ settings_of flags = record {
   unhealthy_percent = 55;
   fast_renew = true;
   rate_policy = Standard;
-  rules = own_rules;
+  rules = record own_rules { release = flags.release; in_release = flags.in_release };
 }
+
+-- from the start on replies to the first controller are lost
+abbrev pub lost : Event
+lost = record { beat = record { 0 = 0 }; what = Loss (record { 0 = 0 }) false true }
 
 abbrev pub described : Flags → Doc
 described flags = record {
@@ -61,5 +67,5 @@ described flags = record {
   kubelets = [];
   waits = own_waits ∷ own_waits ∷ [];
   objects = [];
-  events = [];
+  events = lost ∷ [];
 }

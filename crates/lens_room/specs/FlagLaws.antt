@@ -1,6 +1,8 @@
 -- What the numbers of settings are: those of the lease premise of the document that they describe.
-use Rattle.std.specs.Prelude.{◌≡◌, ℕ, ◌+◌, ◌-◌, ◌*◌, ◌/◌, ◌<◌, ◌≤◌, nat_lt, Bool, true, Option, Some, None, if◌then◌else◌}
-use Rattle.history.specs.Premise.{lease_premise}
+use Rattle.std.specs.Prelude.{◌≡◌, ℕ, ◌+◌, ◌-◌, ◌*◌, ◌/◌, ◌<◌, ◌≤◌, min, nat_lt, Bool, true, false, Option, Some, None, if◌then◌else◌}
+use Rattle.kube_objects.specs.declared.rules.ReleaseActing.{ReleaseActing}
+use Rattle.kube_objects.specs.declared.rules.ReleaseActing.TheVariants.{Still, Acts}
+use Rattle.history.specs.Premise.{late_calls, lease_premise}
 use Rattle.lens_margin.specs.declared.margin.Margin.{Margin}
 use Rattle.lens_margin.specs.Laws.{IsLeast, IsGreatest, IsMargin}
 use Rattle.lens_margin.specs.Margins.{margin_of}
@@ -25,16 +27,28 @@ with_skew flags ppm = record flags { skew_ppm = ppm }
 abbrev pub flags_margin : Flags → Margin
 flags_margin flags = margin_of (described flags) 0
 
--- what a leader may act on after its last sent success, in milliseconds of exact clocks
+-- what a leader may act on after its last sent success, in milliseconds of exact clocks; in a release, for so many calls, but no longer than the
+-- renew deadline
 abbrev pub acting : Flags → ℕ
-acting flags = timeout_of flags + flags.retry_millis + flags.renew_millis
+acting flags =
+    timeout_of flags + flags.retry_millis + flags.renew_millis
+    + min (timeout_of flags * late_calls flags.release flags.in_release) flags.renew_millis
+
+-- whether no leader acts until it has an answer, which may be lost
+abbrev pub are_still : ReleaseActing → Bool
+are_still Still = true
+are_still Acts = false
 
 -- by how much more than this the lease is, over both together
 abbrev pub skew_within : ℕ → ℕ → Option ℕ
 skew_within lease acts = if nat_lt acts lease then Some (((lease - acts) * 1000000 - 1) / (lease + acts)) else None
 
+-- there is none where somebody acts until it has an answer
+abbrev pub skew_where : Bool → ℕ → ℕ → Option ℕ
+skew_where still lease acts = if still then skew_within lease acts else None
+
 abbrev pub greatest_skew : Flags → Option ℕ
-greatest_skew flags = skew_within (flags.lease_seconds * 1000) (acting flags)
+greatest_skew flags = skew_where (are_still flags.in_release) (flags.lease_seconds * 1000) (acting flags)
 
 -- ---- their laws
 

@@ -1,5 +1,9 @@
 -- What words behind `margin` are answered.
 use Rattle.std.specs.Prelude.{ℕ, List, [], ◌++◌, codes, decimal, slice_get, Option, Some, None, unwrap_or, Result, Ok, Err, if◌then◌else◌}
+use Rattle.kube_objects.specs.declared.rules.ReleaseActing.{ReleaseActing}
+use Rattle.kube_objects.specs.declared.rules.ReleaseActing.TheVariants as acting
+use Rattle.kube_objects.specs.declared.rules.ReleaseRule.{ReleaseRule}
+use Rattle.kube_objects.specs.declared.rules.ReleaseRule.TheVariants as rule
 use Rattle.run_edge.specs.Outcome.{Reply}
 use Rattle.run_edge.specs.declared.status.Verdict.TheVariants.{Usage}
 use Rattle.lens_room.specs.Lines.{margin_line, verdict_text}
@@ -8,8 +12,10 @@ use Rattle.lens_room.specs.declared.by_flags.flag.Flag.{Flag}
 use Rattle.lens_room.specs.declared.by_flags.flag.Flag.TheVariants.{Lease, Renew, Retry, Timeout, Skew, Beat}
 use Rattle.lens_room.specs.declared.by_flags.flags.Flags.{Flags}
 use Rattle.lens_room.specs.declared.by_flags.wrong.Wrong.{Wrong}
-use Rattle.lens_room.specs.declared.by_flags.wrong.Wrong.TheVariants.{Unknown, Alone, Value, LongRenew, LongRetry, LongTimeout}
-use Rattle.lens_room.specs.Flags.{timeout_of, flags_of}
+use Rattle.lens_room.specs.declared.by_flags.wrong.Wrong.TheVariants.{Unknown, Alone, Value, LongRenew, LongRetry, LongTimeout, NoRelease}
+use Rattle.lens_room.specs.declared.by_flags.setting.Setting.{Setting}
+use Rattle.lens_room.specs.declared.by_flags.setting.Setting.TheVariants.{Number, Release, InRelease}
+use Rattle.lens_room.specs.Flags.{timeout_of, acting_word, flags_of}
 use Rattle.lens_room.specs.FlagJson.{settings_json}
 use Rattle.lens_room.specs.FlagLaws.{holds, flags_margin, greatest_skew}
 
@@ -20,10 +26,20 @@ abbrev pub origin_text : Option ℕ → List ℕ
 origin_text None = codes "(renew-deadline)"
 origin_text (Some millis) = []
 
+unfoldable pub named_text : List ℕ → ReleaseActing → List ℕ
+named_text word in_release = codes " release=" ++ word ++ codes " in-release=" ++ acting_word in_release
+
+-- releases, where they aren't those of stops alone
+abbrev pub release_text : ReleaseRule → ReleaseActing → List ℕ
+release_text rule.Stop in_release = []
+release_text rule.Own in_release = named_text (codes "own") in_release
+release_text rule.Checked in_release = named_text (codes "checked") in_release
+release_text rule.Reread in_release = named_text (codes "reread") in_release
+
 unfoldable pub taken_text : Flags → List ℕ
 taken_text flags =
     codes "timeout=" ++ decimal (timeout_of flags) ++ codes "ms" ++ origin_text flags.timeout_millis
-    ++ codes " skew=" ++ decimal flags.skew_ppm ++ codes "ppm"
+    ++ codes " skew=" ++ decimal flags.skew_ppm ++ codes "ppm" ++ release_text flags.release flags.in_release
 
 unfoldable pub ppm_text : ℕ → List ℕ
 ppm_text ppm = codes "greatest-skew=" ++ decimal ppm ++ codes "ppm\n"
@@ -32,10 +48,15 @@ abbrev pub skew_text : Option ℕ → List ℕ
 skew_text None = codes "greatest-skew=none\n"
 skew_text (Some ppm) = ppm_text ppm
 
--- what was taken for the call timeout and the skew, the numbers, the greatest skew, and the verdict
+-- the line that says why no lease is enough
+abbrev pub late_text : ReleaseActing → List ℕ
+late_text acting.Still = []
+late_text acting.Acts = codes "late-reply=any: no lease is enough, since a leader acts in its release until it has the answer; where each comes within 3 beats, one over must-exceed is\n"
+
+-- what was taken for the call timeout, the skew and releases, the numbers, the greatest skew, and the verdict
 unfoldable pub settings_text : Flags → List ℕ
 settings_text flags =
-    margin_line (taken_text flags) (flags_margin flags) ++ skew_text (greatest_skew flags) ++ verdict_text (holds flags)
+    margin_line (taken_text flags) (flags_margin flags) ++ skew_text (greatest_skew flags) ++ late_text flags.in_release ++ verdict_text (holds flags)
 
 -- in lines, or as one JSON object
 abbrev pub told_text : Flags → List ℕ
@@ -62,6 +83,16 @@ values_text Timeout = codes " takes a duration from 1ms to 10m, as 5s or 500ms, 
 values_text Skew = codes " takes parts per million up to 500000ppm, as 20000ppm, not "
 values_text Beat = codes " takes a duration from 1ms to 1s, as 100ms, not "
 
+abbrev pub setting_text : Setting → List ℕ
+setting_text (Number flag) = name_text flag
+setting_text Release = codes "--release"
+setting_text InRelease = codes "--in-release"
+
+abbrev pub takes_text : Setting → List ℕ
+takes_text (Number flag) = values_text flag
+takes_text Release = codes " takes stop, own, checked or reread, not "
+takes_text InRelease = codes " takes still or acts, not "
+
 abbrev pub word_at : List (List ℕ) → ℕ → List ℕ
 word_at words place = unwrap_or (slice_get words place) []
 
@@ -70,15 +101,16 @@ unknown_text word = codes "no such flag: " ++ word
 
 abbrev pub wrong_text : List (List ℕ) → Wrong → List ℕ
 wrong_text words (Unknown place) = unknown_text (word_at words place)
-wrong_text words (Alone flag) = name_text flag ++ codes " stands without a value"
-wrong_text words (Value flag place) = name_text flag ++ values_text flag ++ word_at words place
+wrong_text words (Alone setting) = setting_text setting ++ codes " stands without a value"
+wrong_text words (Value setting place) = setting_text setting ++ takes_text setting ++ word_at words place
 wrong_text words LongRenew = codes "the renew deadline must be shorter than the lease"
 wrong_text words LongRetry = codes "the retry period must be shorter than five sixths of the renew deadline"
 wrong_text words LongTimeout = codes "a call timeout is at most 10m: give one by --timeout, or a shorter renew deadline"
+wrong_text words NoRelease = codes "--in-release acts goes with --release own, checked or reread"
 
 unfoldable pub usage_text : List ℕ → List ℕ
 usage_text wrong =
-    codes "usage: kube_lens margin [--lease 15s] [--renew 10s] [--retry 2s] [--timeout 10s] [--skew 0ppm] [--beat 100ms] [--json]\n" ++ wrong ++ codes "\n"
+    codes "usage: kube_lens margin [--lease 15s] [--renew 10s] [--retry 2s] [--timeout 10s] [--skew 0ppm] [--beat 100ms] [--release stop] [--in-release still] [--json]\n" ++ wrong ++ codes "\n"
 
 abbrev pub misused : List (List ℕ) → Wrong → Reply
 misused words wrong = record { verdict = Usage; text = usage_text (wrong_text words wrong) }

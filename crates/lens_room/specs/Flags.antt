@@ -4,13 +4,21 @@ use Rattle.std.specs.Prelude.{ℕ, ◌+◌, ◌*◌, ◌/◌, ◌%◌, ◌≤◌
 use Rattle.std.specs.Prelude.{Option, Some, None, unwrap_or, Result, Ok, Err, if◌then◌else◌}
 use Rattle.std.specs.Str.{bytes_eq}
 use Rattle.kube_base.specs.Times.{◌>>=◌}
+use Rattle.kube_objects.specs.declared.rules.ReleaseActing.{ReleaseActing}
+use Rattle.kube_objects.specs.declared.rules.ReleaseActing.TheVariants as acting
+use Rattle.kube_objects.specs.declared.rules.ReleaseRule.{ReleaseRule}
+use Rattle.kube_objects.specs.declared.rules.ReleaseRule.TheVariants as rule
+use Rattle.script_reader.specs.Choices.{release_of, in_release_of}
+use Rattle.script_reader.specs.Rules.{has_release}
 use Rattle.trace_lines.specs.Grammar.{cut, number_onto}
 use Rattle.lens_room.specs.declared.by_flags.flag.Flag.{Flag}
 use Rattle.lens_room.specs.declared.by_flags.flag.Flag.TheVariants.{Lease, Renew, Retry, Timeout, Skew, Beat}
 use Rattle.lens_room.specs.declared.by_flags.flags.Flags.{Flags}
 use Rattle.lens_room.specs.declared.by_flags.given.Given.{Given}
+use Rattle.lens_room.specs.declared.by_flags.setting.Setting.{Setting}
+use Rattle.lens_room.specs.declared.by_flags.setting.Setting.TheVariants.{Number, Release, InRelease}
 use Rattle.lens_room.specs.declared.by_flags.wrong.Wrong.{Wrong}
-use Rattle.lens_room.specs.declared.by_flags.wrong.Wrong.TheVariants.{Unknown, Alone, Value, LongRenew, LongRetry, LongTimeout}
+use Rattle.lens_room.specs.declared.by_flags.wrong.Wrong.TheVariants.{Unknown, Alone, Value, LongRenew, LongRetry, LongTimeout, NoRelease}
 use Rattle.lens_room.specs.Durations.{duration}
 
 -- ---- names
@@ -33,7 +41,32 @@ flag_by name =
     else if is name (codes "--retry") || is name (codes "--leader-elect-retry-period") then Some Retry
     else other_flag_by name
 
+abbrev pub release_setting : List ℕ → Option Setting
+release_setting name =
+    if is name (codes "--release") then Some Release
+    else if is name (codes "--in-release") then Some InRelease
+    else None
+
+abbrev pub or_release : Option Flag → List ℕ → Option Setting
+or_release None name = release_setting name
+or_release (Some flag) name = Some (Number flag)
+
+-- a flag with a number, or one on releases
+abbrev pub setting_by : List ℕ → Option Setting
+setting_by name = or_release (flag_by name) name
+
 -- ---- values
+
+-- as a document has them
+abbrev pub release_word : ReleaseRule → List ℕ
+release_word rule.Stop = codes "stop"
+release_word rule.Own = codes "own"
+release_word rule.Checked = codes "checked"
+release_word rule.Reread = codes "reread"
+
+abbrev pub acting_word : ReleaseActing → List ℕ
+acting_word acting.Still = codes "still"
+acting_word acting.Acts = codes "acts"
 
 abbrev pub within : ℕ → ℕ → Option ℕ
 within most number = if nat_le 1 number && nat_le number most then Some number else None
@@ -68,7 +101,8 @@ IsInRange Beat n = (1 ≤ n) × (n ≤ 1000)
 
 -- ---- settings
 
--- as kube-controller-manager has them where no flag says else, on exact clocks, with a beat of 100 ms, told in lines
+-- as kube-controller-manager has them where no flag says else, on exact clocks, with a beat of 100 ms, told in lines; a leader gives up its Lease at a
+-- stop alone
 abbrev pub standard : Flags
 standard = record {
   lease_seconds = 15;
@@ -77,6 +111,8 @@ standard = record {
   timeout_millis = None;
   skew_ppm = 0;
   beat_millis = 100;
+  release = rule.Stop;
+  in_release = acting.Still;
   as_json = false;
 }
 
@@ -94,39 +130,57 @@ timeout_of flags = unwrap_or flags.timeout_millis flags.renew_millis
 
 -- ---- words, each `--flag=value`, or a flag and then its value; the last of a flag counts. `--json` stands wherever a flag may
 
--- a value of a flag, by its number
-abbrev pub numbered : ℕ → Flags → Flag → Option ℕ → Result Given Wrong
-numbered place flags flag None = Err (Value flag place)
-numbered place flags flag (Some n) = Ok (record { flags = with_value flag n flags; waiting = None })
+abbrev pub with_number : Flags → Flag → Option ℕ → Option Flags
+with_number flags flag None = None
+with_number flags flag (Some n) = Some (with_value flag n flags)
 
-abbrev pub valued : ℕ → Flags → Flag → List ℕ → Result Given Wrong
-valued place flags flag text = numbered place flags flag (value_of flag text)
+abbrev pub with_release : Flags → Option ReleaseRule → Option Flags
+with_release flags None = None
+with_release flags (Some release) = Some (record flags { release = release })
 
-abbrev pub named : ℕ → Option Flag → Result Flag Wrong
+abbrev pub with_acting : Flags → Option ReleaseActing → Option Flags
+with_acting flags None = None
+with_acting flags (Some in_release) = Some (record flags { in_release = in_release })
+
+-- with a setting by its text
+abbrev pub set : Flags → Setting → List ℕ → Option Flags
+set flags (Number flag) text = with_number flags flag (value_of flag text)
+set flags Release text = with_release flags (release_of text)
+set flags InRelease text = with_acting flags (in_release_of text)
+
+-- a value of a setting, by what it comes to
+abbrev pub taken : ℕ → Setting → Option Flags → Result Given Wrong
+taken place setting None = Err (Value setting place)
+taken place setting (Some flags) = Ok (record { flags = flags; waiting = None })
+
+abbrev pub valued : ℕ → Flags → Setting → List ℕ → Result Given Wrong
+valued place flags setting text = taken place setting (set flags setting text)
+
+abbrev pub named : ℕ → Option Setting → Result Setting Wrong
 named place None = Err (Unknown place)
-named place (Some flag) = Ok flag
+named place (Some setting) = Ok setting
 
 -- a flag whose value is the next word
-abbrev pub opened : Flags → Result Flag Wrong → Result Given Wrong
+abbrev pub opened : Flags → Result Setting Wrong → Result Given Wrong
 opened flags (Err wrong) = Err wrong
-opened flags (Ok flag) = Ok (record { flags = flags; waiting = Some flag })
+opened flags (Ok setting) = Ok (record { flags = flags; waiting = Some setting })
 
-abbrev pub joined : ℕ → Flags → Result Flag Wrong → List ℕ → Result Given Wrong
+abbrev pub joined : ℕ → Flags → Result Setting Wrong → List ℕ → Result Given Wrong
 joined place flags (Err wrong) text = Err wrong
-joined place flags (Ok flag) text = valued place flags flag text
+joined place flags (Ok setting) text = valued place flags setting text
 
 abbrev pub by_parts : ℕ → Flags → List ℕ → Option (List ℕ × List ℕ) → Result Given Wrong
-by_parts place flags word None = opened flags (named place (flag_by word))
-by_parts place flags word (Some parts) = joined place flags (named place (flag_by parts.0)) parts.1
+by_parts place flags word None = opened flags (named place (setting_by word))
+by_parts place flags word (Some parts) = joined place flags (named place (setting_by parts.0)) parts.1
 
 abbrev pub begun : ℕ → Flags → List ℕ → Result Given Wrong
 begun place flags word =
     if is word (codes "--json") then Ok (record { flags = record flags { as_json = true }; waiting = None })
     else by_parts place flags word (cut 61 word)
 
-abbrev pub by_waiting : ℕ → Flags → Option Flag → List ℕ → Result Given Wrong
+abbrev pub by_waiting : ℕ → Flags → Option Setting → List ℕ → Result Given Wrong
 by_waiting place flags None word = begun place flags word
-by_waiting place flags (Some flag) word = valued place flags flag word
+by_waiting place flags (Some setting) word = valued place flags setting word
 
 -- with one more word, which stands at a place
 unfoldable pub with_word : ℕ → Given → List ℕ → Result Given Wrong
@@ -138,18 +192,19 @@ given_from place (Err wrong) words = Err wrong
 given_from place (Ok given) [] = Ok given
 given_from place (Ok given) (word ∷ words) = given_from (place + 1) (with_word place given word) words
 
--- ---- the rules of a document's timings: the lease outlasts the renew deadline, that the retry period by more than a fifth of it, and a
--- call timeout is at most ten minutes
+-- ---- the rules of a document's timings: the lease outlasts the renew deadline, that the retry period by more than a fifth of it, a call
+-- timeout is at most ten minutes, and who acts in a release has one
 abbrev pub ruled : Flags → Result Flags Wrong
 ruled flags =
     if nat_le (flags.lease_seconds * 1000) flags.renew_millis then Err LongRenew
     else if nat_le (5 * flags.renew_millis) (6 * flags.retry_millis) then Err LongRetry
     else if nat_lt 600000 (timeout_of flags) then Err LongTimeout
+    else if not (has_release flags.in_release flags.release) then Err NoRelease
     else Ok flags
 
-abbrev pub closed : Flags → Option Flag → Result Flags Wrong
+abbrev pub closed : Flags → Option Setting → Result Flags Wrong
 closed flags None = ruled flags
-closed flags (Some flag) = Err (Alone flag)
+closed flags (Some setting) = Err (Alone setting)
 
 abbrev pub settled : Result Given Wrong → Result Flags Wrong
 settled (Err wrong) = Err wrong

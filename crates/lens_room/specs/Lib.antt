@@ -1,3 +1,4 @@
+pub mod Late
 pub mod Lines
 pub mod Replies
 pub mod MarginJson

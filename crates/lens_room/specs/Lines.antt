@@ -6,6 +6,7 @@ use Rattle.script_reader.specs.Documents.{doc_of}
 use Rattle.trace_writer.specs.Names.{text_of}
 use Rattle.lens_margin.specs.declared.margin.Margin.{Margin}
 use Rattle.lens_margin.specs.Margins.{margin_of}
+use Rattle.lens_room.specs.Late.{late_text}
 
 unfoldable pub bound_text : ℕ → ℕ → List ℕ
 bound_text lease must = codes " lease=" ++ decimal lease ++ codes "ms must-exceed=" ++ decimal must
@@ -40,6 +41,6 @@ abbrev pub lines_below : Document → ℕ → List ℕ
 lines_below d zero = []
 lines_below d (suc p) = lines_below d p ++ line_at d p
 
--- the line of each controller, and the verdict
+-- the line of each controller, the reply for which no lease is enough, if there is one, and the verdict
 unfoldable pub lines_text : Document → Bool → List ℕ
-lines_text d safe = lines_below d (length d.controllers) ++ verdict_text safe
+lines_text d safe = lines_below d (length d.controllers) ++ late_text d ++ verdict_text safe

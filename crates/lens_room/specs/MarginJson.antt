@@ -5,9 +5,11 @@ use Rattle.serde_json.specs.Written.{compact_text}
 use Rattle.history.specs.Premise.{lease_premise}
 use Rattle.kube_objects.specs.Document.{field, process_at}
 use Rattle.run_edge.specs.Outcome.{Reply, refusal}
-use Rattle.lens_json.specs.Members.{Named, text, object_of}
+use Rattle.lens_json.specs.Members.{Named, nat, text, object_of}
 use Rattle.lens_margin.specs.declared.margin.Margin.{Margin}
 use Rattle.lens_margin.specs.Margins.{margin_of}
+use Rattle.lens_room.specs.declared.late.Late.{Late}
+use Rattle.lens_room.specs.Late.{late_reply}
 use Rattle.lens_room.specs.Replies.{verdict_of}
 use Rattle.lens_json.specs.Parts.{list_of}
 use Rattle.manifest_json.specs.declared.fault.Refusal.{Refusal}
@@ -51,8 +53,18 @@ controllers_below d (suc p) = controllers_below d p ++ members_at d p ∷ []
 
 -- ---- the answer
 
+-- the reply for which no lease is enough, if there is one
+abbrev pub late_members : Late → List ℕ → List Named
+late_members late name = nat (codes "event") late.place ∷ nat (codes "beat") late.beat.0 ∷ text (codes "name") name ∷ []
+
+abbrev pub late_data : Document → Option Late → Data
+late_data d None = null
+late_data d (Some late) = object_of (late_members late (text_of d.names (field (λ x. x.name) 0 (process_at (doc_of d) late.who.0))))
+
 abbrev pub room_members : Document → Bool → List Named
-room_members d safe = (codes "controllers", list_of (controllers_below d (length d.controllers))) ∷ (codes "safe", boolean safe) ∷ []
+room_members d safe =
+    (codes "controllers", list_of (controllers_below d (length d.controllers))) ∷ (codes "lateReply", late_data d (late_reply (doc_of d)))
+    ∷ (codes "safe", boolean safe) ∷ []
 
 unfoldable pub room_json : Document → Bool → List ℕ
 room_json d safe = compact_text (object_of (room_members d safe))

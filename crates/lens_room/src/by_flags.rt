@@ -8,6 +8,7 @@ mod lines;
 mod margin;
 mod object;
 mod running;
+mod setting;
 mod wrong;
 
 pub use duration::{Reading, Stage, durations_are_sums, millis_of};
@@ -18,4 +19,5 @@ pub use lines::{add_wrong, name_of, origin, values_of, word_at};
 pub use margin::{flags_margin, greatest_skew, is_safe, slowest_controller};
 pub use object::is_renew_deadline;
 pub use running::{behind, run};
+pub use setting::Setting;
 pub use wrong::Wrong;

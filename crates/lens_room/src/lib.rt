@@ -3,8 +3,10 @@
 #![tactic(auto)]
 
 pub mod by_flags;
+mod late;
 mod lines;
 pub mod margin_json;
 mod margins;
 
+pub use late::{Late, late_reply};
 pub use margins::{margins_in, verdict_by};

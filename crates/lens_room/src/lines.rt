@@ -4,13 +4,14 @@ ghost use Rattle.script_reader.specs.Documents.{doc_of};
 ghost use Rattle.script_reader.specs.Lawful.{IsLawfulDoc, IsWellNamed};
 ghost use Rattle.lens_room.specs.Lines.{margin_line, bound_text, slack_text, least_text, stall_text, line_at, lines_below, lines_text, verdict_text};
 
+use crate::late::add_late;
 use itoa::Buffer;
 use kube_base::NoMemory;
 use lens_margin::{Margin, controller_margin};
 use script_reader::Document;
 use trace_writer::{add, name_of};
 
-/// Adds the line of each controller, and the verdict.
+/// Adds the line of each controller, that on a reply for which no lease is enough, and the verdict.
 #[tactic(auto, unfolding(crate::specs::Lines::lines_text))]
 pub(crate) fn add_lines(text: &mut Vec<u8>, document: &Document, safe: bool) -> Result<(), NoMemory>
     requires lawful { IsLawfulDoc (doc_of document.now) }
@@ -18,6 +19,7 @@ pub(crate) fn add_lines(text: &mut Vec<u8>, document: &Document, safe: bool) -> 
     ensures { OnOk result (text.new.items ≡ text.old.items ++ lines_text document.now safe) }
 {
     add_controllers(text, document)?;
+    add_late(text, document)?;
     add(text, verdict_line(safe))
 }
 

@@ -3,6 +3,8 @@ use Rattle.std.proofs.Common.{◌≡◌, ◌⊎◌, ℕ, zero, suc, ◌+◌, ◌
 use Rattle.std.proofs.Math.Nat.{mul-le-mul_right, mul-le-mul_left}
 use Rattle.std.proofs.lemmas.Bool.{cases_lt, lt-ltb, ltb-true}
 use Rattle.std.proofs.lemmas.Bool.Decides.{nat_tests}
+use Rattle.kube_objects.specs.declared.rules.ReleaseActing.TheVariants.{Still}
+use Rattle.kube_objects.specs.declared.rules.ReleaseRule.TheVariants.{Stop}
 use Rattle.kube_objects.specs.Document.{Doc, of_seconds, of_millis}
 use Rattle.history.specs.Premise.{more, longest, is_long, greatest_below, lease_premise}
 use Rattle.lens_margin.specs.Laws.{paused}
@@ -40,7 +42,11 @@ faster still acts lease slow fast more less = by_size (cases_lt still lease)
     by_size (inl short) = by_rest (lease - still) (omega arith)
     by_size (inr long) = let never : lease * slow ≤ still * slow = mul-le-mul_right slow long in absurd (omega (arith, never, less))
 
-module _ (flags : Flags) where
+module _ (given : Flags) where
+  -- leaders give up their Leases at stops alone
+  abbrev flags : Flags
+  flags = record given { release = Stop; in_release = Still }
+
   abbrev doc : ℕ → Doc
   doc n = paused (paused (described flags) 0 n) 1 n
 

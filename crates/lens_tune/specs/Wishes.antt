@@ -1,6 +1,8 @@
 -- What is wished for, and the calm span, the controllers and the stalls that it speaks of, by the settings of a plan.
 use Rattle.std.specs.Int.{div_ceil}
-use Rattle.std.specs.Prelude.{ℕ, ◌*◌, ◌/◌, ◌≤◌, max, false, Some}
+use Rattle.std.specs.Prelude.{ℕ, ◌*◌, ◌/◌, ◌≤◌, max, true, false, Some}
+use Rattle.kube_objects.specs.declared.rules.ReleaseActing.TheVariants.{Still}
+use Rattle.kube_objects.specs.declared.rules.ReleaseRule.TheVariants.{Stop}
 use Rattle.kube_objects.specs.declared.rules.RespectRule.TheVariants.{Record}
 use Rattle.kube_objects.specs.declared.script.Proc.{Proc}
 use Rattle.kube_objects.specs.Document.{Doc}
@@ -50,7 +52,7 @@ retry_millis p = p.retry_tenths * 100
 abbrev pub timeout_of : Wish → Plan → ℕ
 timeout_of w p = timeout_by w.timeout (renew_millis p)
 
--- the settings that a plan comes to, as `margin` and `bounds` read them
+-- the settings that a plan comes to, as `margin` and `bounds` read them; a leader gives up its Lease at a stop alone
 abbrev pub flags_of : Wish → Plan → Flags
 flags_of w p = record {
   lease_seconds = p.lease_seconds;
@@ -59,6 +61,8 @@ flags_of w p = record {
   timeout_millis = Some (timeout_of w p);
   skew_ppm = w.skew_ppm;
   beat_millis = w.beat_millis;
+  release = Stop;
+  in_release = Still;
   as_json = false;
 }
 
@@ -81,6 +85,7 @@ calm_of w p = record {
   waits = UpTo (wait_of w p);
   respect = Record;
   fast_renew = false;
+  releases_by_stop = true;
 }
 
 -- every controller has these timings

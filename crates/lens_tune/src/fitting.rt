@@ -48,6 +48,7 @@ fn calm_of(w: Wish, p: Plan) -> Calm
         waits: Waits::UpTo(wait_by(w, p)),
         respect: RespectRule::Record,
         fast_renew: false,
+        releases_by_stop: true,
     }
 }
 

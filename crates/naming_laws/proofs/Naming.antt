@@ -1,11 +1,12 @@
 -- Every entry of a lawful and well-named document's history can be written.
-use Rattle.std.proofs.Common.{◌≡◌, ℕ, ◌+◌, ◌<◌, ◌≤◌, ◌==◌, Bool, true, false, List, [], ◌∷◌, ◌++◌, length, Option, Some, None, refl, sym, ap, ◌∙◌, subst, inl, inr, ⊎_elim, arith}
+use Rattle.std.proofs.Common.{◌≡◌, ℕ, ◌+◌, ◌<◌, ◌≤◌, ◌==◌, Bool, true, false, List, [], ◌∷◌, ◌++◌, not, length, Option, Some, None, refl, sym, ◌∙◌, subst, inl, inr, ⊎_elim, arith}
 use Rattle.std.proofs.lemmas.Bool.{eqb-true, ltb-true}
 use Rattle.std.proofs.lemmas.List.{length-map, length-append}
 use Rattle.std.proofs.lemmas.List.Elements.{recursion_from_All}
 use Rattle.std.proofs.lemmas.Option.{slice_get_cases}
 use Rattle.std.specs.List.{AllByRecursion}
 use Rattle.kube_base.specs.declared.numbers.Version.{Version}
+use Rattle.kube_objects.specs.declared.call.Request.{Request}
 use Rattle.kube_objects.specs.declared.deed.Act.{Act}
 use Rattle.kube_objects.specs.declared.deed.Actor.{Actor}
 use Rattle.kube_objects.specs.declared.deed.Actor.TheVariants as actor
@@ -15,14 +16,16 @@ use Rattle.kube_objects.specs.declared.object.Object.{Object}
 use Rattle.kube_objects.specs.declared.script.Proc.{Proc}
 use Rattle.kube_objects.specs.declared.script.What.{What}
 use Rattle.kube_objects.specs.declared.script.What.TheVariants as what
-use Rattle.kube_objects.specs.Clocks.{store_wall, whole_second}
+use Rattle.kube_objects.specs.Clocks.{wall, store_wall, whole_second}
 use Rattle.kube_objects.specs.Document.{Doc, processes, process_at, field, is_controller, end_beat, lease_seconds}
-use Rattle.kube_objects.specs.Entry.{Entry, Identity, Call, Fact, First, Event as Happens, Starts, Crashes, Stops, Stalls, Ends, ReleaseBegins, ReleaseEnds, StepsDown, ReleaseStops, Sends, Answers, Delivers, Expires, Leads, Ticks, actor_of, entry, script_entry}
+use Rattle.kube_objects.specs.Elector.{shown, release_from, acts_by, acts_on}
+use Rattle.kube_objects.specs.Entry.{Entry, Identity, Call, CallKind, Fact, First, Event as Happens, Starts, Crashes, Stops, Stalls, Ends, ReleaseBegins, ReleaseEnds, StepsDown, ReleaseStops, Sends, Answers, Delivers, Expires, Leads, Ticks, actor_of, entry, script_entry}
 use Rattle.kube_objects.specs.Identities.{identity, of_process, holder_of}
 use Rattle.kube_objects.specs.InForce.{first_status}
 use Rattle.kube_objects.specs.Kubelet.{node_of}
 use Rattle.kube_objects.specs.Newest.{when, has, join}
 use Rattle.kube_objects.specs.Process.{born, gone, life_says, life, alive, counted}
+use Rattle.kube_objects.specs.Releases.{and_end, end_release, first_call, send_first, begin_release, is_mine}
 use Rattle.kube_objects.specs.Stamps.{stamped}
 use Rattle.kube_objects.specs.Stored.{stored, next_version}
 use Rattle.kube_objects.specs.Tick.{tick}
@@ -35,7 +38,7 @@ use Rattle.history_laws.specs.Tails.{In}
 use Rattle.history_laws.proofs.Counting.{counted_is}
 use Rattle.history_laws.proofs.Plainly.{upper, some_is, none_is}
 use Rattle.history_laws.proofs.Ticks.{walk_tick}
-use Rattle.history_laws.proofs.Walk.{Scripted, Arriving, Coming, stopped_at, after_reply, Ticking, KeepsTurn, Keeps, no_release, walk_history}
+use Rattle.history_laws.proofs.Walk.{Scripted, Arriving, Coming, stopped_at, halted_at, after_reply, Ticking, KeepsTurn, Keeps, KeepsRelease, walk_history}
 use Rattle.manifest_json.specs.Fields.{Texts}
 use Rattle.manifest_json.specs.Readable.{IsNameNumber, IsReadableHolder, IsReadableItem}
 use Rattle.script_reader.specs.Lawful.{IsLawfulDoc, IsWellNamed}
@@ -47,7 +50,7 @@ use Rattle.naming_laws.proofs.Answered.{second_whole, answered_fit}
 use Rattle.naming_laws.proofs.Fits.{IsFitRequest, IsFitReply, IsFitWhat, IsTold, Carries, IsFitFact, AreFit, fit_in, stored_fit}
 use Rattle.naming_laws.proofs.Lists.{all_append, all_at}
 use Rattle.naming_laws.proofs.Readings.{space_held, writable_item, item_fit, stamped_fit, posted_is, scripted_lawful, scripted_fit}
-use Rattle.naming_laws.proofs.Requests.{IsEarly, AsksFit, election_key, node_lease_key, waiting_fit, follow_fit, attempt_fit, release_fit, next_fit, post_fit}
+use Rattle.naming_laws.proofs.Requests.{IsEarly, AsksFit, election_key, node_lease_key, waiting_fit, follow_fit, attempt_fit, release_fit, first_fit, look_fit, next_fit, post_fit}
 use Rattle.naming_laws.proofs.Incarnations.{IsMember, IsStartOfMember, StartsAreOfMembers, starts_are_of_members}
 use Rattle.naming_laws.proofs.Texts.{HoldsFixed, holds_fixed, controller_held}
 use Rattle.naming_laws.proofs.TickSteps.{keeps_tick}
@@ -314,6 +317,18 @@ module _ (names : Texts) (doc : Doc) (fixed : HoldsFixed names) (lawful : IsLawf
   end_fact : (q : Identity) → IsFitFact names known (actor_of q) Ends
   end_fact q = record { told = (record { form = refl; held = tt; timely = tt }, refl); wrote = tt; carries = tt }
 
+  halt_fact : (q : Identity) → IsFitFact names known (actor_of q) ReleaseStops
+  halt_fact q = record { told = (record { form = refl; held = tt; timely = tt }, refl); wrote = tt; carries = tt }
+
+  step_down_fact : (q : Identity) → IsFitFact names known (actor_of q) StepsDown
+  step_down_fact q = record { told = (record { form = refl; held = tt; timely = tt }, refl); wrote = tt; carries = tt }
+
+  begin_fact : (q : Identity) (at_deadline : Bool) → IsFitFact names known (actor_of q) (ReleaseBegins at_deadline)
+  begin_fact q at_deadline = record { told = tt; wrote = tt; carries = tt }
+
+  release_end_fact : (q : Identity) → IsFitFact names known (actor_of q) ReleaseEnds
+  release_end_fact q = record { told = tt; wrote = tt; carries = tt }
+
   lead_fact : (q : Identity) (version : Version) → IsFitFact names known (actor_of q) (Leads version)
   lead_fact q version = record { told = (record { form = refl; held = tt; timely = tt }, refl); wrote = tt; carries = tt }
 
@@ -353,9 +368,9 @@ module _ (names : Texts) (doc : Doc) (fixed : HoldsFixed names) (lawful : IsLawf
   keeps_turn : KeepsTurn doc (Ticking doc) (λ k h. Well k 4 h)
   keeps_turn = record {
     restarts = λ k p h s le good. record { fit = (start_fact _, (s le good.1).fit); actors = (good.0.0, tt, (s le good.1).actors) };
-    expires = λ k p i call h up waits late s le good. let well = s le good.1 in
+    expires = λ k p i call h up waits late of s le good. let well = s le good.1 in
         more k 4 (identity p i) (Expires call) h (up_within n p i h good.1 up) (expire_fact (identity p i) call) well;
-    ends = λ k p i at h role up is before s le good. more k 4 (identity p i) Ends h (up_within n p i h good.1 up) (end_fact (identity p i)) (s le good.1);
+    ends = λ k p i at h role up is before stop s le good. more k 4 (identity p i) Ends h (up_within n p i h good.1 up) (end_fact (identity p i)) (s le good.1);
     polls = λ k p i h role up awake waits s le good. more k 4 (identity p i) (Sends _ _) h (up_within n p i h good.1 up) (send_fact (identity p i) _ _ (election_key names known fixed)) (s le good.1);
     attempts = λ k p i h role up awake waits s le good. let well = s le good.1 in let member = up_within n p i h good.1 up in
         more k 4 (identity p i) (Sends _ _) h member
@@ -376,8 +391,8 @@ module _ (names : Texts) (doc : Doc) (fixed : HoldsFixed names) (lawful : IsLawf
     starts = λ k step p h s le good. record { fit = (start_fact _, (s le good.1).fit); actors = (good.0.0, tt, (s le good.1).actors) };
     crashes = λ k p i h up s le good. let well = s le good.1 in more k 1 (identity p i) Crashes h (up_within n p i h good.1 up) (crash_fact (identity p i)) well;
     stalls = λ k id beats i h scripted up s le good. let well = s le good.1 in more k 1 (identity id.0 i) (Stalls beats) h (up_within n id.0 i h good.1 up) (stall_fact (identity id.0 i) beats) well;
-    stops = λ k id i h scripted up s le good. more k 1 (identity id.0 i) Stops h (up_within n id.0 i h good.1 up) (stop_fact (identity id.0 i)) (s le good.1);
-    releases = λ k id i before request scripted up awake is was s le good.
+    stops = λ k id i h scripted up free s le good. more k 1 (identity id.0 i) Stops h (up_within n id.0 i h good.1 up) (stop_fact (identity id.0 i)) (s le good.1);
+    releases = λ k id i before request scripted up awake is stop was s le good.
         let role = scripted_lawful names doc fixed lawful named k (what.Stop id) scripted in
         let well = s le good.1 in
         let member = up_within n id.0 i before good.1.1.1 up in
@@ -391,15 +406,15 @@ module _ (names : Texts) (doc : Doc) (fixed : HoldsFixed names) (lawful : IsLawf
         let well = s le good.1 in
         let back = coming_fit k h b coming well in
         more k 3 b.who (Delivers _ _ _) h back.0 (deliver_fact b.who b.call b false back.1 back.2) well;
-    counts = λ k b waiting h coming is s le good.
+    counts = λ k b waiting h coming is of s le good.
         let well = s le good.1 in
         let back = coming_fit k h b coming well in
         more k 3 b.who (Delivers _ _ _) h back.0 (deliver_fact b.who waiting b true (waits_fit b.who k b.call.number h waiting is well) back.2) well;
-    follows = λ k b waiting h request coming is role follows was s le good.
+    follows = λ k b waiting h request coming is role of follows was s le good.
         let back = coming_fit k h b coming (was le good.1.1) in
         more k 3 b.who (Sends _ _) (after_reply k b waiting h) back.0 (send_fact b.who _ _ (subst (AsksFit names known) follows
         (follow_fit names known fixed doc b.who k (own_holder b.who role back.0.1) (lasts b.who.process) (early b.who.process k le) waiting.kind waiting.request b.reply (after_reply k b waiting h) back.2))) (s le good.1);
-    leads = λ k b waiting h version coming is role follows was s le good.
+    leads = λ k b waiting h version coming is role of follows was s le good.
         let back = coming_fit k h b coming (was le good.1.1) in
         more k 3 b.who (Leads version) (after_reply k b waiting h) back.0 (lead_fact b.who version) (s le good.1);
     asks = λ k b waiting h request coming is role asked was s le good.
@@ -408,6 +423,66 @@ module _ (names : Texts) (doc : Doc) (fixed : HoldsFixed names) (lawful : IsLawf
         more k 3 b.who (Sends _ _) (after_reply k b waiting h) back.0 (send_fact b.who _ _
         (next_fit names known fixed doc b.who k (node_held b.who.process back.0.0) lawful.settings.node_lease (early b.who.process k le) waiting.request b.reply request (waits_fit b.who k b.call.number h waiting is well) back.2 asked)) (s le good.1);
     turns = keeps_turn;
+  }
+
+  -- ---- releases
+
+  -- a release's entries are by one who is of the document
+  abbrev WellOf : Identity → List Entry → Type 0
+  WellOf q h = StartsAreOfMembers n h → IsWell names known n h × IsMember n (actor_of q)
+
+  one_of : (k step : ℕ) (q : Identity) (d : Fact) (h : List Entry) → IsFitFact names known (actor_of q) d → WellOf q h → WellOf q (entry k step q d ∷ h)
+  one_of k step q d h fit s good = let t = s good.1 in (more k step q d h t.1 fit t.0, t.1)
+
+  and_end_of : (k step : ℕ) (q : Identity) (b : Bool) (h : List Entry) → WellOf q h → WellOf q (and_end k step q b h)
+  and_end_of k step q true h s = one_of k step q StepsDown h (step_down_fact q) s
+  and_end_of k step q false h s = s
+
+  end_of : (k step : ℕ) (q : Identity) (h : List Entry) → WellOf q h → WellOf q (end_release doc k step q h)
+  end_of k step q h s = one_of k step q ReleaseEnds (and_end k step q (acts_on doc q h) h) (release_end_fact q) (and_end_of k step q (acts_on doc q h) h s)
+
+  begin_of : (k step : ℕ) (q : Identity) (at_deadline : Bool) (h : List Entry) → k ≤ end_beat doc + 1 → is_controller doc q.process ≡ true → WellOf q h → WellOf q (begin_release doc k step q at_deadline h)
+  begin_of k step q at_deadline h le role s = by_call (first_call doc.settings.rules.release k (release_from q (wall doc q.process k) (shown q h))) refl
+    where
+      g : List Entry
+      g = entry k step q (ReleaseBegins at_deadline) ∷ h
+
+      begun : WellOf q g
+      begun = one_of k step q (ReleaseBegins at_deadline) h (begin_fact q at_deadline) s
+
+      by_call : (o : Option (CallKind × Request)) → first_call doc.settings.rules.release k (release_from q (wall doc q.process k) (shown q h)) ≡ o → WellOf q (send_first doc k step q o g)
+      by_call None is good = end_of k step q g begun good
+      by_call (Some call) is good =
+          let was = s good.1.1 in
+          let t = begun good.1 in
+          (more k step q (Sends _ _) g t.1 (send_fact q _ _ (first_fit names known fixed doc q k (own_holder q role t.1.1) (lasts q.process) (early q.process k le) h was.0.fit call is)) t.0, t.1)
+
+  -- a reply in one
+  replied_of : (k : ℕ) (b : Back) (waiting : Call) (h : List Entry) → Coming k h b → counted doc b.who k b.call.number h ≡ Some waiting → (StartsAreOfMembers n h → IsWell names known n h) → WellOf b.who (after_reply k b waiting h)
+  replied_of k b waiting h coming is s good =
+      let well = s good.1 in
+      let back = coming_fit k h b coming well in
+      (more k 3 b.who (Delivers _ _ _) h back.0 (deliver_fact b.who waiting b true (waits_fit b.who k b.call.number h waiting is well) back.2) well, back.0)
+
+  releases : KeepsRelease doc Well
+  releases = record {
+    halts = λ k id i h scripted up other runs s le good. more k 1 (identity id.0 i) ReleaseStops h (up_within n id.0 i h good.1 up) (halt_fact (identity id.0 i)) (s le good.1);
+    begins = λ k id i before scripted up awake other fresh led s le good.
+        (begin_of k 1 (identity id.0 i) false (halted_at k id i before) le (scripted_lawful names doc fixed lawful named k (what.Stop id) scripted)
+        (one_of k 1 (identity id.0 i) ReleaseStops (script_entry k 1 (Happens (what.Stop id) None) ∷ before) (halt_fact (identity id.0 i)) (λ good. (s le good, up_within n id.0 i before good.1 up))) good).0;
+    empties = λ k begun b waiting h request coming is role of look asked s le good.
+        let back = coming_fit k h b coming (s le good.1.1) in
+        let t = replied_of k b waiting h coming is (s le) good.1 in
+        more k 3 b.who (Sends _ _) (after_reply k b waiting h) t.1 (send_fact b.who _ _
+        (look_fit names known fixed doc b.who k (own_holder b.who role t.1.1) (lasts b.who.process) (early b.who.process k le) doc.settings.rules.release (is_mine b.who (after_reply k b waiting h)) b.reply back.2 request asked)) t.0;
+    closes = λ k begun b waiting h coming is role of s le good. (end_of k 3 b.who (after_reply k b waiting h) (replied_of k b waiting h coming is (s le)) good).0;
+    turns = record {
+      closes = λ k p i begun call h up waits late is s le good. (end_of k 4 (identity p i) h (λ good. (s le good, up_within n p i h good up)) good).0;
+      begins = λ k p i at h role up awake is before other fresh s le good.
+          let early = not (acts_by doc.settings.rules.in_release true) in
+          (begin_of k 4 (identity p i) true (and_end k 4 (identity p i) early h) le role
+          (and_end_of k 4 (identity p i) early h (λ good. (s le good, up_within n p i h good up))) good).0;
+    };
   }
 
   -- ---- histories
@@ -421,7 +496,7 @@ module _ (names : Texts) (doc : Doc) (fixed : HoldsFixed names) (lawful : IsLawf
       put = stamped_fit names known (whole_second (store_wall doc 0)) x.0 x.1 (second_whole (store_wall doc 0) (store_early doc lawful 0 (omega arith))) (item_fit names known x.0 x.1 all.0)
 
   pub history_well : (k : ℕ) → k ≤ end_beat doc + 1 → IsWell names (numbers_of doc.controllers) (processes doc) (history doc k)
-  history_well k le = walk_history doc Well keeps (no_release doc Well (ap (λ r. r.release) lawful.settings.rules)) (λ le good. items_fit doc.objects named.objects.each [] (record { fit = tt; actors = tt })) k le (starts_are_of_members doc lawful k le)
+  history_well k le = walk_history doc Well keeps releases (λ le good. items_fit doc.objects named.objects.each [] (record { fit = tt; actors = tt })) k le (starts_are_of_members doc lawful k le)
 
 -- ---- what is printed
 

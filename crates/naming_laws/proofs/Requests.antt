@@ -1,6 +1,7 @@
 -- The requests that electors and kubelets send can be written.
 use Rattle.std.proofs.Common.{◌≡◌, ℕ, ◌+◌, ◌≤◌, ◌==◌, ◌&&◌, nat_lt, Bool, true, false, cond, List, [], ◌∷◌, Option, Some, None, refl, subst, arith}
 use Rattle.std.proofs.lemmas.Bool.{ltb-true}
+use Rattle.kube_base.specs.declared.numbers.Version.{Version}
 use Rattle.kube_base.specs.Times.{last_wall}
 use Rattle.kube_objects.proofs.KeyOrder.{key_itself}
 use Rattle.kube_objects.specs.declared.call.Reply.{Reply}
@@ -11,6 +12,8 @@ use Rattle.kube_objects.specs.declared.deed.Actor.{Actor}
 use Rattle.kube_objects.specs.declared.lease.Holder.TheVariants as holder
 use Rattle.kube_objects.specs.declared.lease.Lease.{Lease}
 use Rattle.kube_objects.specs.declared.node.ReadyStatus.{ReadyStatus}
+use Rattle.kube_objects.specs.declared.rules.ReleaseRule.{ReleaseRule}
+use Rattle.kube_objects.specs.declared.rules.ReleaseRule.TheVariants as rules
 use Rattle.kube_objects.specs.declared.script.What.{What}
 use Rattle.kube_objects.specs.declared.script.What.TheVariants as what
 use Rattle.kube_objects.specs.Clocks.{local, wall}
@@ -22,6 +25,7 @@ use Rattle.kube_objects.specs.InForce.{status_of, first_status}
 use Rattle.kube_objects.specs.Kubelet.{node_of, heartbeat_lease, next_request, post}
 use Rattle.kube_objects.specs.Newest.{when, only_if, join, or_else, or_zero}
 use Rattle.kube_objects.specs.Process.{open_as, call_says, last_call, call_in}
+use Rattle.kube_objects.specs.Releases.{first_call, may_empty, after_look}
 use Rattle.kube_objects.specs.Stored.{election, node_lease}
 use Rattle.kube_objects.specs.Wire.{of_event, in_force}
 use Rattle.kube_objects.specs.Writable.{is_posted}
@@ -220,14 +224,46 @@ module _ (names : Texts) (known : List ℕ) (fixed : HoldsFixed names) where
         by_test true = by_shown (shown q h) refl
         by_test false = election_key
 
-    pub release_fit : (h : List Entry) → AreFit names known h → (request : Request) → release doc q k h ≡ Some request → IsFitRequest names known request
-    release_fit h fit request is = by_shown (shown q h) refl (only_value (leads q h) (release_from q (wall doc q.process k) (shown q h)) request is)
+    -- what empties a Lease
+    given_up_fit : (version : Version) (lease : Lease) → IsWellFormedLease names known lease → IsFitRequest names known (Update election version (given_up (wall doc q.process k) lease))
+    given_up_fit version lease fit = (election_key, record { holder = tt; duration = omega arith; acquired = early; renewed = early; transitions = fit.transitions })
+
+    from_fit : (h : List Entry) → AreFit names known h → (request : Request) → release_from q (wall doc q.process k) (shown q h) ≡ Some request → IsFitRequest names known request
+    from_fit h fit request is = by_shown (shown q h) refl is
       where
         by_shown : (o : Option Shown) → shown q h ≡ o → release_from q (wall doc q.process k) o ≡ Some request → IsFitRequest names known request
         by_shown None at is = absurd (none_is request is)
         by_shown (Some x) at is =
             subst (IsFitRequest names known) (when_value (is_own q x.1.holder) (Update election x.0 (given_up (wall doc q.process k) x.1)) request is)
-            (election_key, record { holder = tt; duration = omega arith; acquired = early; renewed = early; transitions = (shown_fit q h fit x at).transitions })
+            (given_up_fit x.0 x.1 (shown_fit q h fit x at))
+
+    pub release_fit : (h : List Entry) → AreFit names known h → (request : Request) → release doc q k h ≡ Some request → IsFitRequest names known request
+    release_fit h fit request is = from_fit h fit request (only_value (leads q h) (release_from q (wall doc q.process k) (shown q h)) request is)
+
+    -- the first call of a release, and what follows a look
+    pub first_fit : (h : List Entry) → AreFit names known h → (call : CallKind × Request) → first_call doc.settings.rules.release k (release_from q (wall doc q.process k) (shown q h)) ≡ Some call
+        → IsFitRequest names known call.1
+    first_fit h fit call is = by_rule doc.settings.rules.release (release_from q (wall doc q.process k) (shown q h)) refl is
+      where
+        looked : Some (Look k, Get election) ≡ Some call → IsFitRequest names known call.1
+        looked is = subst (λ (c : CallKind × Request). IsFitRequest names known c.1) (some_is (Look k, Get election) call is) election_key
+
+        by_rule : (rule : ReleaseRule) (o : Option Request) → release_from q (wall doc q.process k) (shown q h) ≡ o → first_call rule k o ≡ Some call → IsFitRequest names known call.1
+        by_rule rules.Stop o at is = absurd (none_is call is)
+        by_rule rules.Own None at is = absurd (none_is call is)
+        by_rule rules.Own (Some request) at is = subst (λ (c : CallKind × Request). IsFitRequest names known c.1) (some_is (Emptying k, request) call is) (from_fit h fit request at)
+        by_rule rules.Checked o at is = looked is
+        by_rule rules.Reread o at is = looked is
+
+    pub look_fit : (rule : ReleaseRule) (mine : Bool) (reply : Reply) → IsFitReply names known reply → (request : Request) → after_look rule q (wall doc q.process k) mine reply ≡ Some request
+        → IsFitRequest names known request
+    look_fit rule mine (Found version lease) fit request is =
+        subst (IsFitRequest names known) (when_value (mine && may_empty rule q lease) (Update election version (given_up (wall doc q.process k) lease)) request is) (given_up_fit version lease fit)
+    look_fit rule mine (Done version) fit request is = absurd (none_is request is)
+    look_fit rule mine Absent fit request is = absurd (none_is request is)
+    look_fit rule mine Exists fit request is = absurd (none_is request is)
+    look_fit rule mine (Conflict version) fit request is = absurd (none_is request is)
+    look_fit rule mine Unchanged fit request is = absurd (none_is request is)
 
   -- ---- kubelets
 

@@ -9,31 +9,30 @@ use Rattle.kube_objects.specs.declared.call.Request.{Request}
 use Rattle.kube_objects.specs.declared.deed.Actor.{Actor}
 use Rattle.kube_objects.specs.declared.key.Key.{Key}
 use Rattle.kube_objects.specs.declared.object.Object.{Object}
+use Rattle.kube_objects.specs.declared.rules.ReleaseRule.{ReleaseRule}
+use Rattle.kube_objects.specs.declared.rules.ReleaseRule.TheVariants as rules
 use Rattle.kube_objects.specs.declared.script.Event.{Event}
 use Rattle.kube_objects.specs.declared.script.What.{What}
 use Rattle.kube_objects.specs.declared.script.What.TheVariants as what
-use Rattle.kube_objects.specs.Clocks.{local, store_wall, whole_second}
+use Rattle.kube_objects.specs.Clocks.{local, wall, store_wall, whole_second}
 use Rattle.kube_objects.specs.Document.{Doc, processes, is_controller, is_up_first}
-use Rattle.kube_objects.specs.Elector.{Follow, Fails, Asks, Succeeds, follow_on, leads, deadline, timer, release, acts}
-use Rattle.kube_objects.specs.Entry.{Entry, Identity, Call, Fact, First, Event as Happens, Starts, Stops, Delivers, entry, script_entry}
+use Rattle.kube_objects.specs.Elector.{Follow, Fails, Asks, Succeeds, follow_on, leads, deadline, timer, shown, release_from, release, acts, acts_by, acts_on}
+use Rattle.kube_objects.specs.Entry.{Entry, Identity, Call, CallKind, Plain, Fast, Release, Look, Emptying, Fact, First, Event as Happens, Starts, Stops, ReleaseBegins, ReleaseStops, Delivers, entry, script_entry}
 use Rattle.kube_objects.specs.Identities.{identity}
 use Rattle.kube_objects.specs.Kubelet.{next_request, send_next, is_post_call, round_if, is_round_due, round}
 use Rattle.kube_objects.specs.Newest.{only_if, has}
-use Rattle.kube_objects.specs.Own.{IsOwn}
-use Rattle.kube_objects.proofs.Own.{expire_as-own, end_term-own}
-use Rattle.history.proofs.Own.{stop-own, react-own}
 use Rattle.history.proofs.Ticks.{ticks_keep}
 use Rattle.kube_objects.specs.Pauses.{is_paused}
-use Rattle.kube_objects.specs.Process.{alive, call_in, counted, ended, is_late, is_restart_due, release_begun}
+use Rattle.kube_objects.specs.Process.{alive, call_in, counted, ended, is_late, is_releasing, is_restart_due, release_begun}
+use Rattle.kube_objects.specs.Releases.{and_end, end_release, first_call, send_first, begin_release, is_mine, after_look, empty_or_end, react_in_release}
 use Rattle.kube_objects.specs.Stamps.{stamped}
-use Rattle.kube_objects.specs.Turns.{react, expire_as, expire_call, end_as, end_term, just_expired, is_fast_call, attempt_if, try}
+use Rattle.kube_objects.specs.Turns.{react, expire_as, expire_call, end_released, end_as, end_term, just_expired, is_fast_call, attempt_if, try}
 use Rattle.kube_objects.specs.Wire.{Sent, Back, sent_of, back_of}
 use Rattle.kube_objects.specs.Writable.{IsOneOf}
 use Rattle.history.specs.History.{put_all, three_steps, history}
-use Rattle.history.specs.Steps.{start_first, starts_below, first_starts, start_if_down, crash, stall, released, stop, effect, stamp, event_version, happen_all, step_one, step_two, react_as, deliver_as, if_up, restart_if, restart, expire, finish, attempts, turns, happens, answered, delivered, start, controller_turn, kubelet_turn, unpaused_turn}
+use Rattle.history.specs.Steps.{start_first, starts_below, first_starts, start_if_down, crash, stall, released, stop_releasing, stop_as, stop, effect, stamp, event_version, happen_all, step_one, step_two, elector_react, react_as, deliver_as, if_up, restart_if, restart, expire, finish, attempts, turns, happens, answered, delivered, start, controller_turn, kubelet_turn, unpaused_turn}
 use Rattle.history_laws.proofs.Ticks.{walk_tick}
 use Rattle.script_reader.specs.Lawful.{IsLawfulWhat, AreLawfulFrom, IsLawfulDoc}
-use Rattle.script_reader.proofs.OwnDocuments.{own-document}
 
 abbrev pub IsStartOfOne : ℕ → Actor → Fact → Type 0
 IsStartOfOne n who Starts = IsOneOf n who
@@ -44,11 +43,36 @@ StartsAreOfOne n [] = Unit {0}
 StartsAreOfOne n (e ∷ h) = IsStartOfOne n e.actor e.fact × StartsAreOfOne n h
 
 module _ (doc : Doc) (lawful : IsLawfulDoc doc) where
-  own : IsOwn doc
-  own = own-document doc lawful
-
   abbrev Good : List Entry → Type 0
   Good h = StartsAreOfOne (processes doc) h
+
+  -- ---- releases
+
+  good_and_end : (k step : ℕ) (q : Identity) (b : Bool) (h : List Entry) → Good h → Good (and_end k step q b h)
+  good_and_end k step q true h s = (tt, s)
+  good_and_end k step q false h s = s
+
+  good_release_end : (k step : ℕ) (q : Identity) (h : List Entry) → Good h → Good (end_release doc k step q h)
+  good_release_end k step q h s = (tt, good_and_end k step q (acts_on doc q h) h s)
+
+  good_call : (k step : ℕ) (q : Identity) (o : Option (CallKind × Request)) (h : List Entry) → Good h → Good (send_first doc k step q o h)
+  good_call k step q None h s = good_release_end k step q h s
+  good_call k step q (Some call) h s = (tt, s)
+
+  good_begin : (k step : ℕ) (q : Identity) (at_deadline : Bool) (h : List Entry) → Good h → Good (begin_release doc k step q at_deadline h)
+  good_begin k step q at_deadline h s =
+      good_call k step q (first_call doc.settings.rules.release k (release_from q (wall doc q.process k) (shown q h))) (entry k step q (ReleaseBegins at_deadline) ∷ h) (tt, s)
+
+  good_empty : (k : ℕ) (q : Identity) (begun : ℕ) (o : Option Request) (h : List Entry) → Good h → Good (empty_or_end doc k q begun o h)
+  good_empty k q begun None h s = good_release_end k 3 q h s
+  good_empty k q begun (Some request) h s = (tt, s)
+
+  good_in_release : (k : ℕ) (q : Identity) (kind : CallKind) (reply : Reply) (h : List Entry) → Good h → Good (react_in_release doc k q kind reply h)
+  good_in_release k q (Look begun) reply h s = good_empty k q begun (after_look doc.settings.rules.release q (wall doc q.process k) (is_mine q h) reply) h s
+  good_in_release k q Plain reply h s = good_release_end k 3 q h s
+  good_in_release k q Fast reply h s = good_release_end k 3 q h s
+  good_in_release k q Release reply h s = good_release_end k 3 q h s
+  good_in_release k q (Emptying begun) reply h s = good_release_end k 3 q h s
 
   -- ---- step 1
 
@@ -68,6 +92,17 @@ module _ (doc : Doc) (lawful : IsLawfulDoc doc) where
   good_released k q None h s = s
   good_released k q (Some request) h s = (tt, s)
 
+  good_halted : (k : ℕ) (q : Identity) (releasing led : Bool) (h : List Entry) → Good h → Good (stop_releasing doc k q releasing led h)
+  good_halted k q true led h s = (tt, s)
+  good_halted k q false true h s = good_begin k 1 q false (entry k 1 q ReleaseStops ∷ h) (tt, s)
+  good_halted k q false false h s = (tt, s)
+
+  good_stopped : (rule : ReleaseRule) (k : ℕ) (q : Identity) (before h : List Entry) → Good h → Good (stop_as rule doc k q before h)
+  good_stopped rules.Stop k q before h s = good_released k q (release doc q k before) (entry k 1 q Stops ∷ h) (tt, s)
+  good_stopped rules.Own k q before h s = good_halted k q (is_releasing q before) (leads q before) h s
+  good_stopped rules.Checked k q before h s = good_halted k q (is_releasing q before) (leads q before) h s
+  good_stopped rules.Reread k q before h s = good_halted k q (is_releasing q before) (leads q before) h s
+
   good_effect : (k : ℕ) (w : What) → IsLawfulWhat doc w → (before h : List Entry) → Good h → Good (effect doc k w before h)
   good_effect k (what.Crash id) ok before h s = by (alive id.0 before)
     where
@@ -83,9 +118,7 @@ module _ (doc : Doc) (lawful : IsLawfulDoc doc) where
     where
       by : (o : Option ℕ) → Good (stop doc k id.0 o before h)
       by None = s
-      by (Some i) =
-          subst Good (sym (stop-own doc own k (identity id.0 i) before h))
-          (good_released k (identity id.0 i) (release doc (identity id.0 i) k before) (entry k 1 (identity id.0 i) Stops ∷ h) (tt, s))
+      by (Some i) = good_stopped doc.settings.rules.release k (identity id.0 i) before h s
   good_effect k (what.Pause id beats) ok before h s = by (alive id.0 before)
     where
       by : (o : Option ℕ) → Good (stall k id.0 beats o h)
@@ -132,8 +165,12 @@ module _ (doc : Doc) (lawful : IsLawfulDoc doc) where
   good_next k q None h s = s
   good_next k q (Some request) h s = (tt, s)
 
+  good_elector : (k : ℕ) (q : Identity) (x : Call) (reply : Reply) (o : Option ℕ) (h : List Entry) → Good h → Good (elector_react doc k q x reply o h)
+  good_elector k q x reply None h s = good_react k q (leads q h) (follow_on doc q k x.kind x.request reply h) h s
+  good_elector k q x reply (Some begun) h s = good_in_release k q x.kind reply h s
+
   good_react_as : (k : ℕ) (q : Identity) (x : Call) (reply : Reply) (b : Bool) (h : List Entry) → Good h → Good (react_as doc k q x reply b h)
-  good_react_as k q x reply true h s = subst Good (sym (react-own doc own k q x reply h)) (good_react k q (leads q h) (follow_on doc q k x.kind x.request reply h) h s)
+  good_react_as k q x reply true h s = good_elector k q x reply (release_begun doc.settings.rules.release x.kind) h s
   good_react_as k q x reply false h s = good_next k q (next_request doc q k x.request reply) h s
 
   good_deliver_as : (k : ℕ) (q : Identity) (x : Call) (reply : Reply) (o : Option Call) (h : List Entry) → Good h → Good (deliver_as doc k q x reply o h)
@@ -162,13 +199,29 @@ module _ (doc : Doc) (lawful : IsLawfulDoc doc) where
       by true = (below, s)
       by false = s
 
+  good_expired : (k : ℕ) (q : Identity) (x : Call) (o : Option ℕ) (h : List Entry) → Good h → Good (expire_as doc k q x o h)
+  good_expired k q x None h s = (tt, s)
+  good_expired k q x (Some begun) h s = good_release_end k 4 q h s
+
   good_expire : (k : ℕ) (q : Identity) (o : Option Call) (h : List Entry) → Good h → Good (expire_call doc k q o h)
   good_expire k q None h s = s
   good_expire k q (Some x) h s = by (is_late doc q k x)
     where
       by : (b : Bool) → Good (if b then expire_as doc k q x (release_begun doc.settings.rules.release x.kind) h else h)
-      by true = subst Good (sym (expire_as-own doc own k q x h)) (tt, s)
+      by true = good_expired k q x (release_begun doc.settings.rules.release x.kind) h s
       by false = s
+
+  good_late : (k : ℕ) (q : Identity) (releasing : Bool) (h : List Entry) → Good h → Good (end_released doc k q releasing h)
+  good_late k q true h s = s
+  good_late k q false h s =
+      let early = not (acts_by doc.settings.rules.in_release true) in
+      good_begin k 4 q true (and_end k 4 q early h) (good_and_end k 4 q early h s)
+
+  good_ended : (rule : ReleaseRule) (k : ℕ) (q : Identity) (h : List Entry) → Good h → Good (end_as rule doc k q h)
+  good_ended rules.Stop k q h s = (tt, s)
+  good_ended rules.Own k q h s = good_late k q (is_releasing q h) h s
+  good_ended rules.Checked k q h s = good_late k q (is_releasing q h) h s
+  good_ended rules.Reread k q h s = good_late k q (is_releasing q h) h s
 
   good_end : (k : ℕ) (q : Identity) (o : Option ℕ) (h : List Entry) → Good h → Good (end_term doc k q o h)
   good_end k q None h s = s
@@ -176,7 +229,7 @@ module _ (doc : Doc) (lawful : IsLawfulDoc doc) where
     where
       by : (b : Bool) → Good (if b then h else end_as doc.settings.rules.release doc k q h)
       by true = s
-      by false = subst Good (sym (end_term-own doc own k q h)) (tt, s)
+      by false = good_ended doc.settings.rules.release k q h s
 
   good_try : (k : ℕ) (q : Identity) (h : List Entry) → Good h → Good (try doc k q h)
   good_try k q h s = by (is_fast_call (just_expired q k h)) (not (has (call_in q h)) && not (nat_lt (local doc q.process k) (timer doc q h)))

@@ -20,6 +20,7 @@ use Rattle.eviction_laws.proofs.Early.{never_early}
 use Rattle.eviction_laws.proofs.Turns.{prompt}
 use Rattle.span_laws.proofs.Spans.{readings_grow, readings_last}
 use Rattle.outage_laws.specs.Gone.{IsAmong, seconds_of, tolerated_for, IsDoomed, PodsGo, PodsStay}
+use Rattle.outage_laws.proofs.Turns.{is_acting}
 use Rattle.outage_laws.proofs.Walls.{whole_before, wall_later, reading_later}
 
 -- ---- the least time
@@ -86,7 +87,7 @@ pods_go doc own evicts q t k seconds slow enough dated attended runs is le key k
     none_due =
         subst (λ r. IsDue (wall doc q.process k) (stored_due r doc q key (after_turn doc q.process k)) → ⊥) evicts.from
         (subst (λ n. NoneDueWithin n doc q k (after_turn doc q.process k)) evicts.burst
-        (prompt doc own q k attended.0 attended.4 attended.3 attended.1 attended.2) key kind)
+        (prompt doc q k (is_acting doc own q k attended) attended.4 attended.3 attended.1 attended.2) key kind)
 
     over : whole_second (wall doc q.process t) + seconds * 1000000 ≤ wall doc q.process k
     over = omega (

@@ -1,4 +1,5 @@
 pub mod Walls
+pub mod Ready
 pub mod Turns
 pub mod Rest
 pub mod Passes

@@ -10,7 +10,7 @@ use Rattle.kube_objects.specs.Health.{pass_says, last_pass, pass_period, is_afte
 use Rattle.kube_objects.specs.Identities.{is_by}
 use Rattle.kube_objects.specs.InForce.{watches}
 use Rattle.kube_objects.specs.Newest.{newest, when, or_else}
-use Rattle.kube_objects.specs.Own.{IsOwn, PassesTakeNoWork}
+use Rattle.kube_objects.specs.Own.{ReleasesByStop, PassesTakeNoWork}
 use Rattle.kube_objects.specs.Seen.{is_fresh, synced_says, is_synced}
 use Rattle.kube_objects.specs.Tick.{add, whole_pass, phases, evicted, tainted, cleaned}
 use Rattle.kube_objects.proofs.Own.{pass_period-own}
@@ -50,7 +50,7 @@ own_pass q k t other h = refl
 abbrev LastPass : Identity → Option ℕ → List Entry → Type 0
 LastPass q o h = last_pass q h ≡ o
 
-module _ (doc : Doc) (own : IsOwn doc) (q : Identity) (k : ℕ) (attended : IsAttended doc q k) where
+module _ (doc : Doc) (own : ReleasesByStop doc) (q : Identity) (k : ℕ) (attended : IsAttended doc q k) where
   begun : List Entry
   begun = elector_turn doc k q.process (at_turn doc q.process k)
 
@@ -115,7 +115,7 @@ none_more f r k missing none j after before = by_case (cases_eq j k)
     by_case (inl same) = subst (λ j. f j ≡ false) (sym same) missing
     by_case (inr other) = none j after (omega (arith, before, other))
 
-module _ (doc : Doc) (own : IsOwn doc) (free : PassesTakeNoWork doc) (q : Identity) (a e : ℕ) (attends : Attends doc q a e) (slow far : ℕ) (runs : RunsAtLeast doc q.process a e slow) (enough_far : IsEnough slow (monitor_period doc) far) where
+module _ (doc : Doc) (own : ReleasesByStop doc) (free : PassesTakeNoWork doc) (q : Identity) (a e : ℕ) (attends : Attends doc q a e) (slow far : ℕ) (runs : RunsAtLeast doc q.process a e slow) (enough_far : IsEnough slow (monitor_period doc) far) where
   abbrev NoneYet : ℕ → ℕ → Type 0
   NoneYet r k = (j : ℕ) → r < j → j < k → has_pass doc q j ≡ false
 

@@ -12,7 +12,7 @@ use Rattle.kube_objects.specs.Entry.{Entry, Identity, Ticks, Tick, Sync, Pass, M
 use Rattle.kube_objects.specs.Health.{is_found, hears}
 use Rattle.kube_objects.specs.InForce.{watches}
 use Rattle.kube_objects.specs.Newest.{has}
-use Rattle.kube_objects.specs.Own.{IsOwn, ProbesByRun}
+use Rattle.kube_objects.specs.Own.{ReleasesByStop, ProbesByRun}
 use Rattle.kube_objects.specs.Seen.{is_fresh, node_names}
 use Rattle.kube_objects.specs.Stored.{Held, node_key, stored}
 use Rattle.kube_objects.specs.Tick.{add, has_settled, marks, set_mode, set_zones, whole_pass, evicted, tainted, cleaned}
@@ -39,7 +39,7 @@ record Synced (q : Identity) (h : List Entry) : Type 0 where
   mirrors : Mirrors q h
   passes : loses_requests q.process h ≡ false
 
-module _ (doc : Doc) (own : IsOwn doc) (q : Identity) (k : ℕ) (attended : IsAttended doc q k) where
+module _ (doc : Doc) (own : ReleasesByStop doc) (q : Identity) (k : ℕ) (attended : IsAttended doc q k) where
   abbrev begun : List Entry
   begun = elector_turn doc k q.process (at_turn doc q.process k)
 
@@ -144,7 +144,7 @@ module _ (doc : Doc) (own : IsOwn doc) (q : Identity) (k : ℕ) (attended : IsAt
 
 -- ---- beat by beat
 
-heard_at : (doc : Doc) → IsOwn doc → (q : Identity) (name a e m : ℕ) → Attends doc q a e → IsLastHeard doc q name a e → m ≤ e → StaysPosted doc q name a m → (n : ℕ) → a + n < m → Heard q name a (at_turn doc q.process (suc (a + n)))
+heard_at : (doc : Doc) → ReleasesByStop doc → (q : Identity) (name a e m : ℕ) → Attends doc q a e → IsLastHeard doc q name a e → m ≤ e → StaysPosted doc q name a m → (n : ℕ) → a + n < m → Heard q name a (at_turn doc q.process (suc (a + n)))
 heard_at doc own q name a e m attends s end posted zero lt =
     let same : a + 0 ≡ a = omega arith in
     subst (λ k. Heard q name a (at_turn doc q.process (suc k))) (sym same)

@@ -6,18 +6,19 @@ use Rattle.kube_objects.specs.Document.{Doc, processes}
 use Rattle.kube_objects.specs.Elector.{acts}
 use Rattle.kube_objects.specs.Entry.{Entry, Identity, Ticks, actor_of, entry}
 use Rattle.kube_objects.specs.Identities.{identity, is_by}
-use Rattle.kube_objects.specs.Own.{IsOwn}
+use Rattle.kube_objects.specs.Own.{ReleasesByStop}
 use Rattle.kube_objects.specs.Tick.{tick}
 use Rattle.history.specs.Evictions.{after_turn}
 use Rattle.history.specs.History.{three_steps, history, at_turn}
+use Rattle.history.specs.Safe.{IsActing}
 use Rattle.history.specs.Steps.{step_one, step_two, if_up, restart, expire, finish, elector_turn, ticks_while, controller_turn, kubelet_turn, unpaused_turn, turn, turns}
 use Rattle.history_laws.proofs.Ticks.{walk_tick}
 use Rattle.history_laws.proofs.Walk.{Ticking, KeepsTurn, Keeps, IsStop, no_release, no_release_turn, all_turns, walk_to_tick, walk_turn, walk_one, walk_two, walk_three}
 use Rattle.row_laws.specs.Keys.{is_ticking}
 use Rattle.outage_laws.specs.Attended.{IsAttended}
-use Rattle.eviction_laws.proofs.Turns.{Ready, ready_at, still, ready_restart, ready_expire, ready_finish, ready_attempts}
+use Rattle.outage_laws.proofs.Ready.{Ready, ready_at, still, ready_restart, ready_expire, ready_finish, ready_attempts}
 
-module _ (doc : Doc) (own : IsOwn doc) (q : Identity) (k : ℕ) where
+module _ (doc : Doc) (own : ReleasesByStop doc) (q : Identity) (k : ℕ) where
   pub ready : IsAttended doc q k → Ready doc q k (elector_turn doc k q.process (at_turn doc q.process k))
   ready (acting, watching, passing, settled, goes) =
       let h0 = at_turn doc q.process k in
@@ -25,6 +26,10 @@ module _ (doc : Doc) (own : IsOwn doc) (q : Identity) (k : ℕ) where
       let h2 = expire doc k q.process h1 in
       let h3 = finish doc k q.process h2 in
       ready_attempts doc own q k h3 (ready_finish doc own q k h2 (ready_expire doc own q k h1 (ready_restart doc own q k h0 (ready_at doc own q k h0 acting.1 watching passing settled))))
+
+  -- so it acts at its tick
+  pub is_acting : IsAttended doc q k → IsActing doc q k
+  is_acting attended = (attended.0.0, still doc own q k (elector_turn doc k q.process (at_turn doc q.process k)) (ready attended))
 
   -- its turn is that of its elector, and the tick
   pub turn_is : IsAttended doc q k → after_turn doc q.process k ≡ tick doc k q (elector_turn doc k q.process (at_turn doc q.process k))
@@ -40,9 +45,9 @@ module _ (doc : Doc) (own : IsOwn doc) (q : Identity) (k : ℕ) where
 
 -- ---- what no entry of the leader's ticks keeps
 
-module _ (doc : Doc) (own : IsOwn doc) (q : Identity) (P : List Entry → Type 0) (foreign : (x : Entry) (h : List Entry) → is_ticking q x.actor x.fact ≡ false → P h → P (x ∷ h)) where
+module _ (doc : Doc) (own : ReleasesByStop doc) (q : Identity) (P : List Entry → Type 0) (foreign : (x : Entry) (h : List Entry) → is_ticking q x.actor x.fact ≡ false → P h → P (x ∷ h)) where
   stop : IsStop doc
-  stop = ap (λ r. r.release) own.rules
+  stop = own.release
 
   abbrev Another : Identity → ℕ → Type 0
   Another r k = is_by q (actor_of r) ≡ false
@@ -50,8 +55,8 @@ module _ (doc : Doc) (own : IsOwn doc) (q : Identity) (P : List Entry → Type 0
   foreign_turn : KeepsTurn doc Another (λ k h. P h)
   foreign_turn = record {
     restarts = λ k p h s. foreign _ h refl s;
-    expires = λ k p i call h up waits late s. foreign _ h refl s;
-    ends = λ k p i at h role up is before s. foreign _ h refl s;
+    expires = λ k p i call h up waits late of s. foreign _ h refl s;
+    ends = λ k p i at h role up is before stop s. foreign _ h refl s;
     polls = λ k p i h role up awake waits s. foreign _ h refl s;
     attempts = λ k p i h role up awake waits s. foreign _ h refl s;
     seeks = λ k p i call h role up awake expired late s. foreign _ h refl s;
@@ -89,13 +94,13 @@ module _ (doc : Doc) (own : IsOwn doc) (q : Identity) (P : List Entry → Type 0
     starts = λ m step p h s is le. foreign _ h refl (s is le);
     crashes = λ m p i h up s is le. foreign _ h refl (s is le);
     stalls = λ m id beats i h scripted up s is le. foreign _ h refl (s is le);
-    stops = λ m id i h scripted up s is le. foreign _ h refl (s is le);
-    releases = λ m id i before request scripted up awake asked was s is le. foreign _ _ refl (s is le);
+    stops = λ m id i h scripted up free s is le. foreign _ h refl (s is le);
+    releases = λ m id i before request scripted up awake asked stop was s is le. foreign _ _ refl (s is le);
     answers = λ m x h arriving s is le. foreign _ h refl (s is le);
     ignores = λ m b h coming none s is le. foreign _ h refl (s is le);
-    counts = λ m b waiting h coming some s is le. foreign _ h refl (s is le);
-    follows = λ m b waiting h request coming some role follows was s is le. foreign _ _ refl (s is le);
-    leads = λ m b waiting h version coming some role follows was s is le. foreign _ _ refl (s is le);
+    counts = λ m b waiting h coming some of s is le. foreign _ h refl (s is le);
+    follows = λ m b waiting h request coming some role of follows was s is le. foreign _ _ refl (s is le);
+    leads = λ m b waiting h version coming some role of follows was s is le. foreign _ _ refl (s is le);
     asks = λ m b waiting h request coming some role asked was s is le. foreign _ _ refl (s is le);
     turns = all_turns doc (Ticking doc) (λ m h. m ≡ k → 4 ≤ 3 → P h) (λ m x h beat step next s is le. absurd (omega (arith, le)));
   }

@@ -11,7 +11,7 @@ use Rattle.kube_objects.specs.declared.pod.Pod.{Pod}
 use Rattle.kube_objects.specs.declared.pod.Toleration.{Toleration}
 use Rattle.kube_objects.specs.Document.{Doc, of_seconds, offset_millis}
 use Rattle.kube_objects.specs.Entry.{Entry, Identity, Ticks, Delete, actor_of}
-use Rattle.kube_objects.specs.Own.{IsOwn, EvictsByOwn}
+use Rattle.kube_objects.specs.Own.{ReleasesByStop, EvictsByOwn}
 use Rattle.kube_objects.specs.Seen.{is_pod}
 use Rattle.kube_objects.specs.Tick.{new_taint}
 use Rattle.kube_objects.specs.Tolerations.{first_tolerating, taint_due}
@@ -61,7 +61,7 @@ IsAlone doc q t wanted pod taints = (other : Taint) → IsAmong other taints →
 -- is gone
 abbrev pub PodsGo : Type 0
 PodsGo =
-    (doc : Doc) → IsOwn doc → EvictsByOwn doc → (q : Identity) (t k seconds slow enough : ℕ) → IsDated doc q.process → IsAttended doc q k → RunsAtLeast doc q.process t k slow → IsEnough slow (of_seconds seconds) enough → t + enough ≤ k
+    (doc : Doc) → ReleasesByStop doc → EvictsByOwn doc → (q : Identity) (t k seconds slow enough : ℕ) → IsDated doc q.process → IsAttended doc q k → RunsAtLeast doc q.process t k slow → IsEnough slow (of_seconds seconds) enough → t + enough ≤ k
     → (key : Key) → is_pod key.kind ≡ true → IsDoomed doc q t seconds key (after_turn doc q.process k) → ⊥
 
 -- and q deletes it no sooner than so many beats after the taint as are needed for one second less, and for more than that

@@ -7,7 +7,7 @@ use Rattle.kube_objects.specs.declared.node.Ready.{Ready}
 use Rattle.kube_objects.specs.Document.{Doc, of_millis}
 use Rattle.kube_objects.specs.Entry.{Entry, Identity, Ticks, Mark, Mode, entry}
 use Rattle.kube_objects.specs.Health.{hears, is_unknown_status}
-use Rattle.kube_objects.specs.Own.{IsOwn, PassesTakeNoWork, ProbesByRun}
+use Rattle.kube_objects.specs.Own.{ReleasesByStop, PassesTakeNoWork, ProbesByRun}
 use Rattle.history.specs.Evictions.{stored_node}
 use Rattle.history.specs.History.{history}
 use Rattle.history_laws.specs.Tails.{IsTail}
@@ -52,7 +52,7 @@ pub record IsLastHeard (doc : Doc) (q : Identity) (name a e : ℕ) : Type 0 wher
 -- more than the grace period over
 abbrev pub NodesAreMarked : Type 0
 NodesAreMarked =
-    (doc : Doc) → IsOwn doc → PassesTakeNoWork doc → ProbesByRun doc → (q : Identity) (name a e : ℕ) → Attends doc q a e → IsLastHeard doc q name a e
+    (doc : Doc) → ReleasesByStop doc → PassesTakeNoWork doc → ProbesByRun doc → (q : Identity) (name a e : ℕ) → Attends doc q a e → IsLastHeard doc q name a e
     → (slow fast near far : ℕ) → RunsAtLeast doc q.process a e slow → RunsAtMost doc q.process a e fast → IsNeeded fast (monitor_period doc) near → IsEnough slow (monitor_period doc) far → 1 ≤ far
     → (enough needed most : ℕ) → IsEnough slow (grace_period doc + 1) enough → IsNeeded fast (grace_period doc + 1) needed → IsGreatest near far enough most → a + most ≤ e
     → (m : ℕ) × IsAtMost near far enough (m - a) × IsAtLeast near far needed (m - a) × (a < m) × (StaysPosted doc q name a m → IsMarked doc q name m)

@@ -5,7 +5,7 @@ use Rattle.kube_objects.specs.Clocks.{local}
 use Rattle.kube_objects.specs.Document.{Doc, of_millis}
 use Rattle.kube_objects.specs.Entry.{Entry, Identity}
 use Rattle.kube_objects.specs.Health.{is_pass_due}
-use Rattle.kube_objects.specs.Own.{IsOwn, PassesTakeNoWork}
+use Rattle.kube_objects.specs.Own.{ReleasesByStop, PassesTakeNoWork}
 use Rattle.kube_objects.specs.Tick.{sync}
 use Rattle.history.specs.History.{at_turn}
 use Rattle.history.specs.Steps.{elector_turn}
@@ -35,7 +35,7 @@ pub record IsFoundBy (doc : Doc) (q : Identity) (time a m : ℕ) : Type 0 where
 -- bounds of looks that are as many beats apart as the monitor period takes on its clock
 abbrev pub PassesFind : Type 0
 PassesFind =
-    (doc : Doc) → IsOwn doc → PassesTakeNoWork doc → (q : Identity) (a e : ℕ) → Attends doc q a e → has_pass doc q a ≡ true
+    (doc : Doc) → ReleasesByStop doc → PassesTakeNoWork doc → (q : Identity) (a e : ℕ) → Attends doc q a e → has_pass doc q a ≡ true
     → (slow fast near far : ℕ) → RunsAtLeast doc q.process a e slow → RunsAtMost doc q.process a e fast → IsNeeded fast (monitor_period doc) near → IsEnough slow (monitor_period doc) far → 1 ≤ far
     → (time enough needed most : ℕ) → 1 ≤ time → IsEnough slow time enough → IsNeeded fast time needed → IsGreatest near far enough most → a + most ≤ e
     → (m : ℕ) × IsFoundBy doc q time a m × (m ≤ e) × IsAtMost near far enough (m - a) × IsAtLeast near far needed (m - a)

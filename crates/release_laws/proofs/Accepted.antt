@@ -114,7 +114,7 @@ module _ (doc : Doc) (near far b e : ℕ) (q : Identity) (l : LeadsUntil doc nea
       same = parting.the_release doc near far b e q l s stop rel x place.before place.position own (sooner b x.fact writes)
 
       sent_now : rel.call.sent ≡ b
-      sent_now = sent_at doc s.sound.2 (suc e) q (entry b 1 q (Sends rel.call (Some rel.at))) F rel.call (Some rel.at) F_e refl refl
+      sent_now = sent_at doc s.rules (suc e) q (entry b 1 q (Sends rel.call (Some rel.at))) F rel.call (Some rel.at) F_e refl refl
 
   -- ---- what the release leaves
 
@@ -122,13 +122,13 @@ module _ (doc : Doc) (near far b e : ℕ) (q : Identity) (l : LeadsUntil doc nea
   released = entry rel.at 2 q (Answers rel.call (Done rel.version) rel.comes (Some rel.object)) ∷ R
 
   frees : Frees rel.call.request
-  frees = releases_free doc s.sound.2 (suc e) (entry b 1 q (Sends rel.call (Some rel.at))) F q rel.call (Some rel.at) F_e refl refl rel.kind
+  frees = releases_free doc s.rules (suc e) (entry b 1 q (Sends rel.call (Some rel.at))) F q rel.call (Some rel.at) F_e refl refl rel.kind
 
   left : IsFreed rel.object
   left = freed rel.call.request R rel.object frees (made.written_is ∙ ap (λ (c : Call). written c.request R) (sym made.call_is))
     where
       made : MadeAnswer doc rel.at 2 (actor_of q) rel.call (Done rel.version) rel.comes (Some rel.object) R
-      made = are_made doc s.sound.2 (suc e) (entry rel.at 2 q (Answers rel.call (Done rel.version) rel.comes (Some rel.object))) R R_e
+      made = are_made doc s.rules (suc e) (entry rel.at 2 q (Answers rel.call (Done rel.version) rel.comes (Some rel.object))) R R_e
 
   -- nobody holds what is stored then
   pub record IsFree (h : List Entry) : Type 0 where
@@ -152,7 +152,7 @@ module _ (doc : Doc) (near far b e : ℕ) (q : Identity) (l : LeadsUntil doc nea
       writes : at_key election (request_write rel.call.request (Some rel.object)) ≡ Some (Some rel.object)
       writes =
           ap (λ k. when (key_eq k election) (Some rel.object))
-          (asks_election doc s.sound e s.end q l.role (entry b 1 q (Sends rel.call (Some rel.at))) rel.call (Some rel.at) (in_head (entry b 1 q (Sends rel.call (Some rel.at))) F (history doc (suc e)) F_e) refl refl)
+          (asks_election doc s.sound s.rules e s.end q l.role (entry b 1 q (Sends rel.call (Some rel.at))) rel.call (Some rel.at) (in_head (entry b 1 q (Sends rel.call (Some rel.at))) F (history doc (suc e)) F_e) refl refl)
 
   -- so nobody is blocked
   pub lasts : (p : ℕ) → LastsFor doc p 0 (object_of (stored election released))
@@ -196,7 +196,7 @@ module _ (doc : Doc) (near far b e : ℕ) (q : Identity) (l : LeadsUntil doc nea
   -- ---- what is stored above it, while no other controller acts
 
   known : Waits doc plainly (end_beat doc) (whole_history doc)
-  known = whole_known doc s.sound (greatest_below doc (length doc.controllers)) (rates_at_most doc) plainly (λ x h at from late. (omega arith, omega arith))
+  known = whole_known doc s.sound s.rules (greatest_below doc (length doc.controllers)) (rates_at_most doc) plainly (λ x h at from late. (omega arith, omega arith))
 
   module _ (n : ℕ) (within : n ≤ e) (idle : (r : Identity) → is_controller doc r.process ≡ true → (r.process ≡ q.process → ⊥) → (k : ℕ) → k ≤ n → Acts doc r k → ⊥) where
     -- nobody writes it
@@ -210,14 +210,14 @@ module _ (doc : Doc) (near far b e : ℕ) (q : Identity) (l : LeadsUntil doc nea
         above = beats_rise doc e x T at_e (entry rel.at 2 q (Answers rel.call (Done rel.version) rel.comes (Some rel.object))) R low
 
         w : Won doc x T
-        w = is_won doc s.sound e s.end x T at_e (omega (arith, above, rel.least, s.one)) writes
+        w = is_won doc s.sound s.rules e s.end x T at_e (omega (arith, above, rel.least, s.one)) writes
 
         wrote : has (at_key election (request_write w.call.request w.wrote)) ≡ true
         wrote = ap (λ d. has (at_key election (write_of d))) (sym w.fact) ∙ writes
 
         foreign : (w.who.process ≡ q.process → ⊥) → ⊥
         foreign other =
-            writer_acts doc s.sound.2 near far 0 e n w.who w.role (l.others w.who.process w.role other) (s.calls w.who.process w.role) within s.one (λ k from to. idle w.who w.role other k to) x T at w.actor
+            writer_acts doc s.rules near far 0 e n w.who w.role (l.others w.who.process w.role other) (s.calls w.who.process w.role) within s.one (λ k from to. idle w.who w.role other k to) x T at w.actor
             (subst (WritesElection 0) (sym w.fact) (omega arith, wrote)) late
 
         back : Back

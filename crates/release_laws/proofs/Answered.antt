@@ -88,12 +88,12 @@ module _ (doc : Doc) (near far b e : ℕ) (q : Identity) (l : LeadsUntil doc nea
 
       way : IsWay near far x.beat o.e.beat
       way =
-          request_way doc s.sound.2 near far e c.process steady (suc e) x S c w o.begun.arrives x_high role refl o.begun.actor o.begun.fact (beat_before doc e x S x_high) o.e.beat o.arrives
+          request_way doc s.rules near far e c.process steady (suc e) x S c w o.begun.arrives x_high role refl o.begun.actor o.begun.fact (beat_before doc e x S x_high) o.e.beat o.arrives
           (λ j low high soon. l.goes j (omega (arith, high, beat_before doc e o.e o.low e_high)))
 
       step : 3 ≤ x.step
       step =
-          let p : (p : Sending doc 0 e c w o.begun.arrives) × (p.f ≡ x) × (p.before ≡ S) = sending_of doc s.sound.2 near far 0 e e c role steady my_time (omega arith) s.one w o.begun.arrives x S x_high o.begun.actor o.begun.fact (omega arith) in
+          let p : (p : Sending doc 0 e c w o.begun.arrives) × (p.f ≡ x) × (p.before ≡ S) = sending_of doc s.rules near far 0 e e c role steady my_time (omega arith) s.one w o.begun.arrives x S x_high o.begun.actor o.begun.fact (omega arith) in
           subst (λ (f : Entry). 3 ≤ f.step) p.1 p.0.step
 
       order : IsTail (entry b 1 q (Sends rel.call (Some rel.at)) ∷ before_sending) S
@@ -135,13 +135,13 @@ module _ (doc : Doc) (near far b e : ℕ) (q : Identity) (l : LeadsUntil doc nea
       get_at : o.low ≡ two.above
       get_at =
           same_rest o.e _ o.low two.above
-          (answers_differ doc s.sound.2 (suc k) o.e _ o.low two.above (record { who = c; call = w; reply = reply; comes = Some y }) (record { who = c; call = w; reply = answer w.request two.above; comes = reply_arrival doc c.process k two.above }) e_own two.position
+          (answers_differ doc s.rules (suc k) o.e _ o.low two.above (record { who = c; call = w; reply = reply; comes = Some y }) (record { who = c; call = w; reply = answer w.request two.above; comes = reply_arrival doc c.process k two.above }) e_own two.position
           (ap (λ d. back_of o.e.actor d) o.fact ∙ ap (λ who. back_of who (Answers w reply (Some y) (written w.request o.low))) o.actor) refl refl refl)
 
       release_at : IsTail (entry rel.at 2 q (Answers rel.call (Done rel.version) rel.comes (Some rel.object)) ∷ below) two.above
       release_at =
           subst (λ g. IsTail g two.above)
-          (sym (answers_differ doc s.sound.2 (suc k) (entry rel.at 2 q (Answers rel.call (Done rel.version) rel.comes (Some rel.object))) _ below two.below (record { who = q; call = rel.call; reply = Done rel.version; comes = rel.comes })
+          (sym (answers_differ doc s.rules (suc k) (entry rel.at 2 q (Answers rel.call (Done rel.version) rel.comes (Some rel.object))) _ below two.below (record { who = q; call = rel.call; reply = Done rel.version; comes = rel.comes })
           (record { who = q; call = rel.call; reply = answer rel.call.request two.below; comes = reply_arrival doc q.process k two.below }) release_own
           (tail_trans _ two.above (history doc (suc k)) two.order (tail_trans two.above (answered doc k s_sent two.above) (history doc (suc k)) (inr (tail_all two.above)) two.position)) refl refl refl refl)) two.order
 
@@ -190,7 +190,7 @@ module _ (doc : Doc) (near far b e : ℕ) (q : Identity) (l : LeadsUntil doc nea
       of = of_it doc near far b e q l s stop rel o.low (first_low doc near far b e q l s stop rel o.e o.low e_at late) under
 
       way : ways_of.IsWay near far o.e.beat r
-      way = reply_way doc s.sound.2 near far e c role steady o.e o.low e_at o.step r upto o.comes_is
+      way = reply_way doc s.rules near far e c role steady o.e o.low e_at o.step r upto o.comes_is
 
   -- so a write that is sent after a Get is sent after one that was answered above it
   pub record Late (x : Entry) (T : List Entry) (request : Request) : Type 0 where
@@ -209,10 +209,10 @@ module _ (doc : Doc) (near far b e : ℕ) (q : Identity) (l : LeadsUntil doc nea
   late_write x T call arrives at actor fact unled write since = by_reason reason.0
     where
       sending_x : Sending doc 0 e c call arrives
-      sending_x = (sending_of doc s.sound.2 near far 0 e e c role steady my_time (omega arith) s.one call arrives x T at actor fact (omega arith)).0
+      sending_x = (sending_of doc s.rules near far 0 e e c role steady my_time (omega arith) s.one call arrives x T at actor fact (omega arith)).0
 
       reason : Reason doc x.beat c call.request T × (3 ≤ x.step)
-      reason = reason_of doc s.sound.2 (suc e) c role x T call arrives at actor fact unled sending_x.opens
+      reason = reason_of doc s.rules (suc e) c role x T call arrives at actor fact unled sending_x.opens
 
       x_upto : x.beat ≤ e
       x_upto = beat_before doc e x T at
@@ -239,7 +239,7 @@ module _ (doc : Doc) (near far b e : ℕ) (q : Identity) (l : LeadsUntil doc nea
           at_low = subst (λ g. IsTail g (history doc (suc e))) f.is (tail_trans T (x ∷ T) (history doc (suc e)) (inr (tail_all T)) at)
 
           o : Origin doc c f.waiting f.reply f.before x.beat
-          o = origin doc s.sound.2 (suc e) c (entry x.beat 3 c (Delivers f.waiting f.reply true)) f.before f.waiting f.reply at_low refl refl
+          o = origin doc s.rules (suc e) c (entry x.beat 3 c (Delivers f.waiting f.reply true)) f.before f.waiting f.reply at_low refl refl
 
           high : IsTail f.before (history doc (suc e))
           high = tail_trans f.before low (history doc (suc e)) (inr (tail_all f.before)) at_low
@@ -249,7 +249,7 @@ module _ (doc : Doc) (near far b e : ℕ) (q : Identity) (l : LeadsUntil doc nea
 
           key : key_of f.waiting.request ≡ election
           key =
-              asks_election doc s.sound e s.end c role o.begun.f f.waiting o.begun.arrives
+              asks_election doc s.sound s.rules e s.end c role o.begun.f f.waiting o.begun.arrives
               (in_head o.begun.f o.begun.before (history doc (suc e)) (tail_trans (o.begun.f ∷ o.begun.before) f.before (history doc (suc e)) o.begun.position high)) o.begun.actor o.begun.fact
 
           get : f.waiting.request ≡ Get election
@@ -259,7 +259,7 @@ module _ (doc : Doc) (near far b e : ℕ) (q : Identity) (l : LeadsUntil doc nea
           e_at = tail_trans (o.e ∷ o.low) f.before (history doc (suc e)) o.answered high
 
           way : ways_of.IsWay near far o.e.beat x.beat
-          way = reply_way doc s.sound.2 near far e c role steady o.e o.low e_at o.step x.beat x_upto o.comes_is
+          way = reply_way doc s.rules near far e c role steady o.e o.low e_at o.step x.beat x_upto o.comes_is
 
           sooner : o.e.beat < b + far → IsTail o.low (R doc near far b e q l s stop rel) → ⊥
           sooner lt under =

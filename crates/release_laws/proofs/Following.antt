@@ -82,7 +82,7 @@ module _ (doc : Doc) (near far b e : ℕ) (q : Identity) (l : LeadsUntil doc nea
         ⊎_elim (λ low. shows_top w reply T y o high get low (omega (arith, way.least, soon))) (λ early. absurd (omega (arith, early.0, way.most, late))) (meets doc near far b e q l s stop rel c role other w reply T y o (into T high))
       where
         way : ways_of.IsWay near far o.e.beat y
-        way = reply_way doc s.sound.2 near far e c role steady o.e o.low (tail_trans (o.e ∷ o.low) T (history doc (suc e)) o.answered (into T high)) o.step y (omega (arith, soon, within)) o.comes_is
+        way = reply_way doc s.rules near far e c role steady o.e o.low (tail_trans (o.e ∷ o.low) T (history doc (suc e)) o.answered (into T high)) o.step y (omega (arith, soon, within)) o.comes_is
 
     -- it sends no write
     no_writes : (x : Entry) (T : List Entry) (call : Call) (arrives : Option ℕ) → IsTail (x ∷ T) (history doc (suc n)) → x.actor ≡ actor_of c → x.fact ≡ Sends call arrives → IsWrite call.request → b + 2 * far ≤ x.beat + 2 * far → x.beat + 2 * far ≤ n → ⊥
@@ -96,7 +96,7 @@ module _ (doc : Doc) (near far b e : ℕ) (q : Identity) (l : LeadsUntil doc nea
         f = late_write doc near far b e q l s stop rel c role other x T call arrives (into (x ∷ T) at) actor fact (led_not T T_n) write (omega (arith, late))
 
         r : IsRound doc near far c call arrives x.beat
-        r = rounds_in doc s.sound.2 near far 0 e c steady s.one (suc n) x T call arrives at actor fact (omega (arith, f.step)) (omega arith) (omega (arith, soon, within)) (λ k n least is most. omega (arith, most, soon, within))
+        r = rounds_in doc s.rules near far 0 e c steady s.one (suc n) x T call arrives at actor fact (omega (arith, f.step)) (omega arith) (omega (arith, soon, within)) (λ k n least is most. omega (arith, most, soon, within))
 
         answer_entry : Entry
         answer_entry = entry r.at 2 c (Answers call (answer call.request r.before) (reply_arrival doc c.process r.at r.before) (written call.request r.before))
@@ -158,7 +158,7 @@ module _ (doc : Doc) (near far b e : ℕ) (q : Identity) (l : LeadsUntil doc nea
       where
         with_identity : (i : ℕ) → alive p S ≡ Some i → ⊥
         with_identity i up =
-            none_first doc s.sound.2 near far e n s.one s.ways within c rival.role (l.others p rival.role rival.other) (s.calls p rival.role) (others.none doc near far b e q l s p rival.role rival.other n within (omega arith) idle i up) led_not 0 top (lasts doc near far b e q l s stop rel p) (b + 2 * far) (omega (arith, a_way))
+            none_first doc s.rules near far e n s.one s.ways within c rival.role (l.others p rival.role rival.other) (s.calls p rival.role) (others.none doc near far b e q l s p rival.role rival.other n within (omega arith) idle i up) led_not 0 top (lasts doc near far b e q l s stop rel p) (b + 2 * far) (omega (arith, a_way))
             (given c rival.role rival.other n within idle led_not) (no_writes c rival.role rival.other n within idle led_not) slow fast wait 0 b (omega arith) rival.runs_least rival.runs_most (s.waits p rival.role) wait_is (λ m le. omega arith) 0 0 (omega arith) greatest
             G (omega (arith, some_wait, a_way)) (omega (arith, some_wait, a_way)) (omega (arith, a_way, some_wait)) (others.there doc near far b e q l s p rival.role rival.other n within (omega arith) idle i up G (omega (arith, a_way, some_wait)) (omega (arith, a_way, some_wait)))
           where
@@ -188,12 +188,12 @@ module _ (doc : Doc) (near far b e : ℕ) (q : Identity) (l : LeadsUntil doc nea
         to = omega (arith, led_r.to, x.to);
         success = record { call = hs.call; version = hs.version; before = hs.before; position = hs.position; since = omega (arith, since); success = hs.success };
         stays =
-            leaders_stay doc near far (suc b) e s.sound (calm_since doc near far b e q l s renew stop rel replies room) (times_since doc near far b e q l s renew) s.one s.ways s.end r x.role
+            leaders_stay doc near far (suc b) e s.sound s.rules (calm_since doc near far b e q l s renew stop rel replies room) (times_since doc near far b e q l s renew) s.one s.ways s.end r x.role
             (others_since doc near far b e q l s renew r.process x.role x.other) (renew.after r x.role x.other) led_r.j success;
       }
         where
-          x : Another doc s.sound.2 b n q
-          x = another doc s.sound.2 b n q idle_ends (λ r role other k lt. idle_upto doc near far b e q l s renew r role other k (omega (arith, lt)))
+          x : Another doc s.rules b n q
+          x = another doc s.rules b n q idle_ends (λ r role other k lt. idle_upto doc near far b e q l s renew r role other k (omega (arith, lt)))
 
           r : Identity
           r = x.r
@@ -202,14 +202,14 @@ module _ (doc : Doc) (near far b e : ℕ) (q : Identity) (l : LeadsUntil doc nea
           room = omega (arith, within, a_way)
 
           led_r : HasLed doc r x.k
-          led_r = acting_led doc s.sound.2 r x.k x.acting_is
+          led_r = acting_led doc s.rules r x.k x.acting_is
 
           unled : (h : List Entry) → IsTail h (history doc (suc b)) → leads r h ≡ false
           unled h at = by_test (leads r h) refl
             where
               by_test : (t : Bool) → leads r h ≡ t → leads r h ≡ false
               by_test false is = is
-              by_test true is = let led_h : HasLed doc r b = leads_led doc s.sound.2 r b h at is in absurd (none_succeeds doc near far b e q l s renew r x.role x.other led_h.j led_h.to led_h.success)
+              by_test true is = let led_h : HasLed doc r b = leads_led doc s.rules r b h at is in absurd (none_succeeds doc near far b e q l s renew r x.role x.other led_h.j led_h.to led_h.success)
 
           hs : HasSuccess doc r 0 led_r.j
           hs = led_r.success
@@ -218,7 +218,7 @@ module _ (doc : Doc) (near far b e : ℕ) (q : Identity) (l : LeadsUntil doc nea
           within_j = omega (arith, led_r.to, x.to, within)
 
           o : Origin doc r hs.call (Done hs.version) hs.before led_r.j
-          o = origin doc s.sound.2 (suc led_r.j) r (entry led_r.j 3 r (Delivers hs.call (Done hs.version) true)) hs.before hs.call (Done hs.version) hs.position refl refl
+          o = origin doc s.rules (suc led_r.j) r (entry led_r.j 3 r (Delivers hs.call (Done hs.version) true)) hs.before hs.call (Done hs.version) hs.position refl refl
 
           high : IsTail hs.before (history doc (suc e))
           high =
@@ -229,10 +229,10 @@ module _ (doc : Doc) (near far b e : ℕ) (q : Identity) (l : LeadsUntil doc nea
           f_high = tail_trans (o.begun.f ∷ o.begun.before) hs.before (history doc (suc e)) o.begun.position high
 
           sent : hs.call.sent ≡ o.begun.f.beat
-          sent = ways_of.sent_beat doc s.sound.2 near far e r x.role (l.others r.process x.role x.other) o.begun.f o.begun.before hs.call o.begun.arrives f_high o.begun.actor o.begun.fact
+          sent = ways_of.sent_beat doc s.rules near far e r x.role (l.others r.process x.role x.other) o.begun.f o.begun.before hs.call o.begun.arrives f_high o.begun.actor o.begun.fact
 
-          ways : ways_of.Went doc s.sound.2 near far e r x.role (l.others r.process x.role x.other) o.begun.f.beat o.e.beat led_r.j
-          ways = ways_of.went doc s.sound.2 near far e r x.role (l.others r.process x.role x.other) hs.call (Done hs.version) hs.before led_r.j o high within_j
+          ways : ways_of.Went doc s.rules near far e r x.role (l.others r.process x.role x.other) o.begun.f.beat o.e.beat led_r.j
+          ways = ways_of.went doc s.rules near far e r x.role (l.others r.process x.role x.other) hs.call (Done hs.version) hs.before led_r.j o high within_j
 
           -- its call was sent after beat b: what is sent sooner is on a record that the release took away
           since : suc b ≤ hs.call.sent

@@ -1,20 +1,22 @@
 -- What a leader gives up its lead by is an update to a Lease that nobody holds.
-use Rattle.std.proofs.Common.{◌≡◌, ℕ, ◌&&◌, cond, Bool, true, false, List, ◌∷◌, Option, None, Some, refl, sym, subst, inl, inr, ◌∙◌}
+use Rattle.std.proofs.Common.{◌≡◌, ℕ, List, ◌∷◌, Option, None, Some, refl, sym, ap, subst, inl, inr, ◌∙◌}
 use Rattle.kube_objects.specs.declared.call.Request.{Request}
-use Rattle.kube_objects.specs.declared.call.Request.TheVariants.{Get, Update}
+use Rattle.kube_objects.specs.declared.call.Request.TheVariants.{Update}
 use Rattle.kube_objects.specs.declared.lease.Holder.TheVariants as holder
-use Rattle.kube_objects.specs.Clocks.{local, wall}
+use Rattle.kube_objects.specs.Clocks.{wall}
 use Rattle.kube_objects.specs.Document.{Doc}
-use Rattle.kube_objects.specs.Elector.{Shown, shown, is_valid, leads, moment, observed_at, renewed, given_up, attempt_from, attempt, release_from, release}
-use Rattle.kube_objects.specs.Entry.{Entry, Identity, CallKind, Plain, Fast, Release, Sends, Call, actor_of}
+use Rattle.kube_objects.specs.Elector.{Shown, shown, leads, given_up, attempt, release_from, release}
+use Rattle.kube_objects.specs.Entry.{Entry, Identity, Plain, Release, Sends, Call, actor_of}
 use Rattle.kube_objects.specs.Identities.{is_own}
 use Rattle.kube_objects.specs.Stored.{election}
-use Rattle.kube_objects.specs.Own.{IsOwn}
+use Rattle.kube_objects.specs.Own.{ReleasesByStop}
 use Rattle.history.specs.History.{history}
 use Rattle.history_laws.specs.Tails.{IsTail}
 use Rattle.history_laws.proofs.Counting.{only_value, when_value}
-use Rattle.history_laws.proofs.Plainly.{none_is}
+use Rattle.history_laws.proofs.Plainly.{none_is, false_is}
+use Rattle.lease_laws.proofs.Invariant.{gives_up}
 use Rattle.calm_laws.proofs.Added.{SentFor, sends_for}
+use Rattle.stay_laws.proofs.Giving.{attempt_keeps}
 
 -- a request by which nobody holds the Lease any more
 abbrev pub Frees : Request → Type 0
@@ -25,23 +27,8 @@ Frees _ = ⊥
 plain_not : (A : Type 0) → Plain ≡ Release → A
 plain_not A is = cc
 
-fast_not : (A : Type 0) → Fast ≡ Release → A
-fast_not A is = cc
-
 attempt_not : (doc : Doc) (q : Identity) (k : ℕ) (h : List Entry) (A : Type 0) → (attempt doc q k h).0 ≡ Release → A
-attempt_not doc q k h A = by_test (doc.settings.fast_renew && leads q h)
-  where
-    by_own : (b : Bool) (x : Shown) → (cond {A = CallKind × Request} b (Fast, Update election x.0 (renewed q (moment doc q k) x.1)) (Plain, Get election)).0 ≡ Release → A
-    by_own true x is = fast_not A is
-    by_own false x is = plain_not A is
-
-    by_shown : (o : Option Shown) → (attempt_from q (moment doc q k) (observed_at doc q h) o).0 ≡ Release → A
-    by_shown None is = plain_not A is
-    by_shown (Some x) is = by_own (is_own q x.1.holder && is_valid (local doc q.process k) (observed_at doc q h) x.1) x is
-
-    by_test : (b : Bool) → (cond {A = CallKind × Request} b (attempt_from q (moment doc q k) (observed_at doc q h) (shown q h)) (Plain, Get election)).0 ≡ Release → A
-    by_test true is = by_shown (shown q h) is
-    by_test false is = plain_not A is
+attempt_not doc q k h A is = absurd (false_is (sym (attempt_keeps doc q k h) ∙ ap gives_up is))
 
 -- what a stop sends
 release_frees : (doc : Doc) (q : Identity) (k : ℕ) (h : List Entry) (request : Request) → release doc q k h ≡ Some request → Frees request
@@ -53,7 +40,7 @@ release_frees doc q k h request is = by_shown (shown q h) (only_value (leads q h
         let freeing : Request = Update election x.0 (given_up (wall doc q.process k) x.1) in subst Frees (when_value (is_own q x.1.holder) freeing request some) refl
 
 -- so each request of a release does
-pub releases_free : (doc : Doc) → IsOwn doc → (k : ℕ) (x : Entry) (before : List Entry) (q : Identity) (call : Call) (arrives : Option ℕ) → IsTail (x ∷ before) (history doc k) → x.actor ≡ actor_of q → x.fact ≡ Sends call arrives → call.kind ≡ Release → Frees call.request
+pub releases_free : (doc : Doc) → ReleasesByStop doc → (k : ℕ) (x : Entry) (before : List Entry) (q : Identity) (call : Call) (arrives : Option ℕ) → IsTail (x ∷ before) (history doc k) → x.actor ≡ actor_of q → x.fact ≡ Sends call arrives → call.kind ≡ Release → Frees call.request
 releases_free doc rules k x before q call arrives at by fact kind = cases (sends_for doc rules k x before q call arrives at by fact)
   where
     cases : SentFor doc x q call before → Frees call.request

@@ -54,7 +54,7 @@ module _ (doc : Doc) (near far b e : ℕ) (q : Identity) (l : LeadsUntil doc nea
       now le = other (ap (λ (p : Identity). p.process) (actor_is r q (sym o.actor ∙ alone)))
         where
           o : Origin doc r hs.call (Done hs.version) hs.before j
-          o = origin doc s.sound.2 (suc j) r (entry j 3 r (Delivers hs.call (Done hs.version) true)) hs.before hs.call (Done hs.version) hs.position refl refl
+          o = origin doc s.rules (suc j) r (entry j 3 r (Delivers hs.call (Done hs.version) true)) hs.before hs.call (Done hs.version) hs.position refl refl
 
           within_j : j ≤ e
           within_j = omega (arith, upto, l.within)
@@ -71,12 +71,12 @@ module _ (doc : Doc) (near far b e : ℕ) (q : Identity) (l : LeadsUntil doc nea
           f_high = tail_trans (o.begun.f ∷ o.begun.before) hs.before (history doc (suc e)) o.begun.position high
 
           way : ways_of.IsWay near far o.e.beat j
-          way = ways_of.reply_way doc s.sound.2 near far e r role (l.others r.process role other) o.e o.low e_high o.step j within_j o.comes_is
+          way = ways_of.reply_way doc s.rules near far e r role (l.others r.process role other) o.e o.low e_high o.step j within_j o.comes_is
 
           wrote : has (at_key election (request_write hs.call.request (written hs.call.request o.low))) ≡ true
           wrote =
               wrote_by hs.call.request o.low hs.version (success_is hs.call.request hs.version hs.success).write
-              (asks_election doc s.sound e s.end r role o.begun.f hs.call o.begun.arrives (in_head o.begun.f o.begun.before (history doc (suc e)) f_high) o.begun.actor o.begun.fact) (sym o.reply_is)
+              (asks_election doc s.sound s.rules e s.end r role o.begun.f hs.call o.begun.arrives (in_head o.begun.f o.begun.before (history doc (suc e)) f_high) o.begun.actor o.begun.fact) (sym o.reply_is)
 
           alone : o.e.actor ≡ actor_of q
           alone =
@@ -86,7 +86,7 @@ module _ (doc : Doc) (near far b e : ℕ) (q : Identity) (l : LeadsUntil doc nea
 
   -- so nobody else acts
   pub idle_upto : (r : Identity) → is_controller doc r.process ≡ true → (r.process ≡ q.process → ⊥) → (k : ℕ) → k ≤ b → Acts doc r k → ⊥
-  idle_upto r role other k le acting = let led : HasLed doc r k = acting_led doc s.sound.2 r k acting in none_succeeds r role other led.j (omega (arith, led.to, le)) led.success
+  idle_upto r role other k le acting = let led : HasLed doc r k = acting_led doc s.rules r k acting in none_succeeds r role other led.j (omega (arith, led.to, le)) led.success
 
   -- and the others are steady from the beat after b on as well, and what comes after b is a calm
   pub others_since : (p : ℕ) → is_controller doc p ≡ true → (p ≡ q.process → ⊥) → IsSteady doc near far (suc b) e p
@@ -104,7 +104,7 @@ module _ (doc : Doc) (near far b e : ℕ) (q : Identity) (l : LeadsUntil doc nea
         before lt =
             omega (
               arith,
-              (request_way doc s.sound.2 near far (b - 1) m.who.process (subst (IsSteady doc near far 0 (b - 1)) (sym same) l.steady) (suc b) x T m.who m.call m.arrives at role refl actor fact (omega (arith, lt)) y arrives (λ j low high soon. l.goes j (omega (arith, soon, lt, room)))).most,
+              (request_way doc s.rules near far (b - 1) m.who.process (subst (IsSteady doc near far 0 (b - 1)) (sym same) l.steady) (suc b) x T m.who m.call m.arrives at role refl actor fact (omega (arith, lt)) y arrives (λ j low high soon. l.goes j (omega (arith, soon, lt, room)))).most,
               lt,
             )
 

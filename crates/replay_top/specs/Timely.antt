@@ -1,5 +1,9 @@
 -- How long nobody leads at most and at least: what is claimed of the history of a document.
+use Rattle.std.specs.Prelude.{ℕ}
 use Rattle.kube_objects.specs.Document.{Doc}
+use Rattle.kube_objects.specs.Entry.{Identity}
+use Rattle.kube_objects.specs.Own.{ReleasesByStop}
+use Rattle.history.specs.Safe.{Acts, IsActing}
 use Rattle.history.specs.Sound.{IsSound}
 use Rattle.calm_laws.specs.Bounds.{TakesOver}
 use Rattle.gap_laws.specs.Gaps.{GapLasts, OtherWaits}
@@ -9,10 +13,16 @@ use Rattle.silence_laws.specs.Least.{ReleaseLasts, SilenceIsTold}
 use Rattle.stay_laws.specs.Stays.{LeaderStays}
 use Rattle.succession_laws.specs.Successions.{ActsOn, Succeeds}
 
+-- who acts as its turn begins acts at its tick, and the reverse
+abbrev pub ActsAlike : Doc → Type 0
+ActsAlike doc = (q : Identity) (k : ℕ) → (Acts doc q k → IsActing doc q k) × (IsActing doc q k → Acts doc q k)
+
 -- whatever its clocks, delays, losses and crashes
 pub record IsTimely (doc : Doc) : Type 0 where
   -- it is as every document that is read, which the claims below go by
   pub sound : IsSound doc
+  -- those who act by the claims below are those of the claims on the lease
+  pub acting : ReleasesByStop doc → ActsAlike doc
   -- in a calm span somebody acts by a beat that one candidate's settings and clock tell
   pub takes_over : TakesOver doc
   -- whoever had a success by a call of a calm span acts at each beat from then on, and nobody else writes the election Lease

@@ -25,7 +25,7 @@ use eviction_laws::evictions_are_timely;
 use gap_laws::{gaps_last, others_wait};
 use itoa::Buffer;
 use kube_base::{NoMemory, Steps};
-use lease_laws::lease_is_safe;
+use lease_laws::{acting_is_alike, lease_is_safe};
 use release_laws::releases_are_followed;
 use run_edge::{Status, Verdict, tell};
 use settle_laws::calm_spans_settle;
@@ -70,6 +70,7 @@ fn generated_documents_are_safe()
     generated_documents_are_lawful();
     lawful_documents_are_sound();
     lease_is_safe();
+    acting_is_alike();
     taints_are_spaced();
     evictions_are_timely();
     takeovers_are_bounded();

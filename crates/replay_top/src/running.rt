@@ -29,7 +29,7 @@ use document_laws::{documents_are_lawful, lawful_documents_are_sound};
 use eviction_laws::evictions_are_timely;
 use gap_laws::{gaps_last, others_wait};
 use kube_base::Steps;
-use lease_laws::lease_is_safe;
+use lease_laws::{acting_is_alike, lease_is_safe};
 use manifest_json::ReadFault;
 use release_laws::releases_are_followed;
 use run_edge::{Status, Verdict, ask, take_input, tell_refusal, tell_too_large, tell_usage};
@@ -100,6 +100,7 @@ fn documents_are_safe()
     documents_are_lawful();
     lawful_documents_are_sound();
     lease_is_safe();
+    acting_is_alike();
     taints_are_spaced();
     turns_are_spaced_in_rows();
     evictions_are_timely();

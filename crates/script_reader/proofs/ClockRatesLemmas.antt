@@ -10,7 +10,7 @@ use Rattle.kube_objects.specs.declared.script.Event.{Event}
 use Rattle.kube_objects.specs.declared.script.Proc.{Proc}
 use Rattle.kube_objects.specs.declared.script.What.TheVariants.{Rate, Pause}
 use Rattle.kube_objects.specs.Pauses.{pause_of}
-use Rattle.history.specs.Premise.{less, more, least_rate, greatest_rate, stands, longest_below}
+use Rattle.history.specs.Premise.{less, more, least_rate, greatest_rate, stands, longest_below, second_below}
 use Rattle.script_reader.specs.ClockRates.{Spans, IsBetween, with_earlier}
 use Rattle.script_reader.specs.declared.premise.ClockRates.{ClockRates}
 
@@ -201,6 +201,13 @@ longest-event p place so_far longer events e id beats some inside is what own be
     step ∙ ap (λ n. more n (stands (Some beats))) before ∙ ap (λ o. more (longest_below p (drop place events)) (stands o)) (sym (pause_of-own p e id beats what own))
     ∙ ap (longest_below p) (drop-before events place e some inside is)
 
+-- and the second longest by it
+pub second-event : (p place longest so_far longer : ℕ) (events : List Event) (e : Event) (id : ProcId) (beats : ℕ) → 0 < place → place ≤ length events → e ≡ get_or events (place - 1) e → e.what ≡ Pause id beats → id.0 ≡ p → longest ≡ longest_below p (drop place events) → so_far ≡ second_below p (drop place events) → longer ≡ more so_far (less longest (stands (Some beats))) → longer ≡ second_below p (drop (place - 1) events)
+second-event p place longest so_far longer events e id beats some inside is what own first second step =
+    step ∙ ap₂ (λ n l. more n (less l (stands (Some beats)))) second first
+    ∙ ap (λ o. more (second_below p (drop place events)) (less (longest_below p (drop place events)) (stands o))) (sym (pause_of-own p e id beats what own))
+    ∙ ap (second_below p) (drop-before events place e some inside is)
+
 -- ---- the lease
 
 lt-scaled : (a b : ℕ) → nat_lt a b ≡ nat_lt (a * 1000) (b * 1000)
@@ -211,9 +218,9 @@ lt-scaled a b =
     ]
 
 -- in units of 10^-12 s, of which 10^6 are parts per million, as in milliseconds
-pub in_units : (longest beat timeout retry renew lease high low : ℕ) → nat_lt (longest * beat * high * low + (timeout + retry + renew) * 1000000 * high) (lease * 1000000000 * low) ≡ nat_lt (longest * (beat * 1000 * high) * low + (of_millis timeout + of_millis retry + of_millis renew) * high) (of_seconds lease * low)
+pub in_units : (stall beat acting lease high low : ℕ) → nat_lt (stall * beat * high * low + acting * 1000000 * high) (lease * 1000000000 * low) ≡ nat_lt (stall * (beat * 1000 * high) * low + of_millis acting * high) (of_seconds lease * low)
 unfolding of_seconds of_millis
-in_units longest beat timeout retry renew lease high low =
-    let acting : (longest * beat * high * low + (timeout + retry + renew) * 1000000 * high) * 1000 ≡ longest * (beat * 1000 * high) * low + (timeout * 1000000000 + retry * 1000000000 + renew * 1000000000) * high = omega arith in
+in_units stall beat acting lease high low =
+    let acts : (stall * beat * high * low + acting * 1000000 * high) * 1000 ≡ stall * (beat * 1000 * high) * low + acting * 1000000000 * high = omega arith in
     let leased : lease * 1000000000 * low * 1000 ≡ lease * 1000000000000 * low = omega arith in
-    lt-scaled (longest * beat * high * low + (timeout + retry + renew) * 1000000 * high) (lease * 1000000000 * low) ∙ ap₂ nat_lt acting leased
+    lt-scaled (stall * beat * high * low + acting * 1000000 * high) (lease * 1000000000 * low) ∙ ap₂ nat_lt acts leased

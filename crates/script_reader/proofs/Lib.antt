@@ -2,7 +2,7 @@ mod ClockRatesLemmas
 pub mod LeaseLemmas
 pub mod Loops
 pub mod Named
-pub mod OwnDocuments
+pub mod OwnWaits
 pub mod Parsed
 mod SetLoops
 mod Walks

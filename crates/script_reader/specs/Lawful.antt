@@ -15,13 +15,13 @@ use Rattle.kube_objects.specs.declared.settings.Settings.{Settings}
 use Rattle.kube_objects.specs.Document.{Doc, is_controller, processes, end_beat}
 use Rattle.kube_objects.specs.Keys.{key_eq}
 use Rattle.kube_objects.specs.Kinds.{IsOfKind}
-use Rattle.kube_objects.specs.Own.{own_but_built}
 use Rattle.kube_objects.specs.Stored.{election}
 use Rattle.history.specs.Sound.{AreApart}
 use Rattle.manifest_json.specs.declared.scale.Scale.TheVariants as scales
 use Rattle.manifest_json.specs.Fields.{Texts}
 use Rattle.manifest_json.specs.Readable.{IsNameNumber, IsReadableItem, AreKeyedApart, IsReadable}
 use Rattle.manifest_json.specs.Walk.{kind_count, kind_limit}
+use Rattle.script_reader.specs.Rules.{agree}
 use Rattle.script_reader.specs.Walk.{numbers_of}
 
 -- the ranges of settings, and their own rules
@@ -53,9 +53,8 @@ pub record AreLawful (s : Settings) : Type 0 where
   pub secondary : s.secondary_rate ≤ s.primary_rate
   pub large_zone : s.large_zone ≤ 1000000
   pub percent : s.unhealthy_percent ≤ 100
-  -- but for those of elections, how long a term waits with its first sync, those of evictions, and what a pass takes, any other rule is refused
-  -- as not built
-  pub rules : s.rules ≡ own_but_built s.rules
+  -- a queue that holds a node again and again is filled at passes alone, and who acts in a release has one
+  pub rules : agree s.rules ≡ true
   pub renew_within_lease : s.renew_deadline_millis < s.lease_duration_seconds * 1000
   pub retry_within_renew : 6 * s.retry_period_millis < 5 * s.renew_deadline_millis
 

@@ -1,4 +1,3 @@
-pub mod Built
 pub mod Cast
 pub mod Choices
 pub mod ClockRates

@@ -36,6 +36,7 @@ use Rattle.manifest_json.specs.Faults.{◌>>=◌, refuse}
 use Rattle.manifest_json.specs.Fields.{Texts, or_refuse, numbered}
 use Rattle.manifest_json.specs.Walk.{list_walk, object_walk, member_path, process_of}
 use Rattle.script_reader.specs.declared.choice.Preset.{Preset}
+use Rattle.script_reader.specs.declared.choice.Preset.TheVariants as presets
 use Rattle.script_reader.specs.declared.document.Document.{Document}
 use Rattle.script_reader.specs.declared.parts.Beats.{Beats}
 use Rattle.script_reader.specs.declared.parts.Clock.{Clock}
@@ -53,7 +54,6 @@ use Rattle.script_reader.specs.declared.cast.Sort.{Sort}
 use Rattle.script_reader.specs.declared.cast.Sort.TheVariants as sorts
 use Rattle.script_reader.specs.Fields.{under, default_of, required, whole_at, needed_whole, signed_at, flag_at, needed_flag}
 use Rattle.script_reader.specs.Fields.{needed_text, needed_name, name_at, posted_at, needed_posted, policy_at, epoch_at}
-use Rattle.script_reader.specs.Built.{rules_built}
 use Rattle.script_reader.specs.Choices.{preset_at}
 use Rattle.script_reader.specs.Fields.{object_at, array_in, not_empty}
 use Rattle.script_reader.specs.Limits.{scale_of, kubelet_limit, event_limit}
@@ -150,6 +150,16 @@ abbrev pub if_sound : List ℕ → Timings → Rates → Settings → Result Set
 if_sound path t r settings =
     if is_sound t && nat_le r.secondary r.primary && agree settings.rules then Ok settings else refuse BAD_SETTINGS path
 
+-- whether leaders renew without a Get where no key says so: those of Kubernetes 1.36 do
+abbrev pub renews_fast : Preset → Bool
+renews_fast presets.Upstream136 = true
+renews_fast _ = false
+
+-- given is what the key says, where it is there
+abbrev pub fast_renew_of : Bool → Preset → Option Data → Bool
+fast_renew_of given preset None = renews_fast preset
+fast_renew_of given preset (Some found) = given
+
 -- settings, and their preset; in version 1 `ratePolicy` is an unknown key, so it has its default there, and up to version 3 the rules are
 unfoldable pub settings_at : Version → List ℕ → Data → Result (Settings × Preset) Refusal
 settings_at version path value = do
@@ -158,12 +168,11 @@ settings_at version path value = do
   timings ← timings_at standard path d
   periods ← periods_at path d
   rates ← rates_at path d
-  fast ← flag_at false path (codes "fastRenew") d
+  given ← flag_at false path (codes "fastRenew") d
   policy ← policy_at path (codes "ratePolicy") d
   preset ← preset_at path d
   rules ← rules_at preset path d
-  settings ← if_sound path timings rates (settings_of beats timings periods rates fast policy rules)
-  built ← rules_built preset path d
+  settings ← if_sound path timings rates (settings_of beats timings periods rates (fast_renew_of given preset (get (codes "fastRenew") d)) policy rules)
   Ok (settings, preset)
 
 -- ---- processes

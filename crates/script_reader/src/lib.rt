@@ -8,7 +8,6 @@
 //! - `x_of` takes what is left once the JSON type is right, a list, a text or a number, as `events_of` and `kind_of`.
 #![tactic(auto)]
 
-mod built;
 mod cast;
 mod choice;
 mod document;
@@ -28,5 +27,9 @@ mod waits;
 mod what;
 
 pub use document::Document;
-pub use premise::{ClockRates, lease_premise, longest_pause, rates_of, waited_seconds};
+pub use premise::{
+    ClockRates, Demand, LongestPauses, answers_come, demand_of, late_calls, lease_part,
+    lease_premise, longest_pauses, rates_of, waited_seconds,
+};
 pub use reading::{document_of, read_document, read_value};
+pub use rules::has_release;

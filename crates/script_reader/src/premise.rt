@@ -1,15 +1,17 @@
 // The lease premise of a document.
 ghost use Rattle.std.specs.Prelude.{◌≡◌, ℕ, ◌+◌, ◌-◌, ◌*◌, ◌<◌, ◌≤◌, nat_lt, length, Option, Some, None};
-ghost use Rattle.kube_objects.specs.Document.{end_beat, lease_seconds, of_seconds, of_millis};
-ghost use Rattle.history.specs.Premise.{least_rate, greatest_rate, more, stands, longest, is_long, lease_premise};
+ghost use Rattle.kube_objects.specs.Document.{Doc, end_beat, lease_seconds, of_seconds, of_millis};
+ghost use Rattle.history.specs.Premise.{least_rate, greatest_rate, less, more, stands, longest, second_below, late_calls, calls_late, stall_by, span_by, is_long};
+ghost use Rattle.history.specs.Premise.{is_prompt_event, are_prompt, answers_come, lease_part, lease_premise};
 ghost use Rattle.script_reader.specs.Documents.{doc_of};
 ghost use Rattle.script_reader.specs.ClockRates.{Spans, with_earlier};
 ghost use Rattle.script_reader.specs.Lawful.{IsLawfulDoc};
 ghost use Rattle.script_reader.specs.Leases as leases;
+ghost use Rattle.script_reader.specs.Leases.{IsProcess};
 
 use crate::Document;
 use kube_base::Beat;
-use kube_objects::{Proc, RespectRule, What};
+use kube_objects::{Event, Proc, ReleaseActing, ReleaseRule, RespectRule, What};
 
 /// The least and greatest of a clock's rates from a beat on, in parts per million.
 #[derive(Clone, Copy, Debug)]
@@ -68,31 +70,88 @@ pub fn rates_of(document: &Document, controller: usize) -> ClockRates
     )
 }
 
-// With one more pause of so many beats.
-fn with_pause(longest: u64, beats: u32) -> u64
-    requires { longest ≤ 4294967296 }
-    ensures is { result ≡ more longest (stands (Some beats)) }
-    ensures fits { result ≤ 4294967296 }
-{
-    longest.max(u64::from(beats) + 1)
+/// Of a controller's two longest pauses one more than the beats of each, or nothing where there is none.
+#[derive(Clone, Copy, Debug)]
+pub struct LongestPauses {
+    pub longest: u64,
+    pub second: u64,
+    ghost longest_fits: { longest ≤ 4294967296 },
+    ghost second_fits: { second ≤ 4294967296 },
 }
 
-/// One more than the beats of a controller's longest pause, or nothing where it has none.
-pub fn longest_pause(document: &Document, controller: usize) -> u64
-    ensures is { result ≡ longest (doc_of document.now) controller }
-    ensures fits { result ≤ 4294967296 }
+impl LongestPauses {
+    // With one more pause of so many beats.
+    fn with_pause(self, beats: u32) -> LongestPauses
+        ensures longest { result.longest ≡ more self.longest (stands (Some beats)) }
+        ensures second { result.second ≡ more self.second (less self.longest (stands (Some beats))) }
+    {
+        let stands = u64::from(beats) + 1;
+        LongestPauses {
+            longest: self.longest.max(stands),
+            second: self.second.max(self.longest.min(stands)),
+        }
+    }
+
+    // So many beats a leader may add that sends so many calls after its deadline.
+    fn stall_by(self, calls: u32) -> u64
+        ensures is { (doc : Doc) (p : ℕ) → self.longest ≡ longest doc p → self.second ≡ second_below p doc.events → result ≡ stall_by calls doc p }
+        ensures least { self.longest ≤ result }
+        ensures fits { result ≤ 8589934592 }
+    {
+        if calls == 0 {
+            return self.longest;
+        }
+        self.longest + self.second
+    }
+}
+
+/// The two longest pauses of a controller.
+pub fn longest_pauses(document: &Document, controller: usize) -> LongestPauses
+    ensures longest { result.longest ≡ longest (doc_of document.now) controller }
+    ensures second { result.second ≡ second_below controller document.now.events }
 {
     let events = document.events.as_slice();
-    let mut longest: u64 = 0;
+    let mut pauses = LongestPauses {
+        longest: 0,
+        second: 0,
+    };
     for place in (0..events.len()).rev() {
         let event = &events[place];
         if let What::Pause(id, beats) = event.what
             && id.0 as usize == controller
         {
-            longest = with_pause(longest, beats);
+            pauses = pauses.with_pause(beats);
         }
     }
-    longest
+    pauses
+}
+
+/// By so many calls after its deadline a leader's release may reach the store, or let it act.
+pub fn late_calls(release: ReleaseRule, acting: ReleaseActing) -> u32
+    ensures { result ≡ late_calls release acting }
+{
+    match acting {
+        ReleaseActing::Still => match release {
+            ReleaseRule::Reread => 1,
+            ReleaseRule::Stop | ReleaseRule::Own | ReleaseRule::Checked => 0,
+        },
+        ReleaseActing::Acts => match release {
+            ReleaseRule::Stop => 0,
+            ReleaseRule::Own => 1,
+            ReleaseRule::Checked | ReleaseRule::Reread => 2,
+        },
+    }
+}
+
+// How long a leader may act on after its last sent success, without pauses, in milliseconds.
+fn span_by(process: &Proc, calls: u32) -> u64
+    ensures is { (doc : Doc) (p : ℕ) → IsProcess doc p process.now → of_millis result ≡ span_by calls doc p }
+    ensures fits { result ≤ process.now.timeout_millis + process.now.retry_millis + 2 * process.now.renew_millis }
+{
+    let renew = u64::from(process.renew_millis);
+    let timeout = u64::from(process.timeout_millis);
+    let late = (timeout * u64::from(calls)).min(renew);
+    timeout + u64::from(process.retry_millis) + renew + late
 }
 
 // The lease duration of a controller, in seconds.
@@ -127,27 +186,47 @@ pub fn waited_seconds(document: &Document, controller: usize) -> u32
     }
 }
 
-// Whether a lease at the least rate outlasts the times of a leader and its longest pause at the greatest rate.
-fn outlasts(
-    process: Proc,
-    lease_seconds: u32,
-    longest: u64,
-    beat_millis: u32,
-    least: u32,
-    greatest: u32,
-) -> bool
-    requires { longest ≤ 4294967296 }
+/// What a lease has to outlast: how long a leader may act on after its last sent success, without pauses; the beats that its pauses may
+/// add, and those of them that a further pause, longer than all, would be added to.
+#[derive(Clone, Copy, Debug)]
+pub struct Demand {
+    pub acting_millis: u64,
+    pub stall: u64,
+    pub beside: u64,
+    ghost acting_fits: { acting_millis ≤ 1000000000 },
+    ghost stall_fits: { stall ≤ 8589934592 },
+    ghost beside_least: { beside ≤ stall },
+}
+
+/// That of a controller. Takes no memory.
+pub fn demand_of(document: &Document, controller: usize) -> Demand
+    requires lawful { IsLawfulDoc (doc_of document.now) }
+    requires controller { controller < length document.now.controllers }
+    ensures acting { of_millis result.acting_millis ≡ span_by (calls_late (doc_of document.now)) (doc_of document.now) controller }
+    ensures stall { result.stall ≡ stall_by (calls_late (doc_of document.now)) (doc_of document.now) controller }
+    ensures beside { result.beside ≡ leases.beside_by (calls_late (doc_of document.now)) (doc_of document.now) controller }
+{
+    let process = document.controllers.as_slice()[controller];
+    let rules = document.settings.rules;
+    let calls = late_calls(rules.release, rules.in_release);
+    let pauses = longest_pauses(document, controller);
+    Demand {
+        acting_millis: span_by(&process, calls),
+        stall: pauses.stall_by(calls),
+        beside: if calls == 0 { 0 } else { pauses.longest },
+    }
+}
+
+// Whether a lease at the least rate outlasts the times of a leader and its pauses at the greatest rate.
+fn outlasts(demand: Demand, lease_seconds: u32, beat_millis: u32, least: u32, greatest: u32) -> bool
+    requires { beat_millis ≤ 1000 }
     ensures { result ≡ nat_lt
-        (longest * (beat_millis * 1000 * greatest) * least
-        + (of_millis process.timeout_millis + of_millis process.retry_millis + of_millis process.renew_millis) * greatest)
+        (demand.stall * (beat_millis * 1000 * greatest) * least + of_millis demand.acting_millis * greatest)
         (of_seconds lease_seconds * least) }
 {
-    let paused_millis = longest * u64::from(beat_millis);
+    let paused_millis = demand.stall * u64::from(beat_millis);
     let paused = u128::from(paused_millis) * u128::from(greatest) * u128::from(least);
-    let acting_millis = u128::from(process.timeout_millis)
-        + u128::from(process.retry_millis)
-        + u128::from(process.renew_millis);
-    let acting = acting_millis * 1_000_000 * u128::from(greatest);
+    let acting = u128::from(demand.acting_millis) * 1_000_000 * u128::from(greatest);
     let lease = u128::from(lease_seconds) * 1_000_000_000 * u128::from(least);
     paused + acting < lease
 }
@@ -158,22 +237,56 @@ fn is_long(document: &Document, controller: usize, greatest: u32) -> bool
     requires controller { controller < length document.now.controllers }
     ensures { result ≡ is_long (doc_of document.now) greatest controller }
 {
-    let process = document.controllers.as_slice()[controller];
     outlasts(
-        process,
+        demand_of(document, controller),
         waited_seconds(document, controller),
-        longest_pause(document, controller),
         document.settings.beat_millis,
         rates_of(document, controller).least,
         greatest,
     )
 }
 
+// Whether by an event each reply that a controller is sent still comes, and within the three beats that a takeover takes.
+fn is_prompt(what: &What, controllers: usize) -> bool
+    ensures { (doc : Doc) → length doc.controllers ≡ controllers → result ≡ is_prompt_event doc what.now }
+{
+    match what {
+        What::Loss(who, _, replies) => !*replies || who.0 as usize >= controllers,
+        What::Delay(who, _, replies) => *replies <= 3 || who.0 as usize >= controllers,
+        _ => true,
+    }
+}
+
+// Whether it is so by each of them.
+fn are_prompt(events: &[Event], controllers: usize) -> bool
+    ensures { (doc : Doc) → length doc.controllers ≡ controllers → result ≡ are_prompt doc events.now }
+{
+    for event in events {
+        if !is_prompt(&event.what, controllers) {
+            return false;
+        }
+    }
+    true
+}
+
+/// Whether a leader that acts in its release hears of its emptying before another one leads. Takes no memory.
+pub fn answers_come(document: &Document) -> bool
+    ensures { result ≡ answers_come document.now.settings.rules.in_release (doc_of document.now) }
+{
+    match document.settings.rules.in_release {
+        ReleaseActing::Still => true,
+        ReleaseActing::Acts => are_prompt(
+            document.events.as_slice(),
+            document.controllers.as_slice().len(),
+        ),
+    }
+}
+
 /// Whether what others wait for it outlasts for every controller what it may act on as leader after its last sent success, at any clock rates
-/// of the document and in its longest pause. Takes no memory.
-pub fn lease_premise(document: &Document) -> bool
+/// of the document, in its longest pauses and in its release. Takes no memory.
+pub fn lease_part(document: &Document) -> bool
     requires { IsLawfulDoc (doc_of document.now) }
-    ensures { result ≡ lease_premise (doc_of document.now) }
+    ensures { result ≡ lease_part (doc_of document.now) }
 {
     let controllers = document.controllers.as_slice().len();
     let mut greatest = 0;
@@ -185,4 +298,12 @@ pub fn lease_premise(document: &Document) -> bool
         long = long && is_long(document, controller, greatest);
     }
     long
+}
+
+/// Whether the leases are long enough, and a leader that acts in its release hears of it in time. Takes no memory.
+pub fn lease_premise(document: &Document) -> bool
+    requires { IsLawfulDoc (doc_of document.now) }
+    ensures { result ≡ lease_premise (doc_of document.now) }
+{
+    answers_come(document) && lease_part(document)
 }

@@ -170,7 +170,8 @@ fn is_filled_at_passes(queue: QueueRule, judge: JudgeRule) -> bool
     }
 }
 
-fn has_release(acting: ReleaseActing, release: ReleaseRule) -> bool
+/// Whether who acts in a release has one.
+pub fn has_release(acting: ReleaseActing, release: ReleaseRule) -> bool
     ensures { result ≡ spec.has_release acting release }
 {
     match acting {

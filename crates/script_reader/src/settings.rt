@@ -1,11 +1,11 @@
 // The settings.
 ghost use Rattle.std.specs.Prelude.{◌≡◌, codes, false};
+ghost use Rattle.serde_json.specs.Find.{get};
 ghost use Rattle.serde_json.specs.View.{view};
 ghost use Rattle.manifest_json.specs.Faults.{Gives};
 ghost use Rattle.script_reader.specs.Fields as fields;
 ghost use Rattle.script_reader.specs.Walk as walk;
 
-use crate::built::rules_built;
 use crate::choice::{Preset, preset_at};
 use crate::field::{epoch_at, fault_under, flag_at, needed_whole, policy_at, whole_at};
 use crate::parts::{Beats, Periods, Rates, Timings};
@@ -33,14 +33,33 @@ pub(crate) fn settings_at(
     let timings = timings_at(standard(), path, value)?;
     let periods = periods_at(path, value)?;
     let rates = rates_at(path, value)?;
-    let fast = flag_at(false, path, "fastRenew", value)?;
+    let given = flag_at(false, path, "fastRenew", value)?;
     let policy = policy_at(path, "ratePolicy", value)?;
     let preset = preset_at(path, value)?;
     let rules = rules_at(preset, path, value)?;
+    let fast = fast_renew_of(given, preset, value);
     let settings = settings_of(beats, timings, periods, rates, fast, policy, rules);
     if_sound(path, timings, rates, &settings)?;
-    rules_built(preset, path, value)?;
     Ok((settings, preset))
+}
+
+/// Whether a leader renews without a Get: as the key says, which has been read, or by the preset.
+fn fast_renew_of(given: bool, preset: Preset, value: &Value) -> bool
+    ensures { result ≡ walk.fast_renew_of given preset (get (codes "fastRenew") (view value.now)) }
+{
+    match value.get("fastRenew") {
+        Some(_) => given,
+        None => renews_fast(preset),
+    }
+}
+
+fn renews_fast(preset: Preset) -> bool
+    ensures { result ≡ walk.renews_fast preset }
+{
+    match preset {
+        Preset::Upstream136 => true,
+        Preset::Own | Preset::Upstream120 => false,
+    }
 }
 
 #[tactic(auto, unfolding(crate::specs::Walk::beats_at))]

@@ -33,7 +33,7 @@ pub enum EventType {
     Watch,
     Ready,
     Pause,
-    /// The store stands still. It is refused as not built.
+    /// The store stands still.
     Stall,
     Put,
     Remove,

@@ -9,7 +9,7 @@ use Rattle.kube_objects.specs.declared.deed.Actor.{Actor}
 use Rattle.kube_objects.specs.Document.{Doc, is_controller}
 use Rattle.kube_objects.specs.Elector.{succeeds}
 use Rattle.kube_objects.specs.Entry.{Entry, Identity, Call, Fact, First, Event, Starts, Stops, Sends, Answers, Delivers, Expires, Leads, Ends, Crashes, Stalls, Ticks, actor_of, entry, StepsDown, ReleaseBegins, ReleaseEnds, ReleaseStops}
-use Rattle.kube_objects.specs.Own.{IsOwn}
+use Rattle.kube_objects.specs.Own.{ReleasesByStop}
 use Rattle.history.specs.History.{history}
 use Rattle.history_laws.specs.Tails.{IsTail}
 use Rattle.history_laws.proofs.Order.{entries_are_earlier}
@@ -43,7 +43,7 @@ done_succeeds (Create key lease) v u = refl
 done_succeeds (Update key given lease) v u = refl
 done_succeeds (PostStatus name status at) v u = refl
 
-module _ (doc : Doc) (rules : IsOwn doc) (near far a e n : ℕ) where
+module _ (doc : Doc) (rules : ReleasesByStop doc) (near far a e n : ℕ) where
   -- an entry is no such success
   abbrev IsNone : Entry → Type 0
   IsNone x =

@@ -10,6 +10,7 @@ use Rattle.kube_objects.specs.Elector.{succeeds, deadline}
 use Rattle.kube_objects.specs.Entry.{Entry, Identity, Call, Ends, Delivers, actor_of, entry}
 use Rattle.kube_objects.specs.Identities.{of_process}
 use Rattle.kube_objects.specs.Newest.{when, has}
+use Rattle.kube_objects.specs.Own.{ReleasesByStop}
 use Rattle.kube_objects.specs.Process.{alive}
 use Rattle.history.specs.History.{history, at_turn}
 use Rattle.history.specs.Safe.{Acts}
@@ -35,7 +36,7 @@ use Rattle.settle_laws.proofs.Successes as early
 use Rattle.settle_laws.proofs.Successes.{done_of}
 use Rattle.settle_laws.proofs.Terms.{SucceedsBy, none_acts, no_deadline}
 
-module _ (doc : Doc) (near far a e n : ℕ) (sound : IsSound doc) (calm : IsCalm doc near far a e) (time : AreInTime doc near far a e) (one : 1 ≤ near) (ways : near ≤ far) (end : e ≤ end_beat doc) (within : n ≤ e)
+module _ (doc : Doc) (near far a e n : ℕ) (sound : IsSound doc) (rules : ReleasesByStop doc) (calm : IsCalm doc near far a e) (time : AreInTime doc near far a e) (one : 1 ≤ near) (ways : near ≤ far) (end : e ≤ end_beat doc) (within : n ≤ e)
     (old : ℕ) (room : a + old ≤ n) (p : ℕ) (role : is_controller doc p ≡ true) (steady : IsSteady doc near far a e p) (lasts : 1 ≤ renew_deadline doc p) (ends : EndsBy doc far a e old p) where
   some_far : 1 ≤ far
   some_far = omega (arith, one, ways)
@@ -100,11 +101,11 @@ module _ (doc : Doc) (near far a e n : ℕ) (sound : IsSound doc) (calm : IsCalm
       fact_done = fact ∙ ap (λ r. Delivers w r true) done.1
 
       pub by_last : x.beat ≤ last
-      by_last = omega (arith, some_far, early.comes_early doc near far a e n sound calm some_far (omega (arith, within, end)) span q q_role q_steady x T w reply at actor fact sent_before)
+      by_last = omega (arith, some_far, early.comes_early doc near far a e n sound rules calm some_far (omega (arith, within, end)) span q q_role q_steady x T w reply at actor fact sent_before)
 
       -- one at the last of these beats
       abbrev o : Origin doc q w (Done done.0) T x.beat
-      o = early.o doc near far a e n sound calm some_far (omega (arith, within, end)) span q q_role q_steady x T w (Done done.0) at actor fact_done sent_before
+      o = early.o doc near far a e n sound rules calm some_far (omega (arith, within, end)) span q q_role q_steady x T w (Done done.0) at actor fact_done sent_before
 
       given : x.beat ≡ last → IsGiven doc near far a q x.beat
       given is = record {
@@ -121,13 +122,13 @@ module _ (doc : Doc) (near far a e n : ℕ) (sound : IsSound doc) (calm : IsCalm
       }
         where
           asked : w.sent ≡ o.begun.f.beat
-          asked = early.sent doc near far a e n sound calm some_far (omega (arith, within, end)) span q q_role q_steady x T w (Done done.0) at actor fact_done sent_before
+          asked = early.sent doc near far a e n sound rules calm some_far (omega (arith, within, end)) span q q_role q_steady x T w (Done done.0) at actor fact_done sent_before
 
           in_span : a ≤ o.e.beat
-          in_span = early.answered_in doc near far a e n sound calm some_far (omega (arith, within, end)) span q q_role q_steady x T w (Done done.0) at actor fact_done sent_before (omega (arith, is, some_far))
+          in_span = early.answered_in doc near far a e n sound rules calm some_far (omega (arith, within, end)) span q q_role q_steady x T w (Done done.0) at actor fact_done sent_before (omega (arith, is, some_far))
 
           after : (o.e.beat + near ≤ x.beat) × (x.beat ≤ o.e.beat + far)
-          after = early.comes_after doc near far a e n sound calm some_far (omega (arith, within, end)) span q q_role q_steady x T w (Done done.0) at actor fact_done sent_before in_span
+          after = early.comes_after doc near far a e n sound rules calm some_far (omega (arith, within, end)) span q q_role q_steady x T w (Done done.0) at actor fact_done sent_before in_span
 
     pub success_by : SucceedsBy doc n q last
     success_by = by_last
@@ -135,7 +136,7 @@ module _ (doc : Doc) (near far a e n : ℕ) (sound : IsSound doc) (calm : IsCalm
     -- it acts no more from the later beat on
     idle : (k : ℕ) → a + old ≤ k → k ≤ n → Acts doc q k → ⊥
     idle =
-        none_acts doc sound.2 a e n end within q q_role (λ k low high. (q_steady.passes k low high).awake) last (a + old) (omega arith) soon room
+        none_acts doc rules a e n end within q q_role (λ k low high. (q_steady.passes k low high).awake) last (a + old) (omega arith) soon room
         (subst (λ p. local doc p last + (retry_period doc p + renew_deadline doc p) ≤ local doc p (a + old)) (sym mine) reached) success_by
 
     -- so there is none at that last beat
@@ -145,12 +146,12 @@ module _ (doc : Doc) (near far a e n : ℕ) (sound : IsSound doc) (calm : IsCalm
         at_last : x.beat ≡ last → ⊥
         at_last is =
             idle (a + old) (omega arith) room
-            ((given_stays doc near far a e sound calm time one end q q_role q_steady renews x.beat (omega (arith, is, soon, room, within)) (given x T w reply at step actor fact so is)).acts (a + old) (omega (arith, is, soon)) (omega (arith, room, within)))
+            ((given_stays doc near far a e sound rules calm time one end q q_role q_steady renews x.beat (omega (arith, is, soon, room, within)) (given x T w reply at step actor fact so is)).acts (a + old) (omega (arith, is, soon)) (omega (arith, room, within)))
 
     -- who is up after the beat before has no term
     no_term : (h : List Entry) → IsTail (at_turn doc (suc q.process) (a + old - 1)) h → IsTail h (history doc (suc n)) → alive q.process h ≡ Some q.incarnation → deadline doc q h ≡ None
     no_term =
-        no_deadline doc sound.2 a e n end within q q_role (λ k low high. (q_steady.passes k low high).awake) (a + (2 * far - 2)) (a + old - 1) (omega arith) (omega (arith, soon, some_far)) (omega (arith, room))
+        no_deadline doc rules a e n end within q q_role (λ k low high. (q_steady.passes k low high).awake) (a + (2 * far - 2)) (a + old - 1) (omega arith) (omega (arith, soon, some_far)) (omega (arith, room))
         (subst (λ p. local doc p (a + (2 * far - 2)) + (retry_period doc p + renew_deadline doc p) ≤ local doc p (a + old - 1)) (sym mine)
         (grows (a + (2 * far - 2)) (a + old - 1) (omega arith) (omega (arith, ends.in_old, some_far)) (omega (arith, room, within)))) success_before
 
@@ -167,7 +168,7 @@ module _ (doc : Doc) (near far a e n : ℕ) (sound : IsSound doc) (calm : IsCalm
 
   module _ (renewed : (q : Identity) → q.process ≡ p → RenewsInTime doc near far a e q) (none : (q : Identity) → q.process ≡ p → (j : ℕ) → j ≤ n → HasSuccess doc q a j → ⊥) where
     pub none_ends : AllBeats doc e p Ends (λ k. k ≡ a + old → ⊥)
-    none_ends x stands fact by is = by_made (subst (λ d. MadeAs doc x.beat x.step x.actor d T) fact (are_made doc sound.2 (suc e) x T at_e))
+    none_ends x stands fact by is = by_made (subst (λ d. MadeAs doc x.beat x.step x.actor d T) fact (are_made doc rules (suc e) x T at_e))
       where
         T : List Entry
         T = (place_of x (history doc (suc e)) stands).before

@@ -8,6 +8,7 @@ use Rattle.kube_objects.specs.Entry.{Entry, Identity, Fact, First, Event, Starts
 use Rattle.kube_objects.specs.Identities.{identity, of_process}
 use Rattle.kube_objects.specs.Newest.{when, has}
 use Rattle.kube_objects.specs.Clocks.{local}
+use Rattle.kube_objects.specs.Own.{ReleasesByStop}
 use Rattle.kube_objects.specs.Pauses.{is_paused}
 use Rattle.kube_objects.specs.Process.{alive}
 use Rattle.kube_objects.specs.Stored.{election, stored}
@@ -70,7 +71,7 @@ stays_later doc q j n e le s = record {
 
 -- ---- while nobody succeeds
 
-module _ (doc : Doc) (near far a e n : ℕ) (sound : IsSound doc) (calm : IsCalm doc near far a e) (time : AreInTime doc near far a e) (one : 1 ≤ near) (ways : near ≤ far) (end : e ≤ end_beat doc) (within : n ≤ e)
+module _ (doc : Doc) (near far a e n : ℕ) (sound : IsSound doc) (rules : ReleasesByStop doc) (calm : IsCalm doc near far a e) (time : AreInTime doc near far a e) (one : 1 ≤ near) (ways : near ≤ far) (end : e ≤ end_beat doc) (within : n ≤ e)
     (old : ℕ) (ends : AllEndBy doc near far a e old) (room : a + old ≤ n) (renewed : AreRenewed doc near far a e) (nobody : NobodySucceeds doc near far a e n) where
   some_far : 1 ≤ far
   some_far = omega (arith, one, ways)
@@ -89,16 +90,16 @@ module _ (doc : Doc) (near far a e n : ℕ) (sound : IsSound doc) (calm : IsCalm
     awake k low high = (steady.passes k low high).awake
 
     soon : a + (2 * far - 1) < settled
-    soon = early.soon doc near far a e n sound calm time one ways end within old room q.process role steady t.deadline ends_by
+    soon = early.soon doc near far a e n sound rules calm time one ways end within old room q.process role steady t.deadline ends_by
 
     reached : local doc q.process (a + (2 * far - 1)) + (retry_period doc q.process + renew_deadline doc q.process) ≤ local doc q.process settled
-    reached = early.reached doc near far a e n sound calm time one ways end within old room q.process role steady t.deadline ends_by
+    reached = early.reached doc near far a e n sound rules calm time one ways end within old room q.process role steady t.deadline ends_by
 
     success_by : SucceedsBy doc n q (a + (2 * far - 1))
-    success_by = early.success_by doc near far a e n sound calm time one ways end within old room q.process role steady t.deadline ends_by q refl (renewed q role steady) (nobody q role steady)
+    success_by = early.success_by doc near far a e n sound rules calm time one ways end within old room q.process role steady t.deadline ends_by q refl (renewed q role steady) (nobody q role steady)
 
     none_later : (k : ℕ) → settled ≤ k → k ≤ n → Acts doc q k → ⊥
-    none_later = none_acts doc sound.2 a e n end within q role awake (a + (2 * far - 1)) settled (omega arith) soon room reached success_by
+    none_later = none_acts doc rules a e n end within q role awake (a + (2 * far - 1)) settled (omega arith) soon room reached success_by
 
     -- its messages pass from that beat on, too, and none of its terms ends at it
     steady_later : IsSteady doc near far settled e q.process
@@ -107,7 +108,7 @@ module _ (doc : Doc) (near far a e n : ℕ) (sound : IsSound doc) (calm : IsCalm
       crashes = λ x at fact mine. let le = steady.crashes x at fact mine in omega (arith, le);
       stops = λ x at fact mine. let lt = steady.stops x at fact mine in omega (arith, lt);
       ends =
-          early.none_ends doc near far a e n sound calm time one ways end within old room q.process role steady t.deadline ends_by
+          early.none_ends doc near far a e n sound rules calm time one ways end within old room q.process role steady t.deadline ends_by
           (λ r mine. renewed r (ap (is_controller doc) mine ∙ role) (subst (IsSteady doc near far a e) (sym mine) steady))
           (λ r mine. nobody r (ap (is_controller doc) mine ∙ role) (subst (IsSteady doc near far a e) (sym mine) steady));
     }
@@ -118,21 +119,21 @@ module _ (doc : Doc) (near far a e n : ℕ) (sound : IsSound doc) (calm : IsCalm
     -- who is up after its turn at that beat never led
     module _ (h : List Entry) (low : IsTail (at_turn doc (suc q.process) settled) h) (high : IsTail h (history doc (suc n))) (up : alive q.process h ≡ Some q.incarnation) where
       led : (g : List Entry) → IsTail g (history doc (suc n)) → leads q g ≡ false
-      led = never_leads doc sound.2 a e n end within q role awake (a + (2 * far - 1)) settled (omega arith) soon room reached success_by h low high up
+      led = never_leads doc rules a e n end within q role awake (a + (2 * far - 1)) settled (omega arith) soon room reached success_by h low high up
 
       idle : (k : ℕ) → a ≤ k → k ≤ n → Acts doc q k → ⊥
-      idle = never_acts doc sound.2 a e n end within q role awake (a + (2 * far - 1)) settled (omega arith) soon room reached success_by h low high up
+      idle = never_acts doc rules a e n end within q role awake (a + (2 * far - 1)) settled (omega arith) soon room reached success_by h low high up
 
       -- and stays up
       stays_up : IsTail (with_events doc a) h → (g : List Entry) → IsTail h g → IsTail g (history doc (suc n)) → alive q.process g ≡ Some q.incarnation
-      stays_up after g below above = persists doc sound.2 near far a e n q role t.deadline steady within idle (omega (arith, room)) h g after below above up
+      stays_up after g below above = persists doc rules near far a e n q role t.deadline steady within idle (omega (arith, room)) h g after below above up
 
   -- no election write by a call of that beat or later is accepted
   no_write : (x : Entry) (T : List Entry) (q : Identity) → IsTail (x ∷ T) (history doc (suc n)) → x.actor ≡ actor_of q → is_controller doc q.process ≡ true → WritesElection settled x.fact → x.beat + far ≤ n → ⊥
   no_write x T q at by role writes late = ⊎_elim steady quiet (calm.each q.process role)
     where
       steady : IsSteady doc near far a e q.process → ⊥
-      steady s = writer_acts doc sound.2 near far settled e n q role (steady_later q role s) (in_time_later q role s) within one (none_later q role s) x T at by writes late
+      steady s = writer_acts doc rules near far settled e n q role (steady_later q role s) (in_time_later q role s) within one (none_later q role s) x T at by writes late
 
       quiet : IsQuiet doc a e q.process → ⊥
       quiet s =
@@ -140,7 +141,7 @@ module _ (doc : Doc) (near far a e n : ℕ) (sound : IsSound doc) (calm : IsCalm
           (ap (λ who. has (of_process q.process who)) by ∙ ap (λ b. has (when b q.incarnation)) (eq-eqb q.process q.process refl)) (writes_since a settled x.fact (omega arith) writes)
 
   is_kept : IsKept doc far settled n
-  is_kept = kept doc near far a e n sound calm time one ways end within settled (omega arith) no_write
+  is_kept = kept doc near far a e n sound rules calm time one ways end within settled (omega arith) no_write
 
   module _ (most_lasts : ℕ) (all : AllLastFor doc near far a e most_lasts) (p later slow fast lost wait needed : ℕ) (first_lasts : LastsFor doc p most_lasts (early_record a (history doc (a + far))))
       (c : IsCandidate doc near far a e p later slow fast) (b : AreBeats doc p slow fast lost wait needed) (after : old ≤ later)
@@ -153,7 +154,7 @@ module _ (doc : Doc) (near far a e n : ℕ) (sound : IsSound doc) (calm : IsCalm
     below = controllers_first doc p c.role
 
     record_lasts : LastsFor doc p most_lasts (object_of (stored election (history doc (settled + far))))
-    record_lasts = lasts doc near far a e n sound calm time one ways end within settled (omega arith) no_write most_lasts all p (all p c.role c.steady) first_lasts (omega (arith, ways_by, time_left, some_far))
+    record_lasts = lasts doc near far a e n sound rules calm time one ways end within settled (omega arith) no_write most_lasts all p (all p c.role c.steady) first_lasts (omega (arith, ways_by, time_left, some_far))
 
     turn_high : (k : ℕ) → k ≤ n → IsTail (at_turn doc (suc p) k) (history doc (suc n))
     turn_high k le = tail_trans (at_turn doc (suc p) k) (history doc (suc k)) (history doc (suc n)) (turn_tail doc (suc p) k (omega (arith, below))) (later_tail doc (suc k) (suc n) (omega (arith, le)))
@@ -187,7 +188,7 @@ module _ (doc : Doc) (near far a e n : ℕ) (sound : IsSound doc) (calm : IsCalm
 
     with_identity : (i : ℕ) → alive p S ≡ Some i → ⊥
     with_identity i up =
-        no_candidate doc sound.2 near far a settled e n calm one ways (omega arith) within is_kept most_lasts p later slow fast lost wait needed record_lasts c b (time p c.role c.steady) first up_by lost_by (omega (arith, ways_by, some_far))
+        no_candidate doc rules near far a settled e n calm one ways (omega arith) within is_kept most_lasts p later slow fast lost wait needed record_lasts c b (time p c.role c.steady) first up_by lost_by (omega (arith, ways_by, some_far))
         enough most enough_is most_is time_left i (idle (identity p i) c.role c.steady S s_low s_high up) (led (identity p i) c.role c.steady S s_low s_high up)
         (λ h low high. stays_up (identity p i) c.role c.steady S s_low s_high up (after_events S s_low) h low high) stays
       where
@@ -207,8 +208,8 @@ module _ (doc : Doc) (near far a e n : ℕ) (sound : IsSound doc) (calm : IsCalm
 -- ---- the law
 
 pub calm_spans_settle : CalmSpansSettle
-calm_spans_settle doc near far a e sound calm time one ways end renewed old ends p later slow fast lost wait needed c b after first up_by lost_by ways_by most_lasts enough most early all enough_is most_is within =
-    ⊎_elim found (λ nobody. absurd (nobody_never nobody)) (somebody_or_nobody doc sound.2 near far a e n)
+calm_spans_settle doc near far a e sound rules calm time one ways end renewed old ends p later slow fast lost wait needed c b after first up_by lost_by ways_by most_lasts enough most early all enough_is most_is within =
+    ⊎_elim found (λ nobody. absurd (nobody_never nobody)) (somebody_or_nobody doc rules near far a e n)
   where
     n : ℕ
     n = a + first + most + 4 * far
@@ -218,18 +219,18 @@ calm_spans_settle doc near far a e sound calm time one ways end renewed old ends
       q = s.q;
       role = s.role;
       steady = s.is_steady;
-      stays = stays_later doc s.q s.j n e s.to (leaders_stay doc near far a e sound calm time one ways end s.q s.role s.is_steady (renewed s.q s.role s.is_steady) s.j s.success);
+      stays = stays_later doc s.q s.j n e s.to (leaders_stay doc near far a e sound rules calm time one ways end s.q s.role s.is_steady (renewed s.q s.role s.is_steady) s.j s.success);
     }
 
     nobody_never : NobodySucceeds doc near far a e n → ⊥
     nobody_never nobody =
-        never doc near far a e n sound calm time one ways end within old ends (omega (arith, after, up_by)) renewed nobody most_lasts all p later slow fast lost wait needed early c b after
+        never doc near far a e n sound rules calm time one ways end within old ends (omega (arith, after, up_by)) renewed nobody most_lasts all p later slow fast lost wait needed early c b after
         first up_by lost_by ways_by enough most enough_is most_is (omega arith)
 
 pub settling_is_told : SettlingIsTold
-settling_is_told doc near far a e sound calm time one ways end renewed old ends p later slow fast c some_slow some_fast after most_lasts early all within =
+settling_is_told doc near far a e sound rules calm time one ways end renewed old ends p later slow fast c some_slow some_fast after most_lasts early all within =
     subst (IsSettled doc near far a e) sum
-    (calm_spans_settle doc near far a e sound calm time one ways end renewed old in_beats p later slow fast lost wait needed c
+    (calm_spans_settle doc near far a e sound rules calm time one ways end renewed old in_beats p later slow fast lost wait needed c
     (record { lost_is = next_multiple (call_timeout doc p) slow some_slow; wait_is = (rounded_is slow (longest_wait doc p) some_slow).0; needed_is = (rounded_is fast (shortest_wait doc p) some_fast).1 })
     after first (omega arith) (omega arith) (omega arith) most_lasts enough most early all (rounded_is slow most_lasts some_slow).0 ((bounds_are_exact (needed + 2 * near) (wait + 2 * far) enough).0 some_step).1 (omega (arith, sum, within)))
   where

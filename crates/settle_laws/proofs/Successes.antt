@@ -12,6 +12,7 @@ use Rattle.kube_objects.specs.Document.{Doc, processes, end_beat, is_controller}
 use Rattle.kube_objects.specs.Elector.{Moment, Succeeds, follow_write, follow, succeeds}
 use Rattle.kube_objects.specs.Entry.{Entry, Identity, Call, CallKind, Plain, Fast, Release, Sends, Answers, Delivers, actor_of, Look, Emptying}
 use Rattle.kube_objects.specs.Keys.{key_eq}
+use Rattle.kube_objects.specs.Own.{ReleasesByStop}
 use Rattle.kube_objects.specs.Stored.{election, key_of}
 use Rattle.kube_objects.specs.Wire.{back_of, request_arrival, reply_delay}
 use Rattle.history.specs.History.{history}
@@ -20,7 +21,7 @@ use Rattle.history.specs.Sound.{IsSound}
 use Rattle.history_laws.specs.Tails.{In, IsTail}
 use Rattle.history_laws.proofs.Plainly.{some_is}
 use Rattle.history_laws.proofs.Tailed.{tail_all, tail_trans, later_tail}
-use Rattle.lease_laws.proofs.Histories.{turn_right}
+use Rattle.lease_laws.proofs.Histories.{bears_own, turn_right}
 use Rattle.lease_laws.proofs.Invariant.{Asked, SentRight, view}
 use Rattle.lease_laws.proofs.Premises.{rates_at_most}
 use Rattle.call_laws.specs.Answering.{with_events}
@@ -37,10 +38,10 @@ abbrev pub high_of : Doc → ℕ
 high_of doc = greatest_below doc (length doc.controllers)
 
 -- what the lease theorem knows of its request
-pub asked_of : (doc : Doc) → IsSound doc → (n : ℕ) → n ≤ end_beat doc → (q : Identity) → is_controller doc q.process ≡ true → (f : Entry) (T : List Entry) (call : Call) (arrives : Option ℕ) → IsTail (f ∷ T) (history doc (suc n))
-    → f.actor ≡ actor_of q → f.fact ≡ Sends call arrives → Asked doc (high_of doc) (view (history doc (suc n))) q call.sent call.request
-asked_of doc sound n end q role f T call arrives at actor fact =
-    let right = (turn_right doc (high_of doc) (rates_at_most doc) sound (processes doc) n end).entries f (in_head f T (history doc (suc n)) at) in
+pub asked_of : (doc : Doc) → IsSound doc → ReleasesByStop doc → (n : ℕ) → n ≤ end_beat doc → (q : Identity) → is_controller doc q.process ≡ true → (f : Entry) (T : List Entry) (call : Call) (arrives : Option ℕ) → IsTail (f ∷ T) (history doc (suc n))
+    → f.actor ≡ actor_of q → f.fact ≡ Sends call arrives → Asked doc (high_of doc) (view (history doc (suc n))) q call.sent call.kind call.request
+asked_of doc sound rules n end q role f T call arrives at actor fact =
+    let right = (turn_right doc (high_of doc) (rates_at_most doc) (bears_own doc (high_of doc) rules) sound (processes doc) n end).entries f (in_head f T (history doc (suc n)) at) in
     let sent : SentRight doc (high_of doc) n (view (history doc (suc n))) (record { who = q; call = call; arrives = arrives }) =
     subst (λ o. IfSome o (SentRight doc (high_of doc) n (view (history doc (suc n))))) (sent_is f q call arrives actor fact) right.0 in
     sent.may.controller role
@@ -98,11 +99,11 @@ follow_succeeds q m seen kind (PostStatus name status at) reply v is = absurd (c
 
 -- ---- a reply to a call of before the calm comes within two ways of its beginning
 
-module _ (doc : Doc) (near far a e n : ℕ) (sound : IsSound doc) (calm : IsCalm doc near far a e) (one : 1 ≤ far) (end : n ≤ end_beat doc) (room : a + 2 * far ≤ e)
+module _ (doc : Doc) (near far a e n : ℕ) (sound : IsSound doc) (rules : ReleasesByStop doc) (calm : IsCalm doc near far a e) (one : 1 ≤ far) (end : n ≤ end_beat doc) (room : a + 2 * far ≤ e)
     (q : Identity) (role : is_controller doc q.process ≡ true) (steady : IsSteady doc near far a e q.process)
     (x : Entry) (T : List Entry) (w : Call) (reply : Reply) (at : IsTail (x ∷ T) (history doc (suc n))) (actor : x.actor ≡ actor_of q) (fact : x.fact ≡ Delivers w reply true) (early : w.sent < a) where
   abbrev pub o : Origin doc q w reply T x.beat
-  o = origin doc sound.2 (suc n) q x T w reply at actor fact
+  o = origin doc rules (suc n) q x T w reply at actor fact
 
   high : IsTail T (history doc (suc n))
   high = tail_trans T (x ∷ T) (history doc (suc n)) (inr (tail_all T)) at
@@ -114,11 +115,11 @@ module _ (doc : Doc) (near far a e n : ℕ) (sound : IsSound doc) (calm : IsCalm
   answering = tail_trans (o.e ∷ o.low) T (history doc (suc n)) o.answered high
 
   key_is : key_eq (key_of w.request) election ≡ true
-  key_is = ap (λ k. key_eq k election) (asked_of doc sound n end q role o.begun.f o.begun.before w o.begun.arrives sending o.begun.actor o.begun.fact).key
+  key_is = ap (λ k. key_eq k election) (asked_of doc sound rules n end q role o.begun.f o.begun.before w o.begun.arrives sending o.begun.actor o.begun.fact).key
 
   pub sent : w.sent ≡ o.begun.f.beat
   sent = (subst (λ p. IfSome p (λ s. (s.call.sent ≡ o.begun.f.beat) × (s.arrives ≡ request_arrival doc s.who.process o.begun.f.beat o.begun.before)))
-      (sent_is o.begun.f q w o.begun.arrives o.begun.actor o.begun.fact) (messages_travel doc sound.2 (suc n) o.begun.f o.begun.before sending).0).0
+      (sent_is o.begun.f q w o.begun.arrives o.begun.actor o.begun.fact) (messages_travel doc rules (suc n) o.begun.f o.begun.before sending).0).0
 
   earlier : (z : Entry) (Z : List Entry) → IsTail (z ∷ Z) (history doc (suc n)) → z.beat < a → In z (history doc a)
   earlier z Z at lt = in_head z Z (history doc a) (tail_trans (z ∷ Z) (history doc (suc z.beat)) (history doc a) (in_own_beat doc (suc n) z Z at) (later_tail doc (suc z.beat) a (omega (arith, lt))))
@@ -146,7 +147,7 @@ module _ (doc : Doc) (near far a e n : ℕ) (sound : IsSound doc) (calm : IsCalm
       comes : o.e.beat + reply_delay q.process (with_events doc o.e.beat) ≡ x.beat
       comes =
           some_is (o.e.beat + reply_delay q.process (with_events doc o.e.beat)) x.beat
-          (sym (reply_passes doc near far q.process o.e.beat o.low passes (forces_stand doc sound.2 (suc n) o.e o.low answering (omega (arith, o.step)))
+          (sym (reply_passes doc near far q.process o.e.beat o.low passes (forces_stand doc rules (suc n) o.e o.low answering (omega (arith, o.step)))
           (steady.passes (o.e.beat + reply_delay q.process (with_events doc o.e.beat)) (omega (arith, from)) (omega (arith, passes.reply_most, answered, room))).awake)
           ∙ o.comes_is)
 

@@ -11,7 +11,7 @@ use Rattle.kube_objects.specs.Identities.{is_by}
 use Rattle.kube_objects.specs.Newest.{has}
 use Rattle.kube_objects.specs.Pauses.{is_paused, can_at}
 use Rattle.kube_objects.specs.Process.{alive, starts, is_present}
-use Rattle.kube_objects.specs.Own.{IsOwn}
+use Rattle.kube_objects.specs.Own.{ReleasesByStop}
 use Rattle.lease_laws.proofs.Claims.{term_of}
 use Rattle.kube_objects.proofs.Clocks.{local_up}
 use Rattle.history.specs.History.{history, at_turn}
@@ -39,7 +39,7 @@ SucceedsBy doc n q last =
     (x : Entry) (T : List Entry) (w : Call) (reply : Reply) → IsTail (x ∷ T) (history doc (suc n)) → x.step ≡ 3 → x.actor ≡ actor_of q → x.fact ≡ Delivers w reply true → succeeds w.request reply ≡ true → x.beat ≤ last
 
 -- last is the beat by which they come, and by beat settled the clock has gone a retry period and a renew deadline since
-module _ (doc : Doc) (rules : IsOwn doc) (a e n : ℕ) (end : e ≤ end_beat doc) (within : n ≤ e) (q : Identity) (role : is_controller doc q.process ≡ true) (awake : (k : ℕ) → a ≤ k → k ≤ e → is_paused doc q.process k ≡ false)
+module _ (doc : Doc) (rules : ReleasesByStop doc) (a e n : ℕ) (end : e ≤ end_beat doc) (within : n ≤ e) (q : Identity) (role : is_controller doc q.process ≡ true) (awake : (k : ℕ) → a ≤ k → k ≤ e → is_paused doc q.process k ≡ false)
     (last settled : ℕ) (from : a ≤ last) (early : last < settled) (room : settled ≤ n)
     (reached : local doc q.process last + (retry_period doc q.process + renew_deadline doc q.process) ≤ local doc q.process settled) (success_by : SucceedsBy doc n q last) where
   abbrev bound : ℕ

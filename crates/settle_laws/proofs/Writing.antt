@@ -11,10 +11,11 @@ use Rattle.kube_objects.specs.declared.object.Object.{Object}
 use Rattle.kube_objects.specs.declared.object.Object.TheVariants as object
 use Rattle.kube_objects.specs.Answers.{answer, written, if_done}
 use Rattle.kube_objects.specs.Document.{Doc, end_beat, is_controller, lease_duration}
-use Rattle.kube_objects.specs.Entry.{Entry, Identity, Call, Sends, actor_of}
+use Rattle.kube_objects.specs.Entry.{Entry, Identity, Call, CallKind, Sends, actor_of}
 use Rattle.kube_objects.specs.Identities.{of_process}
 use Rattle.kube_objects.specs.Keys.{key_eq}
 use Rattle.kube_objects.specs.Newest.{when, has}
+use Rattle.kube_objects.specs.Own.{ReleasesByStop}
 use Rattle.kube_objects.specs.Stored.{election, key_of, request_write, at_key, write_of, stored}
 use Rattle.kube_objects.specs.Wire.{request_arrival, request_delay}
 use Rattle.history.specs.History.{history}
@@ -23,7 +24,7 @@ use Rattle.history_laws.specs.Tails.{In, IsTail}
 use Rattle.history_laws.proofs.Order.{entries_are_earlier}
 use Rattle.history_laws.proofs.Plainly.{some_is, none_is}
 use Rattle.history_laws.proofs.Tailed.{tail_all, tail_trans, in_tail, later_tail}
-use Rattle.lease_laws.proofs.Invariant.{View, Fit, FitRequest, view}
+use Rattle.lease_laws.proofs.Invariant.{Fit, FitRequest}
 use Rattle.call_laws.specs.Answering.{with_events}
 use Rattle.call_laws.proofs.Above.{next_above, in_head, place_of}
 use Rattle.call_laws.proofs.Once.{due_at}
@@ -43,35 +44,35 @@ use Rattle.settle_laws.proofs.Successes.{asked_of}
 
 -- ---- what a controller writes lasts for its lease duration, or is nobody's
 
-lease_lasts : (doc : Doc) (p : ℕ) (v : View) (q : Identity) (lease : Lease) (time : ℕ) → lease_duration doc p ≤ time → lease_duration doc q.process ≤ time → Fit doc v q lease → LastsFor doc p time (Some (object.Lease lease))
-lease_lasts doc p v q lease time mine le (inl own) = inr (omega (arith, blocked_time doc p q.process lease own.1, blocked_most doc p q.process time mine le))
-lease_lasts doc p v q lease time mine le (inr free) = inl free.0
+lease_lasts : (doc : Doc) (p : ℕ) (kind : CallKind) (q : Identity) (lease : Lease) (time : ℕ) → lease_duration doc p ≤ time → lease_duration doc q.process ≤ time → Fit doc kind q lease → LastsFor doc p time (Some (object.Lease lease))
+lease_lasts doc p kind q lease time mine le (inl own) = inr (omega (arith, blocked_time doc p q.process lease own.1, blocked_most doc p q.process time mine le))
+lease_lasts doc p kind q lease time mine le (inr free) = inl free.0
 
-done_lasts : (doc : Doc) (p : ℕ) (v : View) (q : Identity) (lease : Lease) (time : ℕ) (reply : Reply) (r : Request) (o : Option Object) → lease_duration doc p ≤ time → lease_duration doc q.process ≤ time → Fit doc v q lease
+done_lasts : (doc : Doc) (p : ℕ) (kind : CallKind) (q : Identity) (lease : Lease) (time : ℕ) (reply : Reply) (r : Request) (o : Option Object) → lease_duration doc p ≤ time → lease_duration doc q.process ≤ time → Fit doc kind q lease
     → at_key election (request_write r (if_done reply (object.Lease lease))) ≡ Some o → LastsFor doc p time o
-done_lasts doc p v q lease time (Done version) r o mine le fit is = subst (LastsFor doc p time) (by_key (key_eq (key_of r) election) is) (lease_lasts doc p v q lease time mine le fit)
+done_lasts doc p kind q lease time (Done version) r o mine le fit is = subst (LastsFor doc p time) (by_key (key_eq (key_of r) election) is) (lease_lasts doc p kind q lease time mine le fit)
   where
     by_key : (b : Bool) → when b (Some (object.Lease lease)) ≡ Some o → Some (object.Lease lease) ≡ o
     by_key true is = some_is (Some (object.Lease lease)) o is
     by_key false is = absurd (none_is o is)
-done_lasts doc p v q lease time Absent r o mine le fit is = absurd (none_is o is)
-done_lasts doc p v q lease time (Found version l) r o mine le fit is = absurd (none_is o is)
-done_lasts doc p v q lease time Exists r o mine le fit is = absurd (none_is o is)
-done_lasts doc p v q lease time (Conflict version) r o mine le fit is = absurd (none_is o is)
-done_lasts doc p v q lease time Unchanged r o mine le fit is = absurd (none_is o is)
+done_lasts doc p kind q lease time Absent r o mine le fit is = absurd (none_is o is)
+done_lasts doc p kind q lease time (Found version l) r o mine le fit is = absurd (none_is o is)
+done_lasts doc p kind q lease time Exists r o mine le fit is = absurd (none_is o is)
+done_lasts doc p kind q lease time (Conflict version) r o mine le fit is = absurd (none_is o is)
+done_lasts doc p kind q lease time Unchanged r o mine le fit is = absurd (none_is o is)
 
-written_lasts : (doc : Doc) (p : ℕ) (v : View) (q : Identity) (time : ℕ) (r : Request) (h : List Entry) (o : Option Object) → lease_duration doc p ≤ time → lease_duration doc q.process ≤ time → FitRequest doc v q r
+written_lasts : (doc : Doc) (p : ℕ) (kind : CallKind) (q : Identity) (time : ℕ) (r : Request) (h : List Entry) (o : Option Object) → lease_duration doc p ≤ time → lease_duration doc q.process ≤ time → FitRequest doc kind q r
     → at_key election (request_write r (written r h)) ≡ Some o → LastsFor doc p time o
-written_lasts doc p v q time (Get key) h o mine le fit is = absurd (none_is o is)
-written_lasts doc p v q time (Create key lease) h o mine le fit is = done_lasts doc p v q lease time (answer (Create key lease) h) (Create key lease) o mine le fit is
-written_lasts doc p v q time (Update key given lease) h o mine le fit is = done_lasts doc p v q lease time (answer (Update key given lease) h) (Update key given lease) o mine le fit is
-written_lasts doc p v q time (PostStatus name status at) h o mine le fit is = by_written (written (PostStatus name status at) h) is
+written_lasts doc p kind q time (Get key) h o mine le fit is = absurd (none_is o is)
+written_lasts doc p kind q time (Create key lease) h o mine le fit is = done_lasts doc p kind q lease time (answer (Create key lease) h) (Create key lease) o mine le fit is
+written_lasts doc p kind q time (Update key given lease) h o mine le fit is = done_lasts doc p kind q lease time (answer (Update key given lease) h) (Update key given lease) o mine le fit is
+written_lasts doc p kind q time (PostStatus name status at) h o mine le fit is = by_written (written (PostStatus name status at) h) is
   where
     by_written : (w : Option Object) → at_key election (request_write (PostStatus name status at) w) ≡ Some o → LastsFor doc p time o
     by_written None is = absurd (none_is o is)
     by_written (Some x) is = absurd (none_is o is)
 
-module _ (doc : Doc) (near far a e n : ℕ) (sound : IsSound doc) (calm : IsCalm doc near far a e) (time : AreInTime doc near far a e) (one : 1 ≤ near) (ways : near ≤ far) (end : e ≤ end_beat doc) (within : n ≤ e) where
+module _ (doc : Doc) (near far a e n : ℕ) (sound : IsSound doc) (rules : ReleasesByStop doc) (calm : IsCalm doc near far a e) (time : AreInTime doc near far a e) (one : 1 ≤ near) (ways : near ≤ far) (end : e ≤ end_beat doc) (within : n ≤ e) where
   -- ---- a controller's write
 
   module _ (x : Entry) (T : List Entry) (at : IsTail (x ∷ T) (history doc (suc n))) (w : IsWritten doc x T) where
@@ -94,7 +95,7 @@ module _ (doc : Doc) (near far a e n : ℕ) (sound : IsSound doc) (calm : IsCalm
     facts = sends_of f.actor f.fact w.made.s w.made.arriving.is
 
     travels : (w.made.s.call.sent ≡ f.beat) × (w.made.s.arrives ≡ request_arrival doc who.process f.beat low)
-    travels = subst (λ o. IfSome o (λ s. (s.call.sent ≡ f.beat) × (s.arrives ≡ request_arrival doc s.who.process f.beat low))) w.made.arriving.is (messages_travel doc sound.2 (suc n) f low asked_at).0
+    travels = subst (λ o. IfSome o (λ s. (s.call.sent ≡ f.beat) × (s.arrives ≡ request_arrival doc s.who.process f.beat low))) w.made.arriving.is (messages_travel doc rules (suc n) f low asked_at).0
 
     sent : w.call.sent ≡ f.beat
     sent = ap (λ (c : Call). c.sent) w.made.call_is ∙ travels.0
@@ -145,21 +146,21 @@ module _ (doc : Doc) (near far a e n : ℕ) (sound : IsSound doc) (calm : IsCalm
 
         step : 2 ≤ f.step
         step =
-            let s = sending_of doc sound.2 near far a e n who w.role (is_steady since) (time who.process w.role (is_steady since)) within one w.made.s.call w.made.s.arrives f low asked_at facts.0 facts.1 (omega (arith, travels.0, sent, since)) in
+            let s = sending_of doc rules near far a e n who w.role (is_steady since) (time who.process w.role (is_steady since)) within one w.made.s.call w.made.s.arrives f low asked_at facts.0 facts.1 (omega (arith, travels.0, sent, since)) in
             let least : 3 ≤ f.step = subst (λ (f : Entry). 3 ≤ f.step) s.1 s.0.step in
             omega (arith, least)
 
         beat_is : x.beat ≡ f.beat + request_delay who.process (with_events doc f.beat)
         beat_is =
-            request_comes doc sound.2 near far who.process f.beat low passes (forces_stand doc sound.2 (suc n) f low asked_at step) x.beat
+            request_comes doc rules near far who.process f.beat low passes (forces_stand doc rules (suc n) f low asked_at step) x.beat
             (λ j low high. ((is_steady since).passes j (omega (arith, sent, since, low)) (omega (arith, high, x_by, within))).goes) (sym travels.1 ∙ arrives)
 
     -- what it leaves lasts for no longer than the longest lease duration
     pub leaves : (most : ℕ) → AllLastFor doc near far a e most → (p : ℕ) → lease_duration doc p ≤ most → a ≤ w.call.sent → LastsFor doc p most (object_of (stored election (x ∷ T)))
     leaves most all p mine since =
         subst (LastsFor doc p most) (sym (stored_as x T w.object (ap (λ d. at_key election (write_of d)) w.fact ∙ w.is)))
-        (written_lasts doc p (view (history doc (suc n))) who most w.made.s.call.request T w.object mine (all who.process w.role (is_steady since))
-        (asked_of doc sound n (omega (arith, within, end)) who w.role f low w.made.s.call w.made.s.arrives asked_at facts.0 facts.1).fit
+        (written_lasts doc p w.made.s.call.kind who most w.made.s.call.request T w.object mine (all who.process w.role (is_steady since))
+        (asked_of doc sound rules n (omega (arith, within, end)) who w.role f low w.made.s.call w.made.s.arrives asked_at facts.0 facts.1).fit
         (subst (λ (c : Call). at_key election (request_write c.request (written w.made.s.call.request T)) ≡ Some w.object) w.made.call_is (subst (λ o. at_key election (request_write w.call.request o) ≡ Some w.object) w.made.written_is w.is)))
 
   -- ---- what is stored
@@ -184,7 +185,7 @@ module _ (doc : Doc) (near far a e n : ℕ) (sound : IsSound doc) (calm : IsCalm
         let position = tail_trans (x ∷ T) (history doc (suc m)) (history doc (suc n)) at (later_tail doc (suc m) (suc n) (omega (arith, late))) in
         let beat : settled + far ≤ x.beat = (next_above (λ y. settled + far ≤ y.beat) (history doc (settled + far)) T (history doc (suc m)) x (from_beat doc (settled + far) (suc m) (omega (arith, from))) low at).0 in
         let upto : x.beat < suc m = ⊎_elim (λ lt. lt) (λ first. omega (arith, first.0)) (entries_are_earlier doc (suc m) x (in_head x T (history doc (suc m)) at)) in
-        same x T position beat (omega (arith, upto, late)) (change_of doc sound n (omega (arith, within, end)) x T position)
+        same x T position beat (omega (arith, upto, late)) (change_of doc sound rules n (omega (arith, within, end)) x T position)
         ∙ stays m from late T low (tail_trans T (x ∷ T) (history doc (suc m)) (inr (tail_all T)) at)
 
     pub kept : IsKept doc far settled n
@@ -213,7 +214,7 @@ module _ (doc : Doc) (near far a e n : ℕ) (sound : IsSound doc) (calm : IsCalm
       first [] at = inl refl
       first (x ∷ T) at =
           let there = into (a + far) (omega (arith, ordered)) (x ∷ T) at in
-          first_more x T there (first T (tail_trans T (x ∷ T) (history doc (a + far)) (inr (tail_all T)) at)) (change_of doc sound n (omega (arith, within, end)) x T there)
+          first_more x T there (first T (tail_trans T (x ∷ T) (history doc (a + far)) (inr (tail_all T)) at)) (change_of doc sound rules n (omega (arith, within, end)) x T there)
 
       begins : Lasts (history doc (a + far))
       begins = ⊎_elim (λ s. subst (LastsFor doc p most) (sym s) early) (λ l. l) (first (history doc (a + far)) (tail_all (history doc (a + far))))
@@ -229,7 +230,7 @@ module _ (doc : Doc) (near far a e n : ℕ) (sound : IsSound doc) (calm : IsCalm
       goes_on (x ∷ T) (inr low) at =
           let there = into (settled + far) (omega arith) (x ∷ T) at in
           let beat : a + far ≤ x.beat = (next_above (λ y. a + far ≤ y.beat) (history doc (a + far)) T (history doc (settled + far)) x (from_beat doc (a + far) (settled + far) (omega (arith, ordered))) low at).0 in
-          then_more x T there beat (goes_on T low (tail_trans T (x ∷ T) (history doc (settled + far)) (inr (tail_all T)) at)) (change_of doc sound n (omega (arith, within, end)) x T there)
+          then_more x T there beat (goes_on T low (tail_trans T (x ∷ T) (history doc (settled + far)) (inr (tail_all T)) at)) (change_of doc sound rules n (omega (arith, within, end)) x T there)
 
       pub lasts : LastsFor doc p most (object_of (stored election (history doc (settled + far))))
       lasts = goes_on (history doc (settled + far)) (later_tail doc (a + far) (settled + far) (omega (arith, ordered))) (tail_all (history doc (settled + far)))

@@ -3,6 +3,7 @@ use Rattle.std.specs.Int.{div_ceil}
 use Rattle.std.specs.Prelude.{◌≡◌, ◌≤◌, ℕ, ◌+◌, ◌-◌, ◌*◌, ◌/◌, max, true}
 use Rattle.kube_objects.specs.Document.{Doc, end_beat, is_controller, lease_duration, call_timeout, retry_period, renew_deadline}
 use Rattle.kube_objects.specs.Entry.{Identity}
+use Rattle.kube_objects.specs.Own.{ReleasesByStop}
 use Rattle.history.specs.History.{history}
 use Rattle.history.specs.Sound.{IsSound}
 use Rattle.span_laws.specs.Looks.{IsGreatest}
@@ -47,7 +48,7 @@ pub record IsSettled (doc : Doc) (near far a e n : ℕ) : Type 0 where
 -- look, and two the write and its reply. The candidate is up after a turn at which the terms of before are over
 abbrev pub CalmSpansSettle : Type 0
 CalmSpansSettle =
-    (doc : Doc) (near far a e : ℕ) → IsSound doc → IsCalm doc near far a e → AreInTime doc near far a e → 1 ≤ near → near ≤ far → e ≤ end_beat doc → AreRenewed doc near far a e
+    (doc : Doc) (near far a e : ℕ) → IsSound doc → ReleasesByStop doc → IsCalm doc near far a e → AreInTime doc near far a e → 1 ≤ near → near ≤ far → e ≤ end_beat doc → AreRenewed doc near far a e
     → (old : ℕ) → AllEndBy doc near far a e old
     → (p later slow fast lost wait needed : ℕ) → IsCandidate doc near far a e p later slow fast → AreBeats doc p slow fast lost wait needed → old ≤ later
     → (first : ℕ) → later ≤ first → lost + wait ≤ first → (old + 4 * far - 1) + wait ≤ first
@@ -75,7 +76,7 @@ AllEndInBeats doc near far a e old = (p : ℕ) → is_controller doc p ≡ true 
 
 abbrev pub Settles : Doc → Type 0
 Settles doc =
-    (near far a e : ℕ) → IsSound doc → IsCalm doc near far a e → AreInTime doc near far a e → 1 ≤ near → near ≤ far → e ≤ end_beat doc → AreRenewed doc near far a e
+    (near far a e : ℕ) → IsSound doc → ReleasesByStop doc → IsCalm doc near far a e → AreInTime doc near far a e → 1 ≤ near → near ≤ far → e ≤ end_beat doc → AreRenewed doc near far a e
     → (old : ℕ) → AllEndInBeats doc near far a e old
     → (p later slow fast : ℕ) → IsCandidate doc near far a e p later slow fast → 1 ≤ slow → 1 ≤ fast → old ≤ later
     → (time : ℕ) → LastsFor doc p time (early_record a (history doc (a + far))) → AllLastFor doc near far a e time

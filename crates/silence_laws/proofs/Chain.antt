@@ -16,7 +16,7 @@ use Rattle.kube_objects.specs.Identities.{is_by, of_process}
 use Rattle.kube_objects.specs.Newest.{when, only_if, has}
 use Rattle.kube_objects.specs.Process.{alive, open_as, call_in}
 use Rattle.kube_objects.specs.Stored.{Held, election, stored}
-use Rattle.kube_objects.specs.Own.{IsOwn}
+use Rattle.kube_objects.specs.Own.{ReleasesByStop}
 use Rattle.history.specs.History.{history}
 use Rattle.history.specs.Safe.{Acts}
 use Rattle.history_laws.specs.Tails.{In, IsTail}
@@ -24,6 +24,7 @@ use Rattle.history_laws.proofs.Plainly.{none_is, false_is, same_self}
 use Rattle.history_laws.proofs.Tailed.{tail_all, tail_trans, in_tail, tails_meet, later_tail, same_head}
 use Rattle.span_laws.specs.Spans.{RunsAtLeast, RunsAtMost, IsEnough, IsNeeded}
 use Rattle.span_laws.proofs.Spans.{readings_grow, readings_last}
+use Rattle.lease_laws.proofs.Invariant.{gives_up}
 use Rattle.call_laws.specs.Waiting.{Closes, IsClosed}
 use Rattle.call_laws.proofs.Above.{in_head}
 use Rattle.call_laws.proofs.Making.{MadeAs, MadeSend, HasStopped, IsOpen, are_made}
@@ -40,6 +41,7 @@ use Rattle.takeover_laws.proofs.Writers.{since_low}
 use Rattle.calm_laws.proofs.Begun.{by_is}
 use Rattle.calm_laws.proofs.Life.{up_between}
 use Rattle.calm_laws.proofs.Origins.{Origin, origin}
+use Rattle.stay_laws.proofs.Giving.{gives_at_stop}
 use Rattle.silence_laws.proofs.Kept.{Kept, kept_of}
 use Rattle.silence_laws.proofs.Stepping.{low, quiet_low, IsReached, first_gets}
 use Rattle.silence_laws.proofs.Waiting.{history_below, beats_rise, one_sending, counted_after, says_done, never_expires}
@@ -55,7 +57,7 @@ none_some : {A : Type 0} (x : A) → None ≡ Some x → ⊥
 none_some x is = cc
 
 -- what a controller sends that isn't stopped waits for a reply
-pub opens_of : (doc : Doc) → IsOwn doc → (n : ℕ) (q : Identity) → is_controller doc q.process ≡ true → ((x : Entry) → In x (history doc (suc n)) → x.fact ≡ Stops → has (of_process q.process x.actor) ≡ true → ⊥)
+pub opens_of : (doc : Doc) → ReleasesByStop doc → (n : ℕ) (q : Identity) → is_controller doc q.process ≡ true → ((x : Entry) → In x (history doc (suc n)) → x.fact ≡ Stops → has (of_process q.process x.actor) ≡ true → ⊥)
     → (x : Entry) (T : List Entry) (call : Call) (arrives : Option ℕ) → IsTail (x ∷ T) (history doc (suc n)) → x.actor ≡ actor_of q → x.fact ≡ Sends call arrives → open_as call.kind call ≡ Some call
 opens_of doc rules n q role unstopped x T call arrives at actor fact = by_free (made.free role_made)
   where
@@ -74,7 +76,17 @@ opens_of doc rules n q role unstopped x T call arrives at actor fact = by_free (
         absurd (unstopped (entry x.beat 1 made.q Stops) (in_tail (entry x.beat 1 made.q Stops) T (history doc (suc n)) (tail_trans T (x ∷ T) (history doc (suc n)) (inr (tail_all T)) at) (subst (In (entry x.beat 1 made.q Stops)) (sym stopped.is) (inl refl))) refl
         (ap (λ b. has (when b made.q.incarnation)) (eq-eqb made.q.process q.process (ap (λ (p : Identity). p.process) mine))))
 
-module _ (doc : Doc) (rules : IsOwn doc) (near far e : ℕ) (one : 1 ≤ near) (ways : near ≤ far) (c : Identity) (role : is_controller doc c.process ≡ true) (steady : IsSteady doc near far 0 e c.process) (time : IsInTime doc far 0 e c.process)
+-- and gives up no Lease
+pub never_gives : (doc : Doc) → ReleasesByStop doc → (n : ℕ) (q : Identity) → is_controller doc q.process ≡ true
+    → ((x : Entry) → In x (history doc (suc n)) → x.fact ≡ Stops → has (of_process q.process x.actor) ≡ true → ⊥)
+    → (x : Entry) (T : List Entry) (call : Call) (arrives : Option ℕ) → IsTail (x ∷ T) (history doc (suc n)) → x.actor ≡ actor_of q → x.fact ≡ Sends call arrives
+    → gives_up call.kind ≡ true → ⊥
+never_gives doc rules n q role unstopped x T call arrives at actor fact gives =
+    let s = gives_at_stop doc rules (suc n) q role x T call arrives at actor fact gives in
+    let stop : Entry = entry x.beat 1 q Stops in
+    unstopped stop (in_tail stop (x ∷ T) (history doc (suc n)) at (inr (subst (In stop) (sym s.1) (inl refl)))) refl (ap (λ b. has (when b q.incarnation)) (eq-eqb q.process q.process refl))
+
+module _ (doc : Doc) (rules : ReleasesByStop doc) (near far e : ℕ) (one : 1 ≤ near) (ways : near ≤ far) (c : Identity) (role : is_controller doc c.process ≡ true) (steady : IsSteady doc near far 0 e c.process) (time : IsInTime doc far 0 e c.process)
     (T : List Entry) (at : IsTail T (history doc (suc e))) (y : Held) (is : stored election T ≡ Some y) (lease : Lease) (object_is : y.object ≡ object.Lease lease) where
   abbrev pub record_kept : Kept T y
   record_kept = kept_of T y is

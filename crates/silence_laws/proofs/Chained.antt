@@ -12,6 +12,7 @@ use Rattle.kube_objects.specs.Elector.{Fails, Asks, moment, updated, respected, 
 use Rattle.kube_objects.specs.Entry.{Entry, Identity, Call, Fact, Delivers, actor_of, entry}
 use Rattle.kube_objects.specs.Identities.{is_other}
 use Rattle.kube_objects.specs.Newest.{only_if, or_zero}
+use Rattle.kube_objects.specs.Own.{ReleasesByStop}
 use Rattle.kube_objects.specs.Process.{alive}
 use Rattle.kube_objects.specs.Stored.{Held, election, stored}
 use Rattle.history.specs.History.{history}
@@ -40,19 +41,19 @@ use Rattle.silence_laws.proofs.Ways.{IsWay, reply_way}
 entry_is : (x : Entry) (step : ℕ) (q : Identity) (d : Fact) → x.step ≡ step → x.actor ≡ actor_of q → x.fact ≡ d → x ≡ entry x.beat step q d
 entry_is x step q d at by is = λ i. record { beat = x.beat; step = at i; actor = by i; fact = is i }
 
-module _ (doc : Doc) (near far e : ℕ) (sound : IsSound doc) (end : e ≤ end_beat doc) (one : 1 ≤ near) (ways : near ≤ far) (c : Identity) (role : is_controller doc c.process ≡ true) (steady : IsSteady doc near far 0 e c.process) (time : IsInTime doc far 0 e c.process)
+module _ (doc : Doc) (near far e : ℕ) (sound : IsSound doc) (rules : ReleasesByStop doc) (end : e ≤ end_beat doc) (one : 1 ≤ near) (ways : near ≤ far) (c : Identity) (role : is_controller doc c.process ≡ true) (steady : IsSteady doc near far 0 e c.process) (time : IsInTime doc far 0 e c.process)
     (T : List Entry) (at : IsTail T (history doc (suc e))) (y : Held) (is : stored election T ≡ Some y) (lease : Lease) (object_is : y.object ≡ object.Lease lease) (foreign : y.by ≡ Some c → ⊥) (other : is_other c lease.holder ≡ true)
     (n : ℕ) (within : n ≤ e) (unled : (h : List Entry) → IsTail h (history doc (suc n)) → leads c h ≡ false) (idle : (j : ℕ) → j ≤ n → Acts doc c j → ⊥) (alive_n : alive c.process (history doc (suc n)) ≡ Some c.incarnation)
     (slow fast wait needed : ℕ) (runs_least : RunsAtLeast doc c.process 0 e slow) (runs_most : RunsAtMost doc c.process 0 e fast) (some : 1 ≤ wait)
     (wait_is : IsEnough slow (longest_wait doc c.process) wait) (needed_is : IsNeeded fast (shortest_wait doc c.process) needed) (lasting : ℕ) (lasting_is : IsNeeded fast (respected_time doc c.process lease) lasting) where
   abbrev pub Looks : ℕ → List Entry → Type 0
-  Looks r S = Look doc sound.2 near far e one ways c role steady time T at y is lease object_is r S
+  Looks r S = Look doc rules near far e one ways c role steady time T at y is lease object_is r S
 
   abbrev pub at_look : ℕ → Call → List Entry → List Entry
-  at_look r w S = looked doc sound.2 near far e one ways c role steady time T at y is lease object_is r w S
+  at_look r w S = looked doc rules near far e one ways c role steady time T at y is lease object_is r w S
 
   abbrev kept : Kept T y
-  kept = record_kept doc sound.2 near far e one ways c role steady time T at y is lease object_is
+  kept = record_kept doc rules near far e one ways c role steady time T at y is lease object_is
 
   near_step : ℕ
   near_step = needed + 2 * near
@@ -101,7 +102,7 @@ module _ (doc : Doc) (near far e : ℕ) (sound : IsSound doc) (end : e ≤ end_b
           (sym (ap (λ b. b && nat_lt (local doc c.process r) (local doc c.process o + respected_time doc c.process lease)) other) ∙ sym (blocked_is doc c.process c (local doc c.process r) (local doc c.process o) lease) ∙ free)
 
       enough : lasting ≤ r - o
-      enough = omega (arith, readings_last doc c.process 0 e fast (respected_time doc c.process lease) lasting runs_most lasting_is o r (omega arith) later (beats_in doc sound.2 near far e one ways c role steady time T at y is lease object_is _ S look.position) over)
+      enough = omega (arith, readings_last doc c.process 0 e fast (respected_time doc c.process lease) lasting runs_most lasting_is o r (omega arith) later (beats_in doc rules near far e one ways c role steady time T at y is lease object_is _ S look.position) over)
 
       counted : (steps : ℕ) → IsNeeded (wait + 2 * far) lasting steps → steps * (needed + 2 * near) ≤ r - o
       counted steps steps_is =
@@ -136,11 +137,11 @@ module _ (doc : Doc) (near far e : ℕ) (sound : IsSound doc) (end : e ≤ end_b
       at_b : IsTail (b.x ∷ b.before) T
       at_b = tail_trans (b.x ∷ b.before) S T b.position high
 
-      it : ShowsIt doc near far e sound end c role T at y is lease object_is foreign t.w t.reply b.before b.x.beat
-      it = shows_it doc near far e sound end c role T at y is lease object_is foreign b.x b.before at_b s t same
+      it : ShowsIt doc near far e sound rules end c role T at y is lease object_is foreign t.w t.reply b.before b.x.beat
+      it = shows_it doc near far e sound rules end c role T at y is lease object_is foreign b.x b.before at_b s t same
 
       made : MadeDelivery doc b.x.beat b.x.step b.x.actor t.w t.reply b.before
-      made = subst (λ d. MadeAs doc b.x.beat b.x.step b.x.actor d b.before) t.fact (are_made doc sound.2 (suc e) b.x b.before (tail_trans (b.x ∷ b.before) T (history doc (suc e)) at_b at))
+      made = subst (λ d. MadeAs doc b.x.beat b.x.step b.x.actor d b.before) t.fact (are_made doc rules (suc e) b.x b.before (tail_trans (b.x ∷ b.before) T (history doc (suc e)) at_b at))
 
       tail_is : b.x ∷ b.before ≡ at_look b.x.beat t.w b.before
       tail_is = ap (λ x. x ∷ b.before) (entry_is b.x 3 c (Delivers t.w (Found y.version lease) true) made.step_is t.actor (t.fact ∙ ap (λ reply. Delivers t.w reply true) it.reply_is))
@@ -168,7 +169,7 @@ module _ (doc : Doc) (near far e : ℕ) (sound : IsSound doc) (end : e ≤ end_b
       given = beats_rise doc e look.o.e look.o.low S_e kept.z kept.before look.since
 
       way : IsWay near far look.o.e.beat r
-      way = reply_way doc sound.2 near far e c role steady look.o.e look.o.low S_e look.o.step r (beats_in doc sound.2 near far e one ways c role steady time T at y is lease object_is (entry r 3 c (Delivers look.w (Found y.version lease) true)) S look.position) look.o.comes_is
+      way = reply_way doc rules near far e c role steady look.o.e look.o.low S_e look.o.step r (beats_in doc rules near far e one ways c role steady time T at y is lease object_is (entry r 3 c (Delivers look.w (Found y.version lease) true)) S look.position) look.o.comes_is
 
   chain : (fuel r : ℕ) (S : List Entry) (look : Looks r S) → length S < fuel → r ≤ suc n → Outcome r S look
   chain zero r S look le to = absurd (omega (arith, le))
@@ -211,9 +212,9 @@ module _ (doc : Doc) (near far e : ℕ) (sound : IsSound doc) (end : e ≤ end_b
           by_test false free s = inr (later (over_at b.r b.low b.look s free))
           by_test true blocks s = inl (record { i = suc s.i; least = omega (arith, s.least, one_step.least); most = omega (arith, s.most, one_step.most) })
             where
-              one_step : IsStep doc sound.2 near far e one ways c role steady time T at y is lease object_is n within unled idle alive_n slow fast wait needed runs_least runs_most some wait_is needed_is b.r r
+              one_step : IsStep doc rules near far e one ways c role steady time T at y is lease object_is n within unled idle alive_n slow fast wait needed runs_least runs_most some wait_is needed_is b.r r
               one_step =
-                  step doc sound.2 near far e one ways c role steady time T at y is lease object_is n within unled idle alive_n slow fast wait needed runs_least runs_most some wait_is needed_is b.r r b.low S b.look look to b.below b.none
+                  step doc rules near far e one ways c role steady time T at y is lease object_is n within unled idle alive_n slow fast wait needed runs_least runs_most some wait_is needed_is b.r r b.low S b.look look to b.below b.none
                   (follows ∙ ap (λ t. cond t Fails (Asks (Update election y.version (updated c (moment doc c b.r) lease)))) blocks)
 
           by_past : Steps o b.r ⊎ Lasts (b.r - o) → Steps o r ⊎ Lasts (r - o)

@@ -124,8 +124,8 @@ module _ (doc : Doc) (near far b e : ℕ) (q : Identity) (l : LeadsUntil doc nea
   g_e : IsTail (g ∷ G) (history doc (suc e))
   g_e = tail_trans (g ∷ G) L.S (history doc (suc e)) L.look.o.begun.position S_e
 
-  trip : Went doc s.sound.2 near far e p won.role passing g.beat L.look.o.e.beat d
-  trip = went doc s.sound.2 near far e p won.role passing L.look.w (Found mine.y.version mine.lease) L.S d L.look.o S_e d_e
+  trip : Went doc s.rules near far e p won.role passing g.beat L.look.o.e.beat d
+  trip = went doc s.rules near far e p won.role passing L.look.w (Found mine.y.version mine.lease) L.S d L.look.o S_e d_e
 
   g_n : suc g.beat ≤ n
   g_n = omega (arith, trip.request.least, trip.reply.least, s.one, d_is)
@@ -134,13 +134,13 @@ module _ (doc : Doc) (near far b e : ℕ) (q : Identity) (l : LeadsUntil doc nea
   G_n = tail_trans G (g ∷ G) (history doc n) (inr (tail_all G)) (tail_trans (g ∷ G) (history doc (suc g.beat)) (history doc n) (in_own_beat doc (suc e) g G g_e) (later_tail doc (suc g.beat) n g_n))
 
   up_G : alive p.process G ≡ Some p.incarnation
-  up_G = (sent_freely doc s.sound.2 (suc e) p won.role g G L.look.w L.look.o.begun.arrives g_e L.look.o.begun.actor L.look.o.begun.fact L.look.o.begun.opens).up
+  up_G = (sent_freely doc s.rules (suc e) p won.role g G L.look.w L.look.o.begun.arrives g_e L.look.o.begun.actor L.look.o.begun.fact L.look.o.begun.opens).up
 
   up_S : alive p.process L.S ≡ Some p.incarnation
-  up_S = (counted_after doc s.sound.2 (suc e) p (entry d 3 p (Delivers L.look.w (Found mine.y.version mine.lease) true)) L.S L.look.w (Found mine.y.version mine.lease) heard_e refl refl).up
+  up_S = (counted_after doc s.rules (suc e) p (entry d 3 p (Delivers L.look.w (Found mine.y.version mine.lease) true)) L.S L.look.w (Found mine.y.version mine.lease) heard_e refl refl).up
 
   up : (h : List Entry) → IsTail G h → IsTail h L.S → alive p.process h ≡ Some p.incarnation
-  up h low high = up_between doc s.sound.2 (suc e) p G h L.S low high S_e up_G up_S
+  up h low high = up_between doc s.rules (suc e) p G h L.S low high S_e up_G up_S
 
   alive_n : alive p.process (history doc (suc n)) ≡ Some p.incarnation
   alive_n = up (history doc (suc n)) (tail_trans G (history doc n) (history doc (suc n)) G_n (later_tail doc n (suc n) (omega arith))) n_S
@@ -151,7 +151,7 @@ module _ (doc : Doc) (near far b e : ℕ) (q : Identity) (l : LeadsUntil doc nea
     told = entry j 3 p (Delivers hs.call (Done hs.version) true)
 
     o : Origin doc p hs.call (Done hs.version) hs.before j
-    o = origin doc s.sound.2 (suc j) p told hs.before hs.call (Done hs.version) hs.position refl refl
+    o = origin doc s.rules (suc j) p told hs.before hs.call (Done hs.version) hs.position refl refl
 
     told_low : IsTail (told ∷ hs.before) f.before
     told_low = tail_trans (told ∷ hs.before) (history doc (suc n)) f.before (tail_trans (told ∷ hs.before) (history doc (suc j)) (history doc (suc n)) hs.position (later_tail doc (suc j) (suc n) (omega (arith, to)))) (tail_trans (history doc (suc n)) L.S f.before n_S S_t)
@@ -163,13 +163,13 @@ module _ (doc : Doc) (near far b e : ℕ) (q : Identity) (l : LeadsUntil doc nea
     o_e = tail_trans (o.e ∷ o.low) f.before (history doc (suc e)) o_low (low_e doc near far b e q l s H H_e quiet f)
 
     back : IsWay near far o.e.beat j
-    back = reply_way doc s.sound.2 near far e p won.role passing o.e o.low o_e o.step j (omega (arith, to, n_e)) o.comes_is
+    back = reply_way doc s.rules near far e p won.role passing o.e o.low o_e o.step j (omega (arith, to, n_e)) o.comes_is
 
     wrote : has (at_key election (write_of o.e.fact)) ≡ true
     wrote =
         ap (λ d. has (at_key election (write_of d))) o.fact
         ∙ wrote_by hs.call.request o.low hs.version (success_is hs.call.request hs.version hs.success).write
-        (asks_election doc s.sound e s.end p won.role o.begun.f hs.call o.begun.arrives
+        (asks_election doc s.sound s.rules e s.end p won.role o.begun.f hs.call o.begun.arrives
         (in_head o.begun.f o.begun.before (history doc (suc e)) (tail_trans (o.begun.f ∷ o.begun.before) hs.before (history doc (suc e)) o.begun.position (tail_trans hs.before (told ∷ hs.before) (history doc (suc e)) (inr (tail_all hs.before)) (tail_trans (told ∷ hs.before) f.before (history doc (suc e)) told_low (low_e doc near far b e q l s H H_e quiet f))))) o.begun.actor o.begun.fact) (sym o.reply_is)
 
     -- one from the silence on was written after the leader's, where all writes are its own
@@ -196,7 +196,7 @@ module _ (doc : Doc) (near far b e : ℕ) (q : Identity) (l : LeadsUntil doc nea
   not_now acting = ⊎_elim by_success by_premise alone
     where
       by_success : OthersRenewBefore doc near far b q → ⊥
-      by_success renew = let led : HasLed doc p n = acting_led doc s.sound.2 p n acting in no_success renew led.j led.to led.success
+      by_success renew = let led : HasLed doc p n = acting_led doc s.rules p n acting in no_success renew led.j led.to led.success
 
       by_premise : lease_premise doc ≡ true → ⊥
       by_premise premise = rival doc near far b e q l s H H_e quiet f (same_holder p q mine.y.object held (subst (IsHeldBy q) (sym mine.object) mine.holder))
@@ -211,7 +211,7 @@ module _ (doc : Doc) (near far b e : ℕ) (q : Identity) (l : LeadsUntil doc nea
               (before_turn doc p.process n)
 
           held : IsHeldBy p mine.y.object
-          held = subst (IsStoredHolder p) (k.stays (at_turn doc p.process n) z_turn turn_high) (is_holder doc (premise_from doc premise) s.sound p n (omega (arith, n_e, s.end)) acting).0
+          held = subst (IsStoredHolder p) (k.stays (at_turn doc p.process n) z_turn turn_high) (is_holder doc (premise_from doc premise) s.sound s.rules p n (omega (arith, n_e, s.end)) acting).0
 
   -- nor does it end there
   steady_n : IsSteady doc near far n e p.process
@@ -226,7 +226,7 @@ module _ (doc : Doc) (near far b e : ℕ) (q : Identity) (l : LeadsUntil doc nea
       no_end x T at fact own same = none_is p.incarnation (sym down ∙ up (x ∷ T) (inr low) high)
         where
           made : MadeEnd doc x.beat x.step x.actor T
-          made = subst (λ d. MadeAs doc x.beat x.step x.actor d T) fact (are_made doc s.sound.2 (suc e) x T at)
+          made = subst (λ d. MadeAs doc x.beat x.step x.actor d T) fact (are_made doc s.rules (suc e) x T at)
 
           low : IsTail G T
           low = tail_trans G (history doc n) T G_n (not_before doc n (suc e) x T (omega (arith, n_e)) at (omega (arith, same)) (omega (arith, made.step_is)))
@@ -239,12 +239,12 @@ module _ (doc : Doc) (near far b e : ℕ) (q : Identity) (l : LeadsUntil doc nea
 
   unled : (h : List Entry) → IsTail h (history doc (suc n)) → leads p h ≡ false
   unled =
-      never_led doc s.sound.2 near far n e n p won.role (time doc near far b e q l s H H_e quiet f).deadline steady_n n_e
+      never_led doc s.rules near far n e n p won.role (time doc near far b e q l s H H_e quiet f).deadline steady_n n_e
       (λ j from to acting. let same : j ≡ n = omega (arith, from, to) in not_now (subst (Acts doc p) same acting)) (omega arith) alive_n
 
   idle : (j : ℕ) → j ≤ n → Acts doc p j → ⊥
   idle j to acting =
-      true_is (sym (turn_leads doc p p.process j (set (deadline doc p g0) (and_right (is_present (alive p.process g0) p.incarnation) (is_before (local doc p.process j) (deadline doc p g0)) (term_of doc s.sound.2 p j g0 acting.1))))
+      true_is (sym (turn_leads doc p p.process j (set (deadline doc p g0) (and_right (is_present (alive p.process g0) p.incarnation) (is_before (local doc p.process j) (deadline doc p g0)) (term_of doc s.rules p j g0 acting.1))))
       ∙ unled g0 (tail_trans g0 (history doc (suc j)) (history doc (suc n)) (turn_tail doc p.process j (omega (arith, controllers_first doc p.process won.role))) (later_tail doc (suc j) (suc n) (omega (arith, to)))))
     where
       g0 : List Entry
@@ -262,7 +262,7 @@ module _ (doc : Doc) (near far b e : ℕ) (q : Identity) (l : LeadsUntil doc nea
 
   way : IsWay near far d f.x.beat
   way =
-      request_way doc s.sound.2 near far e p won.role passing won.f won.low won.call f.x.beat asked won.f_actor won.f_fact (opens_of doc s.sound.2 e p won.role unstopped won.f won.low won.call (Some f.x.beat) asked won.f_actor won.f_fact)
+      request_way doc s.rules near far e p won.role passing won.f won.low won.call f.x.beat asked won.f_actor won.f_fact (opens_of doc s.rules e p won.role unstopped won.f won.low won.call (Some f.x.beat) asked won.f_actor won.f_fact)
       (λ j low high soon. l.goes j (omega (arith, high, beat_before doc e f.x f.before (tail_trans (f.x ∷ f.before) H (history doc (suc e)) f.position H_e))))
 
   pub taken_late : (least : ℕ) → TakesAtLeast doc near far e p.process (blocked_for doc p.process q.process) least → mine.y.beat + least + 2 * near ≤ f.x.beat
@@ -281,5 +281,5 @@ module _ (doc : Doc) (near far b e : ℕ) (q : Identity) (l : LeadsUntil doc nea
       free : is_blocked p (local doc p.process d) (observed_at doc p (entry d 3 p (Delivers L.look.w (Found mine.y.version mine.lease) true) ∷ L.S)) (respected doc.settings.rules.respect (lease_seconds doc p.process) mine.lease) ≡ false
       free = subst (λ h. is_blocked p (local doc p.process d) (observed_at doc p h) (respected doc.settings.rules.respect (lease_seconds doc p.process) mine.lease) ≡ false) L.low L.free
 
-      over : IsOver doc near far e s.sound s.end s.one s.ways p won.role passing (time doc near far b e q l s H H_e quiet f) f.before (low_e doc near far b e q l s H H_e quiet f) mine.y mine.top mine.lease mine.object (foreign doc near far b e q l s H H_e quiet f) (others doc near far b e q l s H H_e quiet f) n n_e unled idle alive_n t.slow t.fast t.wait t.needed t.runs_least t.runs_most some t.wait_is t.needed_is t.lasting lasting_is d
-      over = found_over doc near far e s.sound s.end s.one s.ways p won.role passing (time doc near far b e q l s H H_e quiet f) f.before (low_e doc near far b e q l s H H_e quiet f) mine.y mine.top mine.lease mine.object (foreign doc near far b e q l s H H_e quiet f) (others doc near far b e q l s H H_e quiet f) n n_e unled idle alive_n t.slow t.fast t.wait t.needed t.runs_least t.runs_most some t.wait_is t.needed_is t.lasting lasting_is d L.S L.look (omega (arith, d_is)) free
+      over : IsOver doc near far e s.sound s.rules s.end s.one s.ways p won.role passing (time doc near far b e q l s H H_e quiet f) f.before (low_e doc near far b e q l s H H_e quiet f) mine.y mine.top mine.lease mine.object (foreign doc near far b e q l s H H_e quiet f) (others doc near far b e q l s H H_e quiet f) n n_e unled idle alive_n t.slow t.fast t.wait t.needed t.runs_least t.runs_most some t.wait_is t.needed_is t.lasting lasting_is d
+      over = found_over doc near far e s.sound s.rules s.end s.one s.ways p won.role passing (time doc near far b e q l s H H_e quiet f) f.before (low_e doc near far b e q l s H H_e quiet f) mine.y mine.top mine.lease mine.object (foreign doc near far b e q l s H H_e quiet f) (others doc near far b e q l s H H_e quiet f) n n_e unled idle alive_n t.slow t.fast t.wait t.needed t.runs_least t.runs_most some t.wait_is t.needed_is t.lasting lasting_is d L.S L.look (omega (arith, d_is)) free

@@ -105,7 +105,7 @@ module _ (doc : Doc) (near far b e : ℕ) (q : Identity) (l : LeadsUntil doc nea
       )
     where
       w0 : Won doc o.e o.low
-      w0 = is_won doc s.sound e s.end o.e o.low o_e (omega (arith, late, l.long, s.one, s.ways)) writes
+      w0 = is_won doc s.sound s.rules e s.end o.e o.low o_e (omega (arith, late, l.long, s.one, s.ways)) writes
 
       whose : w0.who ≡ r
       whose = actor_is w0.who r (sym w0.actor ∙ o.actor)
@@ -117,7 +117,7 @@ module _ (doc : Doc) (near far b e : ℕ) (q : Identity) (l : LeadsUntil doc nea
       asked_e = tail_trans (w0.f ∷ w0.low) (o.e ∷ o.low) (history doc (suc e)) (inr w0.asked) o_e
 
       sent : w0.call.sent ≡ w0.f.beat
-      sent = sent_at doc s.sound.2 (suc e) w0.who w0.f w0.low w0.call (Some o.e.beat) asked_e w0.f_actor w0.f_fact
+      sent = sent_at doc s.rules (suc e) w0.who w0.f w0.low w0.call (Some o.e.beat) asked_e w0.f_actor w0.f_fact
 
       asked_b : IsTail (w0.f ∷ w0.low) (history doc (suc (b - 1)))
       asked_b = tail_trans (w0.f ∷ w0.low) (history doc (suc w0.f.beat)) (history doc (suc (b - 1))) (in_own_beat doc (suc e) w0.f w0.low asked_e) (later_tail doc (suc w0.f.beat) (suc (b - 1)) (omega (arith, early, sent)))
@@ -133,7 +133,7 @@ module _ (doc : Doc) (near far b e : ℕ) (q : Identity) (l : LeadsUntil doc nea
 
       way : IsWay near far w0.f.beat o.e.beat
       way =
-          request_way doc s.sound.2 near far (b - 1) r role steady w0.f w0.low w0.call o.e.beat asked_b f_actor w0.f_fact (opens_of doc s.sound.2 (b - 1) r role unstopped w0.f w0.low w0.call (Some o.e.beat) asked_b f_actor w0.f_fact)
+          request_way doc s.rules near far (b - 1) r role steady w0.f w0.low w0.call o.e.beat asked_b f_actor w0.f_fact (opens_of doc s.rules (b - 1) r role unstopped w0.f w0.low w0.call (Some o.e.beat) asked_b f_actor w0.f_fact)
           (λ j low high soon. l.goes j (omega (arith, high, beat_before doc e o.e o.low o_e)))
 
   -- ---- the number of beats
@@ -150,7 +150,7 @@ module _ (doc : Doc) (near far b e : ℕ) (q : Identity) (l : LeadsUntil doc nea
       )
     where
       way : IsWay near far o.e.beat lead.x.beat
-      way = reply_way doc s.sound.2 near far e r role (l.others r.process role other_process) o.e o.low o_e o.step lead.x.beat (leading.k_e doc near far b e q l s k lead) o.comes_is
+      way = reply_way doc s.rules near far e r role (l.others r.process role other_process) o.e o.low o_e o.step lead.x.beat (leading.k_e doc near far b e q l s k lead) o.comes_is
 
 -- ---- the laws
 

@@ -72,7 +72,7 @@ module _ (doc : Doc) (near far b e : ℕ) (q : Identity) (l : LeadsUntil doc nea
   facts = lead_facts r lead.x.actor lead.x.fact lead.version lead.leads
 
   pub led : LedBy doc lead.x lead.version lead.before
-  led = leads_by doc s.sound.2 (suc e) lead.x lead.before lead.version lead.position facts.1
+  led = leads_by doc s.rules (suc e) lead.x lead.before lead.version lead.position facts.1
 
   own : led.q ≡ r
   own = actor_is led.q r (sym led.by ∙ facts.0)
@@ -97,7 +97,7 @@ module _ (doc : Doc) (near far b e : ℕ) (q : Identity) (l : LeadsUntil doc nea
 
   -- its write
   pub o : Origin doc r led.call led.reply led.before lead.x.beat
-  o = origin doc s.sound.2 (suc e) r (entry lead.x.beat 3 r (Delivers led.call led.reply true)) led.before led.call led.reply heard_e refl refl
+  o = origin doc s.rules (suc e) r (entry lead.x.beat 3 r (Delivers led.call led.reply true)) led.before led.call led.reply heard_e refl refl
 
   pub o_e : IsTail (o.e ∷ o.low) (history doc (suc e))
   o_e = tail_trans (o.e ∷ o.low) led.before (history doc (suc e)) o.answered S_e
@@ -107,7 +107,7 @@ module _ (doc : Doc) (near far b e : ℕ) (q : Identity) (l : LeadsUntil doc nea
     where
       key : key_of led.call.request ≡ election
       key =
-          asks_election doc s.sound e s.end r role o.begun.f led.call o.begun.arrives
+          asks_election doc s.sound s.rules e s.end r role o.begun.f led.call o.begun.arrives
           (in_head o.begun.f o.begun.before (history doc (suc e)) (tail_trans (o.begun.f ∷ o.begun.before) led.before (history doc (suc e)) o.begun.position S_e)) o.begun.actor o.begun.fact
 
   pub steady : IsSteady doc near far 0 (b - 1) r.process
@@ -126,7 +126,7 @@ module _ (doc : Doc) (near far b e : ℕ) (q : Identity) (l : LeadsUntil doc nea
       same : m ≡ lead.x.beat
       same =
           some_is m lead.x.beat
-          (sym (reply_passes doc near far r.process o.e.beat o.low passes (forces_stand doc s.sound.2 (suc e) o.e o.low o_e (omega (arith, o.step))) (steady.passes m (omega arith) (omega (arith, passes.reply_most, le))).awake) ∙ o.comes_is)
+          (sym (reply_passes doc near far r.process o.e.beat o.low passes (forces_stand doc s.rules (suc e) o.e o.low o_e (omega (arith, o.step))) (steady.passes m (omega arith) (omega (arith, passes.reply_most, le))).awake) ∙ o.comes_is)
 
   pub late : b ≤ o.e.beat + far
   late = ⊎_elim (λ lt. lt_or lt) (λ le. absurd (not_before_b le)) (cases_lt (b - 1) (o.e.beat + far))

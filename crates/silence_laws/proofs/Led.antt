@@ -11,7 +11,7 @@ use Rattle.kube_objects.specs.Entry.{Entry, Identity, Fact, First, Event, Starts
 use Rattle.kube_objects.specs.Newest.{newest, when, has}
 use Rattle.kube_objects.specs.Process.{alive, is_present}
 use Rattle.kube_objects.specs.Identities.{is_by}
-use Rattle.kube_objects.specs.Own.{IsOwn}
+use Rattle.kube_objects.specs.Own.{ReleasesByStop}
 use Rattle.history.specs.History.{history, at_turn}
 use Rattle.history.specs.Safe.{Acts}
 use Rattle.history_laws.specs.Tails.{IsTail}
@@ -77,7 +77,7 @@ pub record HasLed (doc : Doc) (q : Identity) (k : ℕ) : Type 0 where
   pub success : HasSuccess doc q 0 j
 
 -- who leads in a history has had a success
-pub leads_led : (doc : Doc) → IsOwn doc → (q : Identity) (k : ℕ) (g : List Entry) → IsTail g (history doc (suc k)) → leads q g ≡ true → HasLed doc q k
+pub leads_led : (doc : Doc) → ReleasesByStop doc → (q : Identity) (k : ℕ) (g : List Entry) → IsTail g (history doc (suc k)) → leads q g ≡ true → HasLed doc q k
 leads_led doc rules q k g high is = from_lead (lead_in q g is)
   where
     from_lead : HasLead q g → HasLed doc q k
@@ -118,7 +118,7 @@ leads_led doc rules q k g high is = from_lead (lead_in q g is)
         upto = ⊎_elim (λ lt. omega (arith, lt)) (λ first. omega (arith, first.0)) (entries_are_earlier doc (suc k) s.x (in_head s.x s.before (history doc (suc k)) at))
 
 -- and so has who acts
-pub acting_led : (doc : Doc) → IsOwn doc → (q : Identity) (k : ℕ) → Acts doc q k → HasLed doc q k
+pub acting_led : (doc : Doc) → ReleasesByStop doc → (q : Identity) (k : ℕ) → Acts doc q k → HasLed doc q k
 acting_led doc rules q k acting = leads_led doc rules q k g high (turn_leads doc q q.process k (set (deadline doc q g) (and_right (is_present (alive q.process g) q.incarnation) (is_before (local doc q.process k) (deadline doc q g)) (term_of doc rules q k g acting.1))))
   where
     g : List Entry

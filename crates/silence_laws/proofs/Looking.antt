@@ -15,6 +15,7 @@ use Rattle.kube_objects.specs.Entry.{Entry, Identity, Call, Sends, actor_of}
 use Rattle.kube_objects.specs.Identities.{identity_of}
 use Rattle.kube_objects.specs.Keys.{key_eq}
 use Rattle.kube_objects.specs.Newest.{added, when, has}
+use Rattle.kube_objects.specs.Own.{ReleasesByStop}
 use Rattle.kube_objects.specs.Stored.{Held, Write, election, key_of, stored, request_write, at_key, write_of, writes, next_version}
 use Rattle.history.specs.History.{history}
 use Rattle.history.specs.Premise.{greatest_below}
@@ -24,7 +25,7 @@ use Rattle.history_laws.proofs.Plainly.{true_is, some_is, none_is}
 use Rattle.history_laws.proofs.Tailed.{tail_all, tail_trans, tails_meet, writes_tail, same_head}
 use Rattle.lease_laws.proofs.Invariant.{view, SentRight}
 use Rattle.lease_laws.proofs.Premises.{rates_at_most}
-use Rattle.lease_laws.proofs.Histories.{turn_right}
+use Rattle.lease_laws.proofs.Histories.{bears_own, turn_right}
 use Rattle.call_laws.proofs.Above.{in_head}
 use Rattle.takeover_laws.proofs.Rounds.{sent_is}
 use Rattle.calm_laws.proofs.Origins.{Origin, origin}
@@ -34,10 +35,10 @@ use Rattle.silence_laws.proofs.Showing.{IsTold}
 -- ---- what a controller asks for
 
 -- each request of a controller is on the election Lease
-pub asks_election : (doc : Doc) → IsSound doc → (k : ℕ) → k ≤ end_beat doc → (q : Identity) → is_controller doc q.process ≡ true → (x : Entry) (call : Call) (arrives : Option ℕ) → In x (history doc (suc k))
+pub asks_election : (doc : Doc) → IsSound doc → ReleasesByStop doc → (k : ℕ) → k ≤ end_beat doc → (q : Identity) → is_controller doc q.process ≡ true → (x : Entry) (call : Call) (arrives : Option ℕ) → In x (history doc (suc k))
     → x.actor ≡ actor_of q → x.fact ≡ Sends call arrives → key_of call.request ≡ election
-asks_election doc sound k end q role x call arrives stands actor fact =
-    let right = (turn_right doc (greatest_below doc (length doc.controllers)) (rates_at_most doc) sound (processes doc) k end).entries x stands in
+asks_election doc sound rules k end q role x call arrives stands actor fact =
+    let right = (turn_right doc (greatest_below doc (length doc.controllers)) (rates_at_most doc) (bears_own doc (greatest_below doc (length doc.controllers)) rules) sound (processes doc) k end).entries x stands in
     ((subst (λ o. IfSome o (SentRight doc (greatest_below doc (length doc.controllers)) k (view (history doc (suc k))))) (sent_is x q call arrives actor fact) right.0).may.controller role).key
 
 -- ---- a write that was accepted
@@ -118,7 +119,7 @@ telling (Update key given l) reply s h is answered tells = by_reply reply tells 
     by_reply Unchanged tells same = absurd (none_is s tells)
 telling (PostStatus name status at) reply s h is answered tells = absurd (none_is s tells)
 
-module _ (doc : Doc) (near far e : ℕ) (sound : IsSound doc) (end : e ≤ end_beat doc) (c : Identity) (role : is_controller doc c.process ≡ true)
+module _ (doc : Doc) (near far e : ℕ) (sound : IsSound doc) (rules : ReleasesByStop doc) (end : e ≤ end_beat doc) (c : Identity) (role : is_controller doc c.process ≡ true)
     (T : List Entry) (at : IsTail T (history doc (suc e))) (y : Held) (is : stored election T ≡ Some y) (lease : Lease) (object_is : y.object ≡ object.Lease lease) (foreign : y.by ≡ Some c → ⊥) where
   abbrev pub k : Kept T y
   k = kept_of T y is
@@ -132,7 +133,7 @@ module _ (doc : Doc) (near far e : ℕ) (sound : IsSound doc) (end : e ≤ end_b
 
   module _ (d : Entry) (S : List Entry) (position : IsTail (d ∷ S) T) (s : Shown) (t : IsTold c d.actor d.fact s) (same : s.0.0 ≡ y.version.0) where
     o : Origin doc c t.w t.reply S d.beat
-    o = origin doc sound.2 (suc e) c d S t.w t.reply (tail_trans (d ∷ S) T (history doc (suc e)) position at) t.actor t.fact
+    o = origin doc rules (suc e) c d S t.w t.reply (tail_trans (d ∷ S) T (history doc (suc e)) position at) t.actor t.fact
 
     version : s.0 ≡ y.version
     version = ap (λ n. record { 0 = n }) same
@@ -144,7 +145,7 @@ module _ (doc : Doc) (near far e : ℕ) (sound : IsSound doc) (end : e ≤ end_b
     low_t = in_t o.low (tail_trans o.low (o.e ∷ o.low) S (inr (tail_all o.low)) o.answered)
 
     key : key_of t.w.request ≡ election
-    key = asks_election doc sound e end c role o.begun.f t.w o.begun.arrives (in_head o.begun.f o.begun.before (history doc (suc e)) (tail_trans (o.begun.f ∷ o.begun.before) T (history doc (suc e)) (in_t (o.begun.f ∷ o.begun.before) o.begun.position) at)) o.begun.actor o.begun.fact
+    key = asks_election doc sound rules e end c role o.begun.f t.w o.begun.arrives (in_head o.begun.f o.begun.before (history doc (suc e)) (tail_trans (o.begun.f ∷ o.begun.before) T (history doc (suc e)) (in_t (o.begun.f ∷ o.begun.before) o.begun.position) at)) o.begun.actor o.begun.fact
 
     -- no write of its own gave this version
     own_write : IsAccepted t.w.request o.low s.0 → ⊥

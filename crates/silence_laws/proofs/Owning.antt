@@ -1,5 +1,5 @@
 -- What a leader that falls silent wrote by calls of before: its own record.
-use Rattle.std.proofs.Common.{◌≡◌, ◌⊎◌, ◌<◌, ◌≤◌, ℕ, suc, ◌-◌, ◌&&◌, Bool, true, false, List, [], ◌∷◌, length, Option, Some, None, IfSome, refl, sym, ap, ◌∙◌, subst, inl, inr, ⊎_elim, arith}
+use Rattle.std.proofs.Common.{◌≡◌, ◌⊎◌, ◌<◌, ◌≤◌, ℕ, suc, ◌-◌, Bool, true, false, List, [], ◌∷◌, length, Option, Some, None, IfSome, refl, sym, ap, ◌∙◌, subst, inl, inr, ⊎_elim, arith}
 use Rattle.std.proofs.lemmas.Bool.{cases_lt}
 use Rattle.kube_objects.specs.declared.call.Reply.{Reply}
 use Rattle.kube_objects.specs.declared.call.Reply.TheVariants.{Done, Found, Absent, Exists, Conflict, Unchanged}
@@ -10,22 +10,20 @@ use Rattle.kube_objects.specs.declared.object.Object.{Object}
 use Rattle.kube_objects.specs.declared.object.Object.TheVariants as object
 use Rattle.kube_objects.specs.Answers.{answer, if_done, written}
 use Rattle.kube_objects.specs.Document.{Doc, processes, lease_seconds}
-use Rattle.kube_objects.specs.Entry.{Entry, Identity, Call, actor_of}
+use Rattle.kube_objects.specs.Entry.{Entry, Identity, Call, Stops, actor_of}
 use Rattle.kube_objects.specs.Identities.{identity_of, holder_of, is_by, of_process}
 use Rattle.kube_objects.specs.Keys.{key_eq}
-use Rattle.kube_objects.specs.Newest.{added, when, has, join}
-use Rattle.kube_objects.specs.Process.{is_stop, stops}
+use Rattle.kube_objects.specs.Newest.{when, has, join}
 use Rattle.kube_objects.specs.Stored.{key_of, Held, election, stored, last_write, holds, request_write, at_key, write_of, next_version}
 use Rattle.kube_objects.specs.Wire.{request_arrival}
-use Rattle.kube_objects.specs.Own.{IsOwn as OwnRules}
 use Rattle.history.specs.History.{history}
 use Rattle.history.specs.Premise.{greatest_below}
 use Rattle.history_laws.specs.Tails.{In, IsTail}
-use Rattle.history_laws.proofs.Plainly.{upper, false_is, true_is, and_left, and_right, same_self}
+use Rattle.history_laws.proofs.Plainly.{upper, false_is, true_is, same_self}
 use Rattle.history_laws.proofs.Tailed.{tail_all, tail_trans, tail_of_empty, later_tail, same_head}
 use Rattle.lease_laws.proofs.EachKind.{top_stays}
-use Rattle.lease_laws.proofs.Histories.{turn_right}
-use Rattle.lease_laws.proofs.Invariant.{view, Fit, FitRequest, SentRight}
+use Rattle.lease_laws.proofs.Histories.{bears_own, turn_right}
+use Rattle.lease_laws.proofs.Invariant.{Fit, FitRequest, SentRight, view}
 use Rattle.lease_laws.proofs.Premises.{rates_at_most}
 use Rattle.call_laws.proofs.Above.{tail_length, in_head}
 use Rattle.call_laws.proofs.Making.{MadeAs, MadeAnswer, are_made}
@@ -33,24 +31,12 @@ use Rattle.call_laws.proofs.Placing.{in_own_beat, messages_travel}
 use Rattle.call_laws.proofs.Starting.{actor_is}
 use Rattle.takeover_laws.specs.Calm.{IsSteady, WritesElection}
 use Rattle.takeover_laws.proofs.Rounds.{sent_is}
-use Rattle.takeover_laws.proofs.Writers.{by_process}
 use Rattle.calm_laws.proofs.Begun.{by_is}
-use Rattle.stay_laws.proofs.Won.{Won, is_won, stop_is}
+use Rattle.stay_laws.proofs.Won.{Won, is_won}
 use Rattle.silence_laws.specs.Silence.{LeadsUntil, Bears}
+use Rattle.silence_laws.proofs.Chain.{never_gives}
 use Rattle.silence_laws.proofs.Setting.{own_process}
 use Rattle.silence_laws.proofs.Waiting.{beats_rise}
-
--- ---- no stops
-
--- a process that is steady from beat 0 on isn't stopped
-pub never_stopped : (doc : Doc) → OwnRules doc → (near far e : ℕ) (r : Identity) → IsSteady doc near far 0 e r.process → (h : List Entry) → IsTail h (history doc (suc e)) → stops r h ≡ 0
-never_stopped doc rules near far e r steady [] at = refl
-never_stopped doc rules near far e r steady (x ∷ T) at =
-    by_stop (is_stop x.fact && is_by r x.actor) refl ∙ never_stopped doc rules near far e r steady T (tail_trans T (x ∷ T) (history doc (suc e)) (inr (tail_all T)) at)
-  where
-    by_stop : (b : Bool) → (is_stop x.fact && is_by r x.actor) ≡ b → added b (stops r T) ≡ stops r T
-    by_stop true is = absurd (omega (arith, steady.stops x (in_head x T (history doc (suc e)) at) (stop_is doc x.beat x.step x.actor x.fact T (are_made doc rules (suc e) x T at) (and_left (is_stop x.fact) (is_by r x.actor) is)) (by_process r x.actor (and_right (is_stop x.fact) (is_by r x.actor) is))))
-    by_stop false is = refl
 
 -- ---- who writes
 
@@ -118,7 +104,7 @@ module _ (doc : Doc) (near far b e : ℕ) (q : Identity) (l : LeadsUntil doc nea
     at_e = tail_trans (x ∷ T) H (history doc (suc e)) at H_e
 
     w : Won doc x T
-    w = is_won doc s.sound e s.end x T at_e some writes
+    w = is_won doc s.sound s.rules e s.end x T at_e some writes
 
     mine : w.who ≡ q
     mine = actor_is w.who q (sym w.actor ∙ actor)
@@ -133,31 +119,35 @@ module _ (doc : Doc) (near far b e : ℕ) (q : Identity) (l : LeadsUntil doc nea
     asked_high = tail_trans (w.f ∷ w.low) T (history doc (suc e)) w.asked (tail_trans T (x ∷ T) (history doc (suc e)) (inr (tail_all T)) at_e)
 
     sent : w.call.sent ≡ w.f.beat
-    sent = (subst (λ o. IfSome o (λ s. (s.call.sent ≡ w.f.beat) × (s.arrives ≡ request_arrival doc s.who.process w.f.beat w.low))) (sent_is w.f w.who w.call (Some x.beat) w.f_actor w.f_fact) (messages_travel doc s.sound.2 (suc e) w.f w.low asked_high).0).0
+    sent = (subst (λ o. IfSome o (λ s. (s.call.sent ≡ w.f.beat) × (s.arrives ≡ request_arrival doc s.who.process w.f.beat w.low))) (sent_is w.f w.who w.call (Some x.beat) w.f_actor w.f_fact) (messages_travel doc s.rules (suc e) w.f w.low asked_high).0).0
+
+    asked_b : IsTail (w.f ∷ w.low) (history doc (suc (b - 1)))
+    asked_b = tail_trans (w.f ∷ w.low) (history doc (suc w.f.beat)) (history doc (suc (b - 1))) (in_own_beat doc (suc e) w.f w.low asked_high) (later_tail doc (suc w.f.beat) (suc (b - 1)) (omega (arith, early, sent)))
 
     -- as its request fits its sender, so does what it writes
     right : SentRight doc (greatest_below doc (length doc.controllers)) (b - 1) (view (history doc (suc (b - 1)))) (record { who = w.who; call = w.call; arrives = Some x.beat })
     right =
         subst (λ o. IfSome o (SentRight doc (greatest_below doc (length doc.controllers)) (b - 1) (view (history doc (suc (b - 1)))))) (sent_is w.f w.who w.call (Some x.beat) w.f_actor w.f_fact)
-        ((turn_right doc (greatest_below doc (length doc.controllers)) (rates_at_most doc) s.sound (processes doc) (b - 1) (omega (arith, l.within, s.end))).entries w.f there).0
-      where
-        there : In w.f (history doc (suc (b - 1)))
-        there =
-            in_head w.f w.low (history doc (suc (b - 1)))
-            (tail_trans (w.f ∷ w.low) (history doc (suc w.f.beat)) (history doc (suc (b - 1))) (in_own_beat doc (suc e) w.f w.low asked_high) (later_tail doc (suc w.f.beat) (suc (b - 1)) (omega (arith, early, sent))))
+        ((turn_right doc (greatest_below doc (length doc.controllers)) (rates_at_most doc) (bears_own doc (greatest_below doc (length doc.controllers)) s.rules) s.sound (processes doc) (b - 1) (omega (arith, l.within, s.end))).entries w.f (in_head w.f w.low (history doc (suc (b - 1))) asked_b)).0
 
-    fits : FitRequest doc (view (history doc (suc (b - 1)))) w.who w.call.request
+    fits : FitRequest doc w.call.kind w.who w.call.request
     fits = (right.may.controller w.role).fit
 
-    own : (lease : Lease) → Fit doc (view (history doc (suc (b - 1)))) w.who lease → (lease.holder ≡ holder_of w.who) × (lease.duration ≡ Some (lease_seconds doc w.who.process))
+    own : (lease : Lease) → Fit doc w.call.kind w.who lease → (lease.holder ≡ holder_of w.who) × (lease.duration ≡ Some (lease_seconds doc w.who.process))
     own lease (inl fit) = fit
-    own lease (inr free) = absurd (omega (arith, free.1, never_stopped doc s.sound.2 near far (b - 1) w.who (subst (λ (q : Identity). IsSteady doc near far 0 (b - 1) q.process) (sym mine) l.steady) (history doc (suc (b - 1))) (tail_all (history doc (suc (b - 1))))))
+    own lease (inr free) = absurd (never_gives doc s.rules (b - 1) w.who w.role unstopped w.f w.low w.call (Some x.beat) asked_b w.f_actor w.f_fact free.1)
+      where
+        steady : IsSteady doc near far 0 (b - 1) w.who.process
+        steady = subst (λ (q : Identity). IsSteady doc near far 0 (b - 1) q.process) (sym mine) l.steady
+
+        unstopped : (y : Entry) → In y (history doc (suc (b - 1))) → y.fact ≡ Stops → has (of_process w.who.process y.actor) ≡ true → ⊥
+        unstopped y there fact by = omega (arith, steady.stops y there fact by)
 
     wrote_is : w.wrote ≡ written w.call.request T
     wrote_is = made.written_is ∙ ap (λ (c : Call). written c.request T) (sym made.call_is)
       where
         made : MadeAnswer doc x.beat x.step x.actor w.call w.reply w.comes w.wrote T
-        made = subst (λ d. MadeAs doc x.beat x.step x.actor d T) w.fact (are_made doc s.sound.2 (suc e) x T at_e)
+        made = subst (λ d. MadeAs doc x.beat x.step x.actor d T) w.fact (are_made doc s.rules (suc e) x T at_e)
 
     as_own : (lease : Lease) → at_key election (request_write w.call.request w.wrote) ≡ Some (Some (object.Lease lease)) → (lease.holder ≡ holder_of w.who) × (lease.duration ≡ Some (lease_seconds doc w.who.process)) → IsOwnWrite doc b q x
     as_own lease is fit = record {
@@ -167,7 +157,7 @@ module _ (doc : Doc) (near far b e : ℕ) (q : Identity) (l : LeadsUntil doc nea
       duration = fit.1 ∙ ap (λ (p : Identity). Some (lease_seconds doc p.process)) mine;
     }
 
-    by_request : (r : Request) (o : Option (Option Object)) → Leased r o → FitRequest doc (view (history doc (suc (b - 1)))) w.who r → at_key election (request_write w.call.request w.wrote) ≡ o → IsOwnWrite doc b q x
+    by_request : (r : Request) (o : Option (Option Object)) → Leased r o → FitRequest doc w.call.kind w.who r → at_key election (request_write w.call.request w.wrote) ≡ o → IsOwnWrite doc b q x
     by_request (Create key lease) o is fit same = as_own lease (same ∙ is) (own lease fit)
     by_request (Update key given lease) o is fit same = as_own lease (same ∙ is) (own lease fit)
     by_request (Get key) o is fit same = absurd is

@@ -7,7 +7,7 @@ use Rattle.kube_objects.specs.Entry.{Entry, Call, Fact, First, Event, Starts, St
 use Rattle.kube_objects.specs.Identities.{of_process}
 use Rattle.kube_objects.specs.InFlight.{is_due}
 use Rattle.kube_objects.specs.Newest.{has}
-use Rattle.kube_objects.specs.Own.{IsOwn}
+use Rattle.kube_objects.specs.Own.{ReleasesByStop}
 use Rattle.history.specs.History.{history}
 use Rattle.history_laws.specs.Tails.{IsTail}
 use Rattle.history_laws.proofs.Plainly.{false_is}
@@ -18,7 +18,7 @@ use Rattle.takeover_laws.specs.Calm.{WritesElection}
 use Rattle.takeover_laws.proofs.Writers.{sends_of}
 use Rattle.silence_laws.specs.Silence.{IsSilent, SilentsAreQuiet}
 
-module _ (doc : Doc) (rules : IsOwn doc) (b e p : ℕ) (silent : IsSilent doc b e p) (x : Entry) (T : List Entry) (at : IsTail (x ∷ T) (history doc (suc e))) (mine : has (of_process p x.actor) ≡ true) where
+module _ (doc : Doc) (rules : ReleasesByStop doc) (b e p : ℕ) (silent : IsSilent doc b e p) (x : Entry) (T : List Entry) (at : IsTail (x ∷ T) (history doc (suc e))) (mine : has (of_process p x.actor) ≡ true) where
   answers : (call : Call) (reply : Reply) (comes : Option ℕ) (wrote : Option Object) → x.fact ≡ Answers call reply comes wrote → b ≤ call.sent → ⊥
   answers call reply comes wrote fact since = false_is (sym (ap (is_due x.beat) lost) ∙ made.arriving.now)
     where

@@ -16,7 +16,7 @@ use Rattle.kube_objects.specs.Newest.{has}
 use Rattle.kube_objects.specs.Process.{alive, is_present, open_as}
 use Rattle.kube_objects.specs.Turns.{react}
 use Rattle.kube_objects.specs.Wire.{back_of}
-use Rattle.kube_objects.specs.Own.{IsOwn as OwnRules}
+use Rattle.kube_objects.specs.Own.{ReleasesByStop}
 use Rattle.lease_laws.proofs.Claims.{term_of}
 use Rattle.history.specs.History.{history, at_turn}
 use Rattle.history.specs.Safe.{Acts}
@@ -51,7 +51,7 @@ use Rattle.silence_laws.proofs.Waiting.{history_below, beats_rise}
 use Rattle.silence_laws.proofs.Ways.{IsWay, sent_freely, beat_before, request_way, reply_way}
 
 -- who acts is up at its turn
-pub acting_up : (doc : Doc) → OwnRules doc → (q : Identity) (k : ℕ) → Acts doc q k → alive q.process (at_turn doc q.process k) ≡ Some q.incarnation
+pub acting_up : (doc : Doc) → ReleasesByStop doc → (q : Identity) (k : ℕ) → Acts doc q k → alive q.process (at_turn doc q.process k) ≡ Some q.incarnation
 acting_up doc rules q k acting =
     present_is (alive q.process g) q.incarnation
     (and_left (is_present (alive q.process g) q.incarnation) (is_before (local doc q.process k) (deadline doc q g)) (term_of doc rules q k g acting.1))
@@ -103,7 +103,7 @@ module _ (doc : Doc) (near far b e : ℕ) (q : Identity) (l : LeadsUntil doc nea
   z_actor = by_identity q k.z.actor (sym k.by ∙ mine.by)
 
   w : Won doc k.z k.before
-  w = is_won doc s.sound e s.end k.z k.before z_e some (ap has k.write)
+  w = is_won doc s.sound s.rules e s.end k.z k.before z_e some (ap has k.write)
 
   whose : w.who ≡ q
   whose = actor_is w.who q (sym w.actor ∙ z_actor)
@@ -136,10 +136,10 @@ module _ (doc : Doc) (near far b e : ℕ) (q : Identity) (l : LeadsUntil doc nea
         (later_tail doc (suc k.z.beat) (suc (b - 1)) (omega (arith, old, k.beat)))
 
     opens : open_as w.call.kind w.call ≡ Some w.call
-    opens = opens_of doc s.sound.2 (b - 1) q l.role unstopped w.f w.low w.call (Some k.z.beat) asked_a f_actor w.f_fact
+    opens = opens_of doc s.rules (b - 1) q l.role unstopped w.f w.low w.call (Some k.z.beat) asked_a f_actor w.f_fact
 
     way : IsWay near far w.f.beat k.z.beat
-    way = request_way doc s.sound.2 near far (b - 1) q l.role l.steady w.f w.low w.call k.z.beat asked_a f_actor w.f_fact opens (λ j low high soon. l.goes j (omega (arith, high, old, k.beat, l.within)))
+    way = request_way doc s.rules near far (b - 1) q l.role l.steady w.f w.low w.call k.z.beat asked_a f_actor w.f_fact opens (λ j low high soon. l.goes j (omega (arith, high, old, k.beat, l.within)))
 
     abbrev n : ℕ
     n = k.z.beat + far
@@ -152,11 +152,11 @@ module _ (doc : Doc) (near far b e : ℕ) (q : Identity) (l : LeadsUntil doc nea
 
     up : (h : List Entry) → IsTail w.low h → IsTail h (history doc (suc n)) → alive q.process h ≡ Some q.incarnation
     up h low high =
-        up_between doc s.sound.2 (suc (b - 1)) q w.low h turn low
+        up_between doc s.rules (suc (b - 1)) q w.low h turn low
         (tail_trans h (history doc (b - 1)) turn (tail_trans h (history doc (suc n)) (history doc (b - 1)) high (later_tail doc (suc n) (b - 1) (omega (arith, n_soon)))) (before_turn doc q.process (b - 1)))
         (turn_tail doc q.process (b - 1) (omega (arith, controllers_first doc q.process l.role)))
-        (sent_freely doc s.sound.2 (suc e) q l.role w.f w.low w.call (Some k.z.beat) asked_e f_actor w.f_fact opens).up
-        (acting_up doc s.sound.2 q (b - 1) ((it_stays doc near far b e q l s).acts (b - 1) (its_time doc near far b e q l s) (omega arith)))
+        (sent_freely doc s.rules (suc e) q l.role w.f w.low w.call (Some k.z.beat) asked_e f_actor w.f_fact opens).up
+        (acting_up doc s.rules q (b - 1) ((it_stays doc near far b e q l s).acts (b - 1) (its_time doc near far b e q l s) (omega arith)))
       where
         turn : List Entry
         turn = at_turn doc q.process (b - 1)
@@ -166,7 +166,7 @@ module _ (doc : Doc) (near far b e : ℕ) (q : Identity) (l : LeadsUntil doc nea
 
     -- its reply counts one way after the write
     sending : (t : Sending doc 0 n q w.call (Some k.z.beat)) × (t.f ≡ w.f) × (t.before ≡ w.low)
-    sending = sending_of doc s.sound.2 near far 0 (b - 1) n q l.role l.steady my_time (omega (arith, n_soon)) s.one w.call (Some k.z.beat) w.f w.low asked_n f_actor w.f_fact (omega arith)
+    sending = sending_of doc s.rules near far 0 (b - 1) n q l.role l.steady my_time (omega (arith, n_soon)) s.one w.call (Some k.z.beat) w.f w.low asked_n f_actor w.f_fact (omega arith)
 
     abbrev sent : Sending doc 0 n q w.call (Some k.z.beat)
     sent = sending.0
@@ -176,7 +176,7 @@ module _ (doc : Doc) (near far b e : ℕ) (q : Identity) (l : LeadsUntil doc nea
 
     round : IsRound doc near far q w.call (Some k.z.beat) sent.f.beat
     round =
-        rounds_in doc s.sound.2 near far 0 (b - 1) q l.steady s.one (suc n) sent.f sent.before w.call (Some k.z.beat) sent.position sent.actor sent.fact (omega (arith, sent.step)) sent.from
+        rounds_in doc s.rules near far 0 (b - 1) q l.steady s.one (suc n) sent.f sent.before w.call (Some k.z.beat) sent.position sent.actor sent.fact (omega (arith, sent.step)) sent.from
         (omega (arith, sent_beat, way.least, n_soon)) (λ at m least is most. omega (arith, least, some_is k.z.beat m is, n_soon))
 
     soon : round.comes ≤ n
@@ -184,7 +184,7 @@ module _ (doc : Doc) (near far b e : ℕ) (q : Identity) (l : LeadsUntil doc nea
 
     told : IsReacted doc near far q w.call (Some k.z.beat) sent.f.beat
     told =
-        reacted doc s.sound.2 near far 0 (b - 1) n q l.role l.steady my_time (omega (arith, n_soon)) s.one w.call (Some k.z.beat) sent round soon
+        reacted doc s.rules near far 0 (b - 1) n q l.role l.steady my_time (omega (arith, n_soon)) s.one w.call (Some k.z.beat) sent round soon
         (λ h below above. up h (subst (λ g. IsTail g h) sending.2 below) above)
 
     abbrev y : ℕ
@@ -216,7 +216,7 @@ module _ (doc : Doc) (near far b e : ℕ) (q : Identity) (l : LeadsUntil doc nea
     -- an answer to its call is that write
     same_answer : (reply : Reply) (S : List Entry) (o : Origin doc q w.call reply S y) → IsTail S (history doc (suc e)) → k.z ∷ k.before ≡ o.e ∷ o.low
     same_answer reply S o high =
-        answers_differ doc s.sound.2 (suc e) k.z o.e k.before o.low (record { who = w.who; call = w.call; reply = w.reply; comes = w.comes }) (record { who = q; call = w.call; reply = reply; comes = Some y }) z_e
+        answers_differ doc s.rules (suc e) k.z o.e k.before o.low (record { who = w.who; call = w.call; reply = w.reply; comes = w.comes }) (record { who = q; call = w.call; reply = reply; comes = Some y }) z_e
         (tail_trans (o.e ∷ o.low) S (history doc (suc e)) o.answered high)
         (ap (λ d. back_of k.z.actor d) w.fact ∙ ap (λ who. back_of who (Answers w.call w.reply w.comes w.wrote)) w.actor)
         (ap (λ d. back_of o.e.actor d) o.fact ∙ ap (λ who. back_of who (Answers w.call reply (Some y) (written w.call.request o.low))) o.actor) whose refl
@@ -225,7 +225,7 @@ module _ (doc : Doc) (near far b e : ℕ) (q : Identity) (l : LeadsUntil doc nea
     below = into told.before (tail_trans told.before (heard ∷ told.before) (history doc (suc y)) (inr (tail_all told.before)) heard_at)
 
     o : Origin doc q w.call reply told.before y
-    o = origin doc s.sound.2 (suc y) q heard told.before w.call reply heard_at refl refl
+    o = origin doc s.rules (suc y) q heard told.before w.call reply heard_at refl refl
 
     one : k.z ∷ k.before ≡ o.e ∷ o.low
     one = same_answer reply told.before o below
@@ -249,7 +249,7 @@ module _ (doc : Doc) (near far b e : ℕ) (q : Identity) (l : LeadsUntil doc nea
     given : IsWay near far k.z.beat y
     given =
         subst (λ (x : Entry). IsWay near far x.beat y) (sym (same_head k.z o.e k.before o.low one))
-        (reply_way doc s.sound.2 near far (b - 1) q l.role l.steady o.e o.low
+        (reply_way doc s.rules near far (b - 1) q l.role l.steady o.e o.low
         (tail_trans (o.e ∷ o.low) (history doc (suc y)) (history doc (suc (b - 1))) (tail_trans (o.e ∷ o.low) (heard ∷ told.before) (history doc (suc y)) (inr o.answered) heard_at) (later_tail doc (suc y) (suc (b - 1)) (omega (arith, y_a))))
         o.step y y_a o.comes_is)
 

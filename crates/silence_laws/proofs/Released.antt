@@ -126,7 +126,7 @@ pub record IsThere (from : ℕ) (h : List Entry) : Type 0 where
 module _ (doc : Doc) (near far b e : ℕ) (q : Identity) (l : LeadsUntil doc near far b e q) (s : Bears doc near far b e q) where
   -- since a write something is stored, written no sooner
   new_there : (from : ℕ) (x : Entry) (T : List Entry) → IsTail (x ∷ T) (history doc (suc e)) → 1 ≤ x.beat → from ≤ x.beat → (o : Option Object) → at_key election (write_of x.fact) ≡ Some o → IsThere from (x ∷ T)
-  new_there from x T high some late o is = by_object (won_object doc x T (is_won doc s.sound e s.end x T high some (ap has is)) o is)
+  new_there from x T high some late o is = by_object (won_object doc x T (is_won doc s.sound s.rules e s.end x T high some (ap has is)) o is)
     where
       by_object : (y : Object) × (o ≡ Some y) → IsThere from (x ∷ T)
       by_object y = record {
@@ -196,10 +196,10 @@ module _ (doc : Doc) (near far b e : ℕ) (q : Identity) (l : LeadsUntil doc nea
     one_stop x T who at late fact by same = by_place (tails_meet (x ∷ T) (entry b 1 q Stops ∷ U) (history doc (suc e)) at S_e)
       where
         up_x : StoppedUp x T
-        up_x = stops_up doc s.sound.2 (suc e) x T at fact
+        up_x = stops_up doc s.rules (suc e) x T at fact
 
         up_s : StoppedUp (entry b 1 q Stops) U
-        up_s = stops_up doc s.sound.2 (suc e) (entry b 1 q Stops) U S_e refl
+        up_s = stops_up doc s.rules (suc e) (entry b 1 q Stops) U S_e refl
 
         clash : (p : Identity) (h : List Entry) → alive p.process h ≡ Some p.incarnation → p.process ≡ q.process → alive q.process h ≡ None → ⊥
         clash p h up is none = none_is p.incarnation (sym none ∙ ap (λ p. alive p h) (sym is) ∙ up)
@@ -218,7 +218,7 @@ module _ (doc : Doc) (near far b e : ℕ) (q : Identity) (l : LeadsUntil doc nea
     sent_after x T who call arrives at late by same fact = by_free (made.free role_made)
       where
         made : MadeSend doc x.beat x.step x.actor call arrives T
-        made = subst (λ d. MadeAs doc x.beat x.step x.actor d T) fact (are_made doc s.sound.2 (suc e) x T at)
+        made = subst (λ d. MadeAs doc x.beat x.step x.actor d T) fact (are_made doc s.rules (suc e) x T at)
 
         whose : made.q.process ≡ q.process
         whose = ap (λ (p : Identity). p.process) (actor_is made.q who (sym made.by ∙ by)) ∙ same
@@ -265,7 +265,7 @@ module _ (doc : Doc) (near far b e : ℕ) (q : Identity) (l : LeadsUntil doc nea
         a = answering b x.fact writes
 
         made : MadeAnswer doc x.beat x.step x.actor a.call a.reply a.comes a.wrote T
-        made = subst (λ d. MadeAs doc x.beat x.step x.actor d T) a.fact (are_made doc s.sound.2 (suc e) x T at_e)
+        made = subst (λ d. MadeAs doc x.beat x.step x.actor d T) a.fact (are_made doc s.rules (suc e) x T at_e)
 
         asked : Place made.arriving.e T
         asked = place_of made.arriving.e T made.arriving.stands
@@ -280,7 +280,7 @@ module _ (doc : Doc) (near far b e : ℕ) (q : Identity) (l : LeadsUntil doc nea
         process = process_is q.process made.s.who (ap (λ who. has (of_process q.process who)) (sym made.by) ∙ own)
 
         since : b ≤ made.arriving.e.beat
-        since = omega (arith, a.since, ap (λ (c : Call). c.sent) made.call_is, sent_at doc s.sound.2 (suc e) made.s.who made.arriving.e asked.before made.s.call made.s.arrives asked_e sent.0 sent.1)
+        since = omega (arith, a.since, ap (λ (c : Call). c.sent) made.call_is, sent_at doc s.rules (suc e) made.s.who made.arriving.e asked.before made.s.call made.s.arrives asked_e sent.0 sent.1)
 
         same_sending : made.arriving.e ∷ asked.before ≡ entry b 1 q (Sends rel.call (Some rel.at)) ∷ F
         same_sending = sent_release made.arriving.e asked.before made.s.who made.s.call made.s.arrives asked_e since sent.0 process sent.1
@@ -296,7 +296,7 @@ module _ (doc : Doc) (near far b e : ℕ) (q : Identity) (l : LeadsUntil doc nea
 
         same_answer : x ∷ T ≡ entry rel.at 2 q (Answers rel.call (Done rel.version) rel.comes (Some rel.object)) ∷ R
         same_answer =
-            answers_differ doc s.sound.2 (suc e) x (entry rel.at 2 q (Answers rel.call (Done rel.version) rel.comes (Some rel.object))) T R
+            answers_differ doc s.rules (suc e) x (entry rel.at 2 q (Answers rel.call (Done rel.version) rel.comes (Some rel.object))) T R
             (record { who = made.s.who; call = a.call; reply = a.reply; comes = a.comes }) (record { who = q; call = rel.call; reply = Done rel.version; comes = rel.comes }) at_e R_e
             (ap (λ d. back_of x.actor d) a.fact ∙ ap (λ who. back_of who (Answers a.call a.reply a.comes a.wrote)) made.by) refl whose (ap (λ (c : Call). c.number) call_is)
 
@@ -310,7 +310,7 @@ module _ (doc : Doc) (near far b e : ℕ) (q : Identity) (l : LeadsUntil doc nea
     pub release_writes : has (at_key election (request_write rel.call.request (Some rel.object))) ≡ true
     release_writes =
         ap (λ k. has (when (key_eq k election) (Some rel.object)))
-        (asks_election doc s.sound e s.end q l.role (entry b 1 q (Sends rel.call (Some rel.at))) rel.call (Some rel.at) (in_head (entry b 1 q (Sends rel.call (Some rel.at))) F (history doc (suc e)) F_e) refl refl)
+        (asks_election doc s.sound s.rules e s.end q l.role (entry b 1 q (Sends rel.call (Some rel.at))) rel.call (Some rel.at) (in_head (entry b 1 q (Sends rel.call (Some rel.at))) F (history doc (suc e)) F_e) refl refl)
 
     -- the leader's writes are seen to the release: no foreign one came so late
     pub none_foreign : IsForeign doc near far b e q l s R low_e quiet (first doc near far b e q l s R low_e quiet) R → ⊥
@@ -362,7 +362,7 @@ module _ (doc : Doc) (near far b e : ℕ) (q : Identity) (l : LeadsUntil doc nea
           none_is r.incarnation
           (sym (down led.before (above_stop (entry lead.x.beat 3 r (Delivers led.call led.reply true)) led.before heard_e (omega (arith, lead.from, lead.at)) (omega arith)) led_e)
           ∙ ap (λ p. alive p led.before) (sym same)
-          ∙ (counted_after doc s.sound.2 (suc e) r (entry lead.x.beat 3 r (Delivers led.call led.reply true)) led.before led.call led.reply heard_e refl refl).up)
+          ∙ (counted_after doc s.rules (suc e) r (entry lead.x.beat 3 r (Delivers led.call led.reply true)) led.before led.call led.reply heard_e refl refl).up)
 
       passing : IsSteady doc near far 0 e r.process
       passing = l.others r.process role other_process
@@ -411,7 +411,7 @@ module _ (doc : Doc) (near far b e : ℕ) (q : Identity) (l : LeadsUntil doc nea
       kept = kept_of o.low base.y base.top
 
       w : Won doc o.e o.low
-      w = is_won doc s.sound e s.end o.e o.low o_e (omega (arith, late, l.long, s.one, s.ways)) writes
+      w = is_won doc s.sound s.rules e s.end o.e o.low o_e (omega (arith, late, l.long, s.one, s.ways)) writes
 
       whose : w.who ≡ r
       whose = actor_is w.who r (sym w.actor ∙ o.actor)
@@ -432,17 +432,17 @@ module _ (doc : Doc) (near far b e : ℕ) (q : Identity) (l : LeadsUntil doc nea
           never lt = omega (arith, lt)
 
       opens : open_as w.call.kind w.call ≡ Some w.call
-      opens = opens_of doc s.sound.2 e r role unstopped w.f w.low w.call (Some o.e.beat) asked_e f_actor w.f_fact
+      opens = opens_of doc s.rules e r role unstopped w.f w.low w.call (Some o.e.beat) asked_e f_actor w.f_fact
 
       way : IsWay near far w.f.beat o.e.beat
-      way = request_way doc s.sound.2 near far e r role passing w.f w.low w.call o.e.beat asked_e f_actor w.f_fact opens (λ j low high soon. l.goes j (omega (arith, high, beat_before doc e o.e o.low o_e)))
+      way = request_way doc s.rules near far e r role passing w.f w.low w.call o.e.beat asked_e f_actor w.f_fact opens (λ j low high soon. l.goes j (omega (arith, high, beat_before doc e o.e o.low o_e)))
 
       made_answer : MadeAnswer doc o.e.beat o.e.step o.e.actor w.call w.reply w.comes w.wrote o.low
-      made_answer = subst (λ d. MadeAs doc o.e.beat o.e.step o.e.actor d o.low) w.fact (are_made doc s.sound.2 (suc e) o.e o.low o_e)
+      made_answer = subst (λ d. MadeAs doc o.e.beat o.e.step o.e.actor d o.low) w.fact (are_made doc s.rules (suc e) o.e o.low o_e)
 
       update : IsUpdate w.call.request base.y
       update =
-          accepted_update w.call.request w.reply o.low base.y (asks_election doc s.sound e s.end r role w.f w.call (Some o.e.beat) (in_head w.f w.low (history doc (suc e)) asked_e) f_actor w.f_fact)
+          accepted_update w.call.request w.reply o.low base.y (asks_election doc s.sound s.rules e s.end r role w.f w.call (Some o.e.beat) (in_head w.f w.low (history doc (suc e)) asked_e) f_actor w.f_fact)
           (made_answer.reply_is ∙ ap (λ (c : Call). answer c.request o.low) (sym made_answer.call_is)) base.top w.so
 
       -- it hadn't led before
@@ -450,7 +450,7 @@ module _ (doc : Doc) (near far b e : ℕ) (q : Identity) (l : LeadsUntil doc nea
       unled = by_test (leads r w.low) refl
         where
           no_lead : leads r lead.before ≡ false
-          no_lead = leads_are_new doc s.sound.2 (suc e) r lead.x lead.before lead.version lead.position (leading.facts doc near far b e q l s k lead).0 (leading.facts doc near far b e q l s k lead).1
+          no_lead = leads_are_new doc s.rules (suc e) r lead.x lead.before lead.version lead.position (leading.facts doc near far b e q l s k lead).0 (leading.facts doc near far b e q l s k lead).1
 
           below : IsTail w.low lead.before
           below =
@@ -463,7 +463,7 @@ module _ (doc : Doc) (near far b e : ℕ) (q : Identity) (l : LeadsUntil doc nea
           by_test true is = absurd (true_is (sym (leads_on r w.low lead.before below is) ∙ no_lead))
 
       made : MadeSend doc w.f.beat w.f.step w.f.actor w.call (Some o.e.beat) w.low
-      made = subst (λ d. MadeAs doc w.f.beat w.f.step w.f.actor d w.low) w.f_fact (are_made doc s.sound.2 (suc e) w.f w.low asked_e)
+      made = subst (λ d. MadeAs doc w.f.beat w.f.step w.f.actor d w.low) w.f_fact (are_made doc s.rules (suc e) w.f w.low asked_e)
 
       mine_made : made.q ≡ r
       mine_made = actor_is made.q r (sym made.by ∙ f_actor)
@@ -476,7 +476,7 @@ module _ (doc : Doc) (near far b e : ℕ) (q : Identity) (l : LeadsUntil doc nea
 
       -- and the Get that found the record was answered after the release
       in_turn : w.f.step ≡ 4 → ⊥
-      in_turn four = by_due (subst (λ d. IsTurnSend doc w.f.beat r d w.low) w.f_fact (sends_are_due doc s.sound.2 (suc e) w.f w.low asked_e four r f_actor) role)
+      in_turn four = by_due (subst (λ d. IsTurnSend doc w.f.beat r d w.low) w.f_fact (sends_are_due doc s.rules (suc e) w.f w.low asked_e four r f_actor) role)
         where
           get_not : Get election ≡ Update election update.version update.lease → ⊥
           get_not is = cc
@@ -484,7 +484,7 @@ module _ (doc : Doc) (near far b e : ℕ) (q : Identity) (l : LeadsUntil doc nea
           by_due : IsDue doc w.f.beat r w.call w.low → ⊥
           by_due (inl fast) =
               let x = expired_by r w.f.beat w.low fast in
-              never_expires doc s.sound.2 near far e s.one r role passing (s.calls r.process role) x.x x.before x.call
+              never_expires doc s.rules near far e s.one r role passing (s.calls r.process role) x.x x.before x.call
               (tail_trans (x.x ∷ x.before) w.low (history doc (suc e)) x.position (tail_trans w.low (w.f ∷ w.low) (history doc (suc e)) (inr (tail_all w.low)) asked_e)) x.actor x.fact
           by_due (inr due) = get_not (sym (attempt_gets doc r w.f.beat w.low unled) ∙ sym due.1 ∙ update.is)
 
@@ -512,7 +512,7 @@ module _ (doc : Doc) (near far b e : ℕ) (q : Identity) (l : LeadsUntil doc nea
           p_e = tail_trans p.before (entry w.f.beat 3 r (Delivers p.waiting p.reply true) ∷ p.before) (history doc (suc e)) (inr (tail_all p.before)) d_e
 
           o2 : Origin doc r p.waiting p.reply p.before w.f.beat
-          o2 = origin doc s.sound.2 (suc e) r (entry w.f.beat 3 r (Delivers p.waiting p.reply true)) p.before p.waiting p.reply d_e refl refl
+          o2 = origin doc s.rules (suc e) r (entry w.f.beat 3 r (Delivers p.waiting p.reply true)) p.before p.waiting p.reply d_e refl refl
 
           o2_e : IsTail (o2.e ∷ o2.low) (history doc (suc e))
           o2_e = tail_trans (o2.e ∷ o2.low) p.before (history doc (suc e)) o2.answered p_e
@@ -524,7 +524,7 @@ module _ (doc : Doc) (near far b e : ℕ) (q : Identity) (l : LeadsUntil doc nea
 
           key2 : key_of p.waiting.request ≡ election
           key2 =
-              asks_election doc s.sound e s.end r role o2.begun.f p.waiting o2.begun.arrives
+              asks_election doc s.sound s.rules e s.end r role o2.begun.f p.waiting o2.begun.arrives
               (in_head o2.begun.f o2.begun.before (history doc (suc e)) (tail_trans (o2.begun.f ∷ o2.begun.before) p.before (history doc (suc e)) o2.begun.position p_e)) o2.begun.actor o2.begun.fact
 
           get_election : p.waiting.request ≡ Get election
@@ -535,8 +535,8 @@ module _ (doc : Doc) (near far b e : ℕ) (q : Identity) (l : LeadsUntil doc nea
               found_kept o.low base.y base.top kept o2.low low2 update.version free.lease (ap (λ q. answer q o2.low) (sym get_election) ∙ sym o2.reply_is ∙ free.found)
               (ap (λ n. record { 0 = n }) update.same)
 
-          trip : Went doc s.sound.2 near far e r role passing o2.begun.f.beat o2.e.beat w.f.beat
-          trip = went doc s.sound.2 near far e r role passing p.waiting p.reply p.before w.f.beat o2 p_e (beat_before doc e w.f w.low asked_e)
+          trip : Went doc s.rules near far e r role passing o2.begun.f.beat o2.e.beat w.f.beat
+          trip = went doc s.rules near far e r role passing p.waiting p.reply p.before w.f.beat o2 p_e (beat_before doc e w.f w.low asked_e)
 
       sent_late : rel.at + near ≤ w.f.beat
       sent_late = by_step made.step_is
@@ -556,7 +556,7 @@ module _ (doc : Doc) (near far b e : ℕ) (q : Identity) (l : LeadsUntil doc nea
       four_ways = omega (arith, rel.least, sent_late, way.least, told.least, lead.at)
         where
           told : IsWay near far o.e.beat lead.x.beat
-          told = reply_way doc s.sound.2 near far e r role passing o.e o.low o_e o.step lead.x.beat (leading.k_e doc near far b e q l s k lead) o.comes_is
+          told = reply_way doc s.rules near far e r role passing o.e o.low o_e o.step lead.x.beat (leading.k_e doc near far b e q l s k lead) o.comes_is
 
 pub releases_last : ReleasesLast
 releases_last doc near far b e q l s stop rel k lead = four_ways doc near far b e q l s stop rel k lead

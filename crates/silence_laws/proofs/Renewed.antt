@@ -155,10 +155,10 @@ module _ (doc : Doc) (near far b e : ℕ) (q : Identity) (l : LeadsUntil doc nea
 
   module _ (y : ℕ) (to : y ≤ a) (hs : HasSuccess doc q 0 y) where
     abbrev pub o : Origin doc q hs.call (Done hs.version) hs.before y
-    o = origin doc s.sound.2 (suc y) q (entry y 3 q (Delivers hs.call (Done hs.version) true)) hs.before hs.call (Done hs.version) hs.position refl refl
+    o = origin doc s.rules (suc y) q (entry y 3 q (Delivers hs.call (Done hs.version) true)) hs.before hs.call (Done hs.version) hs.position refl refl
 
     pub ways : sendings.IsWay near far o.begun.f.beat o.e.beat y
-    ways = sendings.way doc s.sound.2 near far 0 a q l.role l.steady hs.call (Done hs.version) hs.before y hs.position o to (omega arith)
+    ways = sendings.way doc s.rules near far 0 a q l.role l.steady hs.call (Done hs.version) hs.before y hs.position o to (omega arith)
 
     pub answered_later : o.begun.f.beat < o.e.beat
     answered_later = omega (arith, ways.sent_least, s.one)
@@ -179,16 +179,16 @@ module _ (doc : Doc) (near far b e : ℕ) (q : Identity) (l : LeadsUntil doc nea
     }
 
     acting : Acts doc q y
-    acting = renewing.acts_now doc near far 0 a s.sound (calm_before doc near far b e q l s) (times_before doc near far b e q l s) s.one end q l.role l.steady s.renews y to g
+    acting = renewing.acts_now doc near far 0 a s.sound s.rules (calm_before doc near far b e q l s) (times_before doc near far b e q l s) s.one end q l.role l.steady s.renews y to g
 
     abbrev own : Own doc q o.e.beat (o.e ∷ o.low)
-    own = wrote.first_own doc near far 0 a s.sound (calm_before doc near far b e q l s) (times_before doc near far b e q l s) s.one end q l.role l.steady s.renews y to g acting y (omega arith) to (omega (arith, ways.comes_most))
+    own = wrote.first_own doc near far 0 a s.sound s.rules (calm_before doc near far b e q l s) (times_before doc near far b e q l s) s.one end q l.role l.steady s.renews y to g acting y (omega arith) to (omega (arith, ways.comes_most))
 
     given : own.y.version ≡ hs.version
-    given = wrote.given doc near far 0 a s.sound (calm_before doc near far b e q l s) (times_before doc near far b e q l s) s.one end q l.role l.steady s.renews y to g acting y (omega arith) to (omega (arith, ways.comes_most))
+    given = wrote.given doc near far 0 a s.sound s.rules (calm_before doc near far b e q l s) (times_before doc near far b e q l s) s.one end q l.role l.steady s.renews y to g acting y (omega arith) to (omega (arith, ways.comes_most))
 
     write_high : IsTail (o.e ∷ o.low) (history doc (suc a))
-    write_high = wrote.write_high doc near far 0 a s.sound (calm_before doc near far b e q l s) (times_before doc near far b e q l s) s.one end q l.role l.steady s.renews y to g
+    write_high = wrote.write_high doc near far 0 a s.sound s.rules (calm_before doc near far b e q l s) (times_before doc near far b e q l s) s.one end q l.role l.steady s.renews y to g
 
     -- a later write, by a beat
     pub record Rewritten (n : ℕ) : Type 0 where
@@ -218,7 +218,7 @@ module _ (doc : Doc) (near far b e : ℕ) (q : Identity) (l : LeadsUntil doc nea
     update_comes m x T call arrives lease stands actor fact request upto from still = by_above (same_or_above (o.e ∷ o.low) answering.before low)
       where
         r : Arrives near far x.beat arrives
-        r = request_arrives doc s.sound.2 near far a q.process l.steady m x T q call arrives stands l.role refl actor fact upto (λ j low high. l.goes j (omega (arith, high, still)))
+        r = request_arrives doc s.rules near far a q.process l.steady m x T q call arrives stands l.role refl actor fact upto (λ j low high. l.goes j (omega (arith, high, still)))
 
         at : ℕ
         at = r.at
@@ -259,14 +259,14 @@ module _ (doc : Doc) (near far b e : ℕ) (q : Identity) (l : LeadsUntil doc nea
     -- ---- its attempt, where its timer comes in time
 
     abbrev Due : ℕ → Type 0
-    Due last = renewing.Due doc near far 0 a s.sound (calm_before doc near far b e q l s) (times_before doc near far b e q l s) s.one end q l.role l.steady s.renews y to g last
+    Due last = renewing.Due doc near far 0 a s.sound s.rules (calm_before doc near far b e q l s) (times_before doc near far b e q l s) s.one end q l.role l.steady s.renews y to g last
 
     module _ (last : ℕ) (d : Due last) (reach : d.g ≤ a) where
       abbrev lease : Lease
-      lease = (wrote.what doc near far 0 a s.sound (calm_before doc near far b e q l s) (times_before doc near far b e q l s) s.one end q l.role l.steady s.renews y to g).lease
+      lease = (wrote.what doc near far 0 a s.sound s.rules (calm_before doc near far b e q l s) (times_before doc near far b e q l s) s.one end q l.role l.steady s.renews y to g).lease
 
       abbrev start : IsSet doc q y hs.version lease (entry y 3 q (Delivers hs.call (Done hs.version) true) ∷ hs.before)
-      start = wrote.start doc near far 0 a s.sound (calm_before doc near far b e q l s) (times_before doc near far b e q l s) s.one end q l.role l.steady s.renews y to g
+      start = wrote.start doc near far 0 a s.sound s.rules (calm_before doc near far b e q l s) (times_before doc near far b e q l s) s.one end q l.role l.steady s.renews y to g
 
       from : 0 < y
       from = omega (arith, ways.comes_least, s.one)
@@ -275,15 +275,15 @@ module _ (doc : Doc) (near far b e : ℕ) (q : Identity) (l : LeadsUntil doc nea
       some_way = omega (arith, s.one, s.ways)
 
       timely : (k : ℕ) → k < d.g + 4 * far → k ≤ a → local doc q.process k < start.at + renew_deadline doc q.process
-      timely = renewing.soon doc near far 0 a s.sound (calm_before doc near far b e q l s) (times_before doc near far b e q l s) s.one end q l.role l.steady s.renews y to g last d
+      timely = renewing.soon doc near far 0 a s.sound s.rules (calm_before doc near far b e q l s) (times_before doc near far b e q l s) s.one end q l.role l.steady s.renews y to g last d
 
       tried : HasTried doc q start.low start.at (Some (hs.version, lease)) (history doc (suc d.g))
       tried =
-          has_tried doc s.sound.2 near far 0 a q l.role l.steady start.at y start.low start.leader from (Some (hs.version, lease)) start.idle start.nothing d.g d.from reach d.reached
+          has_tried doc s.rules near far 0 a q l.role l.steady start.at y start.low start.leader from (Some (hs.version, lease)) start.idle start.nothing d.g d.from reach d.reached
           (timely d.g (omega (arith, some_way)) reach)
 
       x1_from : y ≤ tried.x.beat
-      x1_from = later doc s.sound.2 near far 0 a (suc d.g) q l.role l.steady start.at y start.low start.leader from (omega (arith, d.from)) (omega (arith, reach)) tried.x tried.before tried.since tried.position
+      x1_from = later doc s.rules near far 0 a (suc d.g) q l.role l.steady start.at y start.low start.leader from (omega (arith, d.from)) (omega (arith, reach)) tried.x tried.before tried.since tried.position
 
       x1_upto : tried.x.beat ≤ d.g
       x1_upto = ⊎_elim (λ lt. omega (arith, lt)) (λ first. omega (arith, first.0)) (entries_are_earlier doc (suc d.g) tried.x (in_head tried.x tried.before (history doc (suc d.g)) tried.position))
@@ -294,7 +294,7 @@ module _ (doc : Doc) (near far b e : ℕ) (q : Identity) (l : LeadsUntil doc nea
       -- after a Get
       module _ (room : d.g + 2 * far ≤ a) (still : d.g + 3 * far ≤ e) (get : tried.call.request ≡ Get election) where
         free : IsFree q tried.x tried.before tried.call
-        free = is_free doc s.sound.2 (suc d.g) q l.role tried.x tried.before tried.call tried.arrives tried.position tried.actor tried.fact tried.opens
+        free = is_free doc s.rules (suc d.g) q l.role tried.x tried.before tried.call tried.arrives tried.position tried.actor tried.fact tried.opens
 
         room_x : tried.x.beat + 2 * far ≤ a
         room_x = omega (arith, x1_upto, room)
@@ -303,39 +303,39 @@ module _ (doc : Doc) (near far b e : ℕ) (q : Identity) (l : LeadsUntil doc nea
         from_x = omega arith
 
         abbrev comes : ℕ
-        comes = closing.y doc s.sound.2 near far 0 a q l.role l.steady my_time s.one (suc d.g) tried.x tried.before tried.call tried.arrives tried.position tried.actor tried.fact tried.step free.sent tried.opens from_x room_x
+        comes = closing.y doc s.rules near far 0 a q l.role l.steady my_time s.one (suc d.g) tried.x tried.before tried.call tried.arrives tried.position tried.actor tried.fact tried.step free.sent tried.opens from_x room_x
 
         abbrev below : List Entry
-        below = closing.before doc s.sound.2 near far 0 a q l.role l.steady my_time s.one (suc d.g) tried.x tried.before tried.call tried.arrives tried.position tried.actor tried.fact tried.step free.sent tried.opens from_x room_x
+        below = closing.before doc s.rules near far 0 a q l.role l.steady my_time s.one (suc d.g) tried.x tried.before tried.call tried.arrives tried.position tried.actor tried.fact tried.step free.sent tried.opens from_x room_x
 
         comes_least : tried.x.beat < comes
-        comes_least = closing.y_least doc s.sound.2 near far 0 a q l.role l.steady my_time s.one (suc d.g) tried.x tried.before tried.call tried.arrives tried.position tried.actor tried.fact tried.step free.sent tried.opens from_x room_x
+        comes_least = closing.y_least doc s.rules near far 0 a q l.role l.steady my_time s.one (suc d.g) tried.x tried.before tried.call tried.arrives tried.position tried.actor tried.fact tried.step free.sent tried.opens from_x room_x
 
         comes_most : comes ≤ tried.x.beat + 2 * far
-        comes_most = closing.y_most doc s.sound.2 near far 0 a q l.role l.steady my_time s.one (suc d.g) tried.x tried.before tried.call tried.arrives tried.position tried.actor tried.fact tried.step free.sent tried.opens from_x room_x
+        comes_most = closing.y_most doc s.rules near far 0 a q l.role l.steady my_time s.one (suc d.g) tried.x tried.before tried.call tried.arrives tried.position tried.actor tried.fact tried.step free.sent tried.opens from_x room_x
 
         r : IsReplied doc q tried.call (tried.x ∷ tried.before) (tried.x.beat + 2 * far)
         r =
-            is_replied doc s.sound.2 near far 0 a q l.role l.steady my_time s.one (suc d.g) tried.x tried.before tried.call tried.arrives tried.position tried.actor tried.fact tried.step free.sent tried.opens from_x room_x
-            (up_at doc s.sound.2 near far 0 a (suc comes) q l.role l.steady start.at y start.low start.leader from (omega (arith, x1_from, comes_least)) (omega (arith, comes_most, room_x)) comes
+            is_replied doc s.rules near far 0 a q l.role l.steady my_time s.one (suc d.g) tried.x tried.before tried.call tried.arrives tried.position tried.actor tried.fact tried.step free.sent tried.opens from_x room_x
+            (up_at doc s.rules near far 0 a (suc comes) q l.role l.steady start.at y start.low start.leader from (omega (arith, x1_from, comes_least)) (omega (arith, comes_most, room_x)) comes
             (λ k lt. timely k (omega (arith, lt, comes_most, x1_upto, some_way)) (omega (arith, lt, comes_most, room_x))) below
             (tail_trans start.low (tried.x ∷ tried.before) below (inr tried.since)
-            (closing.sent_low doc s.sound.2 near far 0 a q l.role l.steady my_time s.one (suc d.g) tried.x tried.before tried.call tried.arrives tried.position tried.actor tried.fact tried.step free.sent tried.opens from_x room_x))
-            (closing.before_high doc s.sound.2 near far 0 a q l.role l.steady my_time s.one (suc d.g) tried.x tried.before tried.call tried.arrives tried.position tried.actor tried.fact tried.step free.sent tried.opens from_x room_x)
-            (closing.earlier doc s.sound.2 near far 0 a q l.role l.steady my_time s.one (suc d.g) tried.x tried.before tried.call tried.arrives tried.position tried.actor tried.fact tried.step free.sent tried.opens from_x room_x))
+            (closing.sent_low doc s.rules near far 0 a q l.role l.steady my_time s.one (suc d.g) tried.x tried.before tried.call tried.arrives tried.position tried.actor tried.fact tried.step free.sent tried.opens from_x room_x))
+            (closing.before_high doc s.rules near far 0 a q l.role l.steady my_time s.one (suc d.g) tried.x tried.before tried.call tried.arrives tried.position tried.actor tried.fact tried.step free.sent tried.opens from_x room_x)
+            (closing.earlier doc s.rules near far 0 a q l.role l.steady my_time s.one (suc d.g) tried.x tried.before tried.call tried.arrives tried.position tried.actor tried.fact tried.step free.sent tried.opens from_x room_x))
 
         abbrev heard : Entry
         heard = entry r.at 3 q (Delivers tried.call r.reply true)
 
         o1 : Origin doc q tried.call r.reply r.before r.at
-        o1 = origin doc s.sound.2 (suc r.at) q heard r.before tried.call r.reply r.position refl refl
+        o1 = origin doc s.rules (suc r.at) q heard r.before tried.call r.reply r.position refl refl
 
         high : IsTail r.before (history doc (suc r.at))
         high = tail_trans r.before (heard ∷ r.before) (history doc (suc r.at)) (inr (tail_all r.before)) r.position
 
         same : o1.begun.f ∷ o1.begun.before ≡ tried.x ∷ tried.before
         same =
-            sends_differ doc s.sound.2 (suc r.at) q o1.begun.f tried.x o1.begun.before tried.before tried.call tried.call o1.begun.arrives tried.arrives
+            sends_differ doc s.rules (suc r.at) q o1.begun.f tried.x o1.begun.before tried.before tried.call tried.call o1.begun.arrives tried.arrives
             (tail_trans (o1.begun.f ∷ o1.begun.before) r.before (history doc (suc r.at)) o1.begun.position high) (tail_trans (tried.x ∷ tried.before) r.before (history doc (suc r.at)) r.since high)
             o1.begun.actor tried.actor o1.begun.fact tried.fact refl
 
@@ -383,7 +383,7 @@ module _ (doc : Doc) (near far b e : ℕ) (q : Identity) (l : LeadsUntil doc nea
 
             position2 : IsTail (x2 ∷ T2) (history doc (suc r.at))
             position2 =
-                subst (λ f. IsTail (react doc r.at q (leads q T2) f T2) (history doc (suc r.at))) asks (replies_follow doc s.sound.2 (suc r.at) q heard r.before tried.call r.reply r.position refl refl l.role refl)
+                subst (λ f. IsTail (react doc r.at q (leads q T2) f T2) (history doc (suc r.at))) asks (replies_follow doc s.rules (suc r.at) q heard r.before tried.call r.reply r.position refl refl l.role refl)
 
         after_get : Rewritten (d.g + 3 * far)
         after_get = by_above (same_or_above (o.e ∷ o.low) o1.low low1)
@@ -409,7 +409,7 @@ module _ (doc : Doc) (near far b e : ℕ) (q : Identity) (l : LeadsUntil doc nea
         h_g = tail_trans h (tried.x ∷ h) (history doc (suc d.g)) (inr (tail_all h)) tried.position
 
         led : leads q h ≡ true
-        led = (in_term doc s.sound.2 near far 0 a (suc d.g) q l.role l.steady start.at y start.low start.leader from (omega (arith, d.from)) (omega (arith, reach)) h tried.since h_g).led
+        led = (in_term doc s.rules near far 0 a (suc d.g) q l.role l.steady start.at y start.low start.leader from (omega (arith, d.from)) (omega (arith, reach)) h tried.since h_g).led
 
         -- its record is what it was told
         same_lease : (a b : Lease) → object.Lease a ≡ object.Lease b → a ≡ b
@@ -417,7 +417,7 @@ module _ (doc : Doc) (near far b e : ℕ) (q : Identity) (l : LeadsUntil doc nea
 
         key : key_of hs.call.request ≡ election
         key =
-            asks_election doc s.sound y (omega (arith, to, end)) q l.role o.begun.f hs.call o.begun.arrives
+            asks_election doc s.sound s.rules y (omega (arith, to, end)) q l.role o.begun.f hs.call o.begun.arrives
             (in_head o.begun.f o.begun.before (history doc (suc y)) (tail_trans (o.begun.f ∷ o.begun.before) hs.before (history doc (suc y)) o.begun.position (tail_trans hs.before (entry y 3 q (Delivers hs.call (Done hs.version) true) ∷ hs.before) (history doc (suc y)) (inr (tail_all hs.before)) hs.position)))
             o.begun.actor o.begun.fact
 
@@ -426,7 +426,7 @@ module _ (doc : Doc) (near far b e : ℕ) (q : Identity) (l : LeadsUntil doc nea
             same_lease own.lease lease
             (sym own.object ∙ written_is o.e o.low own.y lease
             (ap (λ d. at_key election (write_of d)) o.fact
-            ∙ shows_written hs.call.request hs.version lease o.low (wrote.what doc near far 0 a s.sound (calm_before doc near far b e q l s) (times_before doc near far b e q l s) s.one end q l.role l.steady s.renews y to g).told_is (sym o.reply_is) key) own.top)
+            ∙ shows_written hs.call.request hs.version lease o.low (wrote.what doc near far 0 a s.sound s.rules (calm_before doc near far b e q l s) (times_before doc near far b e q l s) s.one end q l.role l.steady s.renews y to g).told_is (sym o.reply_is) key) own.top)
 
         mine : is_own q lease.holder ≡ true
         mine = ap (λ (l : Lease). is_own q l.holder) (sym lease_is) ∙ ap (is_own q) own.holder ∙ same_self q
@@ -439,7 +439,7 @@ module _ (doc : Doc) (near far b e : ℕ) (q : Identity) (l : LeadsUntil doc nea
 
         module _ (same : stored election h ≡ stored election (o.e ∷ o.low)) where
           since : own.y.beat ≤ seen
-          since = seen_since doc d.g s.sound (omega (arith, reach, end)) q l.role h h_g own.y (same ∙ own.top) h (tail_all h) (hs.version, lease) tried.idle.shown_is (ap (λ (v : Version). v.0) (sym given))
+          since = seen_since doc d.g s.sound s.rules (omega (arith, reach, end)) q l.role h h_g own.y (same ∙ own.top) h (tail_all h) (hs.version, lease) tried.idle.shown_is (ap (λ (v : Version). v.0) (sym given))
 
           valid : is_valid (local doc q.process x) (observed_at doc q h) lease ≡ true
           valid = by_test (nat_lt (local doc q.process x) (observed_at doc q h + of_seconds (or_zero lease.duration))) refl
@@ -476,10 +476,10 @@ module _ (doc : Doc) (near far b e : ℕ) (q : Identity) (l : LeadsUntil doc nea
 
     -- its timer comes a retry period after the success
     timer_due : y + s.renews.wait ≤ a → Due (y + s.renews.wait)
-    timer_due room = by_due (renewing.due_or_ahead doc near far 0 a s.sound (calm_before doc near far b e q l s) (times_before doc near far b e q l s) s.one end q l.role l.steady s.renews y to g s.renews.wait)
+    timer_due room = by_due (renewing.due_or_ahead doc near far 0 a s.sound s.rules (calm_before doc near far b e q l s) (times_before doc near far b e q l s) s.one end q l.role l.steady s.renews y to g s.renews.wait)
       where
-        by_due : Due (y + s.renews.wait) ⊎ renewing.Ahead doc near far 0 a s.sound (calm_before doc near far b e q l s) (times_before doc near far b e q l s) s.one end q l.role l.steady s.renews y to g (y + s.renews.wait) → Due (y + s.renews.wait)
-        by_due (inr none) = absurd (renewing.comes_by doc near far 0 a s.sound (calm_before doc near far b e q l s) (times_before doc near far b e q l s) s.one end q l.role l.steady s.renews y to g room none)
+        by_due : Due (y + s.renews.wait) ⊎ renewing.Ahead doc near far 0 a s.sound s.rules (calm_before doc near far b e q l s) (times_before doc near far b e q l s) s.one end q l.role l.steady s.renews y to g (y + s.renews.wait) → Due (y + s.renews.wait)
+        by_due (inr none) = absurd (renewing.comes_by doc near far 0 a s.sound s.rules (calm_before doc near far b e q l s) (times_before doc near far b e q l s) s.one end q l.role l.steady s.renews y to g room none)
         by_due (inl d) = d
 
     -- where there was time to send it

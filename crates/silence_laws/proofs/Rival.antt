@@ -215,7 +215,7 @@ module _ (doc : Doc) (near far b e : ℕ) (q : Identity) (l : LeadsUntil doc nea
   asked_e = tail_trans (w.f ∷ w.low) f.before (history doc (suc e)) w.asked low_e
 
   pub sent : w.call.sent ≡ w.f.beat
-  sent = sent_beat doc s.sound.2 near far e c w.role steady w.f w.low w.call (Some f.x.beat) asked_e w.f_actor w.f_fact
+  sent = sent_beat doc s.rules near far e c w.role steady w.f w.low w.call (Some f.x.beat) asked_e w.f_actor w.f_fact
 
   pub foreign : own.y.by ≡ Some c → ⊥
   foreign by = rival doc near far b e q l s H H_e quiet f (some_is c q (sym by ∙ own.by))
@@ -224,21 +224,21 @@ module _ (doc : Doc) (near far b e : ℕ) (q : Identity) (l : LeadsUntil doc nea
   others = other doc near far b e q l s H H_e quiet f
 
   key : key_of w.call.request ≡ election
-  key = asks_election doc s.sound e s.end c w.role w.f w.call (Some f.x.beat) (in_head w.f w.low (history doc (suc e)) asked_e) w.f_actor w.f_fact
+  key = asks_election doc s.sound s.rules e s.end c w.role w.f w.call (Some f.x.beat) (in_head w.f w.low (history doc (suc e)) asked_e) w.f_actor w.f_fact
 
   made_answer : MadeAnswer doc f.x.beat f.x.step f.x.actor w.call w.reply w.comes w.wrote f.before
-  made_answer = subst (λ d. MadeAs doc f.x.beat f.x.step f.x.actor d f.before) w.fact (are_made doc s.sound.2 (suc e) f.x f.before (tail_trans (f.x ∷ f.before) H (history doc (suc e)) f.position H_e))
+  made_answer = subst (λ d. MadeAs doc f.x.beat f.x.step f.x.actor d f.before) w.fact (are_made doc s.rules (suc e) f.x f.before (tail_trans (f.x ∷ f.before) H (history doc (suc e)) f.position H_e))
 
   update : IsUpdate w.call.request own.y
   update = accepted_update w.call.request w.reply f.before own.y key (made_answer.reply_is ∙ ap (λ (c : Call). answer c.request f.before) (sym made_answer.call_is)) own.top w.so
 
   -- a reply that told of this version is that of a Get that found the record
   tells : (d : Entry) (S : List Entry) → IsTail (d ∷ S) f.before → (t : Shown) → (i : IsTold c d.actor d.fact t) → t.0.0 ≡ own.y.version.0
-      → ShowsIt doc near far e s.sound s.end c w.role f.before low_e own.y own.top own.lease own.object foreign i.w i.reply S d.beat
-  tells d S at t i same = shows_it doc near far e s.sound s.end c w.role f.before low_e own.y own.top own.lease own.object foreign d S at t i same
+      → ShowsIt doc near far e s.sound s.rules s.end c w.role f.before low_e own.y own.top own.lease own.object foreign i.w i.reply S d.beat
+  tells d S at t i same = shows_it doc near far e s.sound s.rules s.end c w.role f.before low_e own.y own.top own.lease own.object foreign d S at t i same
 
   made : MadeSend doc w.f.beat w.f.step w.f.actor w.call (Some f.x.beat) w.low
-  made = subst (λ d. MadeAs doc w.f.beat w.f.step w.f.actor d w.low) w.f_fact (are_made doc s.sound.2 (suc e) w.f w.low asked_e)
+  made = subst (λ d. MadeAs doc w.f.beat w.f.step w.f.actor d w.low) w.f_fact (are_made doc s.rules (suc e) w.f w.low asked_e)
 
   whose : made.q ≡ c
   whose = actor_is made.q c (sym made.by ∙ w.f_actor)
@@ -253,18 +253,18 @@ module _ (doc : Doc) (near far b e : ℕ) (q : Identity) (l : LeadsUntil doc nea
 
   pub record LastLook : Type 0 where
     pub S : List Entry
-    pub look : Look doc s.sound.2 near far e s.one s.ways c w.role steady time f.before low_e own.y own.top own.lease own.object w.f.beat S
+    pub look : Look doc s.rules near far e s.one s.ways c w.role steady time f.before low_e own.y own.top own.lease own.object w.f.beat S
     pub free : is_blocked c (local doc c.process w.f.beat) (observed_at doc c w.low) (respected doc.settings.rules.respect (lease_seconds doc c.process) own.lease) ≡ false
     pub low : w.low ≡ entry w.f.beat 3 c (Delivers look.w (Found own.y.version own.lease) true) ∷ S
 
   -- not in its turn
   in_turn : w.f.step ≡ 4 → ⊥
-  in_turn four = by_due (subst (λ d. IsTurnSend doc w.f.beat c d w.low) w.f_fact (sends_are_due doc s.sound.2 (suc e) w.f w.low asked_e four c w.f_actor) w.role)
+  in_turn four = by_due (subst (λ d. IsTurnSend doc w.f.beat c d w.low) w.f_fact (sends_are_due doc s.rules (suc e) w.f w.low asked_e four c w.f_actor) w.role)
     where
       by_due : IsDue doc w.f.beat c w.call w.low → ⊥
       by_due (inl fast) =
           let x = expired_by c w.f.beat w.low fast in
-          never_expires doc s.sound.2 near far e s.one c w.role steady time x.x x.before x.call (tail_trans (x.x ∷ x.before) w.low (history doc (suc e)) x.position (tail_trans w.low (w.f ∷ w.low) (history doc (suc e)) (inr (tail_all w.low)) asked_e)) x.actor x.fact
+          never_expires doc s.rules near far e s.one c w.role steady time x.x x.before x.call (tail_trans (x.x ∷ x.before) w.low (history doc (suc e)) x.position (tail_trans w.low (w.f ∷ w.low) (history doc (suc e)) (inr (tail_all w.low)) asked_e)) x.actor x.fact
       by_due (inr due) = own_other c own.lease.holder (subst (λ (l : Lease). is_own c l.holder ≡ true) lease_is p.own) others
         where
           p : IsOwnShown c w.low update.version
@@ -276,7 +276,7 @@ module _ (doc : Doc) (near far b e : ℕ) (q : Identity) (l : LeadsUntil doc nea
           i : IsTold c last.x.actor last.x.fact (update.version, p.lease)
           i = told_by c last.x.actor last.x.fact (update.version, p.lease) last.says
 
-          it : ShowsIt doc near far e s.sound s.end c w.role f.before low_e own.y own.top own.lease own.object foreign i.w i.reply last.before last.x.beat
+          it : ShowsIt doc near far e s.sound s.rules s.end c w.role f.before low_e own.y own.top own.lease own.object foreign i.w i.reply last.before last.x.beat
           it = tells last.x last.before (tail_trans (last.x ∷ last.before) w.low f.before last.position (tail_trans w.low (w.f ∷ w.low) f.before (inr (tail_all w.low)) w.asked)) (update.version, p.lease) i update.same
 
           told_is : ◌≡◌ {A = Option Shown} (Some (own.y.version, own.lease)) (Some (update.version, p.lease))
@@ -314,13 +314,13 @@ module _ (doc : Doc) (near far b e : ℕ) (q : Identity) (l : LeadsUntil doc nea
       i : IsTold c (actor_of c) (Delivers r.waiting r.reply true) (update.version, free.lease)
       i = record { w = r.waiting; reply = r.reply; actor = refl; fact = refl; tells = ap (λ request. told request r.reply) get.1 ∙ ap (told (Get get.0)) free.found }
 
-      it : ShowsIt doc near far e s.sound s.end c w.role f.before low_e own.y own.top own.lease own.object foreign r.waiting r.reply r.before w.f.beat
+      it : ShowsIt doc near far e s.sound s.rules s.end c w.role f.before low_e own.y own.top own.lease own.object foreign r.waiting r.reply r.before w.f.beat
       it = tells (entry w.f.beat 3 c (Delivers r.waiting r.reply true)) r.before at_d (update.version, free.lease) i update.same
 
       with_origin : (o : Origin doc c r.waiting (Found own.y.version own.lease) r.before w.f.beat) × IsTail (kept.z ∷ kept.before) o.low
       with_origin = subst (λ reply. (o : Origin doc c r.waiting reply r.before w.f.beat) × IsTail (kept.z ∷ kept.before) o.low) it.reply_is (it.o, it.low)
 
-      look : Look doc s.sound.2 near far e s.one s.ways c w.role steady time f.before low_e own.y own.top own.lease own.object w.f.beat r.before
+      look : Look doc s.rules near far e s.one s.ways c w.role steady time f.before low_e own.y own.top own.lease own.object w.f.beat r.before
       look = record {
         w = r.waiting;
         get = it.get;

@@ -7,6 +7,7 @@ use Rattle.kube_objects.specs.Document.{Doc, end_beat, is_controller}
 use Rattle.kube_objects.specs.Elector.{Shown, shows, shown, is_known, newly, observed}
 use Rattle.kube_objects.specs.Entry.{Entry, Identity}
 use Rattle.kube_objects.specs.Newest.{added, has, or_zero}
+use Rattle.kube_objects.specs.Own.{ReleasesByStop}
 use Rattle.kube_objects.specs.Stored.{Held, Write, election, stored, at_key, write_of, key_of, writes}
 use Rattle.history.specs.History.{history}
 use Rattle.history.specs.Sound.{IsSound}
@@ -20,7 +21,7 @@ use Rattle.silence_laws.proofs.Looking.{asks_election, IsAccepted, Telling, ByGe
 use Rattle.silence_laws.proofs.Showing.{IsTold, told_by}
 use Rattle.silence_laws.proofs.Waiting.{beats_rise}
 
-module _ (doc : Doc) (e : ℕ) (sound : IsSound doc) (end : e ≤ end_beat doc) (c : Identity) (role : is_controller doc c.process ≡ true)
+module _ (doc : Doc) (e : ℕ) (sound : IsSound doc) (rules : ReleasesByStop doc) (end : e ≤ end_beat doc) (c : Identity) (role : is_controller doc c.process ≡ true)
     (T : List Entry) (at : IsTail T (history doc (suc e))) (y : Held) (is : stored election T ≡ Some y) where
   abbrev k : Kept T y
   k = kept_of T y is
@@ -31,7 +32,7 @@ module _ (doc : Doc) (e : ℕ) (sound : IsSound doc) (end : e ≤ end_beat doc) 
     d_e = tail_trans (d ∷ S) T (history doc (suc e)) position at
 
     o : Origin doc c t.w t.reply S d.beat
-    o = origin doc sound.2 (suc e) c d S t.w t.reply d_e t.actor t.fact
+    o = origin doc rules (suc e) c d S t.w t.reply d_e t.actor t.fact
 
     version : s.0 ≡ y.version
     version = ap (λ n. record { 0 = n }) same
@@ -47,7 +48,7 @@ module _ (doc : Doc) (e : ℕ) (sound : IsSound doc) (end : e ≤ end_beat doc) 
 
     key : key_of t.w.request ≡ election
     key =
-        asks_election doc sound e end c role o.begun.f t.w o.begun.arrives
+        asks_election doc sound rules e end c role o.begun.f t.w o.begun.arrives
         (in_head o.begun.f o.begun.before (history doc (suc e)) (tail_trans (o.begun.f ∷ o.begun.before) T (history doc (suc e)) asked_t at)) o.begun.actor o.begun.fact
 
     upto : (z : Entry) (Z : List Entry) → IsTail (z ∷ Z) S → z.beat ≤ d.beat

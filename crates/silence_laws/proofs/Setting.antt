@@ -7,7 +7,7 @@ use Rattle.kube_objects.specs.Entry.{Entry, Identity, Call, Fact, Stops, Sends, 
 use Rattle.kube_objects.specs.Identities.{of_process}
 use Rattle.kube_objects.specs.Newest.{when, has}
 use Rattle.kube_objects.specs.Wire.{Sent, Back, sent_of, back_of, request_delay, request_arrival}
-use Rattle.kube_objects.specs.Own.{IsOwn}
+use Rattle.kube_objects.specs.Own.{ReleasesByStop}
 use Rattle.history.specs.History.{history}
 use Rattle.history_laws.specs.Tails.{In, IsTail}
 use Rattle.history_laws.proofs.Order.{entries_are_earlier}
@@ -66,7 +66,7 @@ pub record Arrives (near far from : ℕ) (arrives : Option ℕ) : Type 0 where
   pub is : arrives ≡ Some at
   pub way : IsWay near far from at
 
-module _ (doc : Doc) (rules : IsOwn doc) (near far e p : ℕ) (steady : IsSteady doc near far 0 e p) where
+module _ (doc : Doc) (rules : ReleasesByStop doc) (near far e p : ℕ) (steady : IsSteady doc near far 0 e p) where
   -- a controller's request isn't lost
   request_woken : (m : ℕ) (x : Entry) (T : List Entry) (who : Identity) (call : Call) (arrives : Option ℕ) → IsTail (x ∷ T) (history doc m) → is_controller doc p ≡ true → who.process ≡ p → x.actor ≡ actor_of who → x.fact ≡ Sends call arrives → x.beat ≤ e
       → arrives ≡ Some (awake doc (x.beat + request_delay p (with_events doc x.beat)))
@@ -163,7 +163,7 @@ module _ (doc : Doc) (near far b e : ℕ) (q : Identity) (l : LeadsUntil doc nea
           made : MadeSend doc x.beat x.step x.actor m.call m.arrives (place_of x (history doc 0) stands).before
           made =
               subst (λ d. MadeAs doc x.beat x.step x.actor d (place_of x (history doc 0) stands).before) (sends_of x.actor x.fact m is).1
-              (are_made doc s.sound.2 0 x (place_of x (history doc 0) stands).before (place_of x (history doc 0) stands).position)
+              (are_made doc s.rules 0 x (place_of x (history doc 0) stands).before (place_of x (history doc 0) stands).position)
 
       no_reply : (x : Entry) → In x (history doc 0) → (m : Back) → back_of x.actor x.fact ≡ Some m → ⊥
       no_reply x stands m is = none_yet x stands (omega (arith, made.step_is))
@@ -174,17 +174,17 @@ module _ (doc : Doc) (near far b e : ℕ) (q : Identity) (l : LeadsUntil doc nea
           made : MadeAnswer doc x.beat x.step x.actor m.call m.reply m.comes facts.wrote (place_of x (history doc 0) stands).before
           made =
               subst (λ d. MadeAs doc x.beat x.step x.actor d (place_of x (history doc 0) stands).before) facts.fact
-              (are_made doc s.sound.2 0 x (place_of x (history doc 0) stands).before (place_of x (history doc 0) stands).position)
+              (are_made doc s.rules 0 x (place_of x (history doc 0) stands).before (place_of x (history doc 0) stands).position)
 
   pub times_before : AreInTime doc near far 0 (b - 1)
   times_before p role steady = restrict_time doc far 0 0 (b - 1) e p (omega arith) (omega (arith, l.within)) (s.calls p role)
 
   -- the leader's first success, and that it stays up to b
   pub its_lead : HasLed doc q (b - 3 * far)
-  its_lead = acting_led doc s.sound.2 q (b - 3 * far) l.acts
+  its_lead = acting_led doc s.rules q (b - 3 * far) l.acts
 
   pub it_stays : Stays doc q its_lead.j (b - 1)
-  it_stays = leaders_stay doc near far 0 (b - 1) s.sound calm_before times_before s.one s.ways (omega (arith, l.within, s.end)) q l.role l.steady s.renews its_lead.j its_lead.success
+  it_stays = leaders_stay doc near far 0 (b - 1) s.sound s.rules calm_before times_before s.one s.ways (omega (arith, l.within, s.end)) q l.role l.steady s.renews its_lead.j its_lead.success
 
   pub its_time : its_lead.j ≤ b - 1
   its_time = omega (arith, its_lead.to, s.one, s.ways)
@@ -192,5 +192,5 @@ module _ (doc : Doc) (near far b e : ℕ) (q : Identity) (l : LeadsUntil doc nea
   -- no other controller that renews in time has a success before b
   pub none_else : OthersRenewBefore doc near far b q → (r : Identity) → is_controller doc r.process ≡ true → (r.process ≡ q.process → ⊥) → (j : ℕ) → j ≤ b - 1 → HasSuccess doc r 0 j → ⊥
   none_else renew r role other j to hs =
-      other (ap (λ (p : Identity). p.process) (one_stays doc near far 0 (b - 1) s.sound calm_before times_before s.one (omega (arith, l.within, s.end))
+      other (ap (λ (p : Identity). p.process) (one_stays doc near far 0 (b - 1) s.sound s.rules calm_before times_before s.one (omega (arith, l.within, s.end))
       q l.role l.steady s.renews its_lead.j its_time its_lead.success r role (restrict doc near far 0 (b - 1) e r.process (omega (arith, l.within)) (l.others r.process role other)) (renew r role other) j to hs))

@@ -12,7 +12,7 @@ use Rattle.kube_objects.specs.Newest.{newest, when, only_if, join, has, or_zero}
 use Rattle.kube_objects.specs.Process.{alive, last_call, call_in}
 use Rattle.kube_objects.specs.Stored.{election}
 use Rattle.kube_objects.specs.Turns.{expired_in, is_fast_call}
-use Rattle.kube_objects.specs.Own.{IsOwn}
+use Rattle.kube_objects.specs.Own.{ReleasesByStop}
 use Rattle.history.specs.History.{history}
 use Rattle.history_laws.specs.Tails.{In, IsTail}
 use Rattle.history_laws.proofs.Plainly.{upper, false_is, same_self}
@@ -31,7 +31,7 @@ some_none x is = cc
 
 -- ---- what it sends first after a failure
 
-module _ (doc : Doc) (rules : IsOwn doc) (m : ℕ) (q : Identity) (role : is_controller doc q.process ≡ true) (unled : (h : List Entry) → IsTail h (history doc m) → leads q h ≡ false)
+module _ (doc : Doc) (rules : ReleasesByStop doc) (m : ℕ) (q : Identity) (role : is_controller doc q.process ≡ true) (unled : (h : List Entry) → IsTail h (history doc m) → leads q h ≡ false)
     (unstopped : (x : Entry) → In x (history doc m) → x.fact ≡ Stops → has (of_process q.process x.actor) ≡ true → ⊥)
     (r : ℕ) (w : Call) (reply : Reply) (S : List Entry) (stands : IsTail (entry r 3 q (Delivers w reply true) ∷ S) (history doc m)) (failed : follow_on doc q r w.kind w.request reply (entry r 3 q (Delivers w reply true) ∷ S) ≡ Fails) where
   abbrev pub failure : Entry

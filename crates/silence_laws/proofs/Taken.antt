@@ -66,13 +66,13 @@ module _ (doc : Doc) (near far b e : ℕ) (q : Identity) (l : LeadsUntil doc nea
   first = o.e ∷ o.low
 
   first_a : IsTail first (history doc (suc a))
-  first_a = wrote.write_high doc near far 0 a s.sound (calm_before doc near far b e q l s) (times_before doc near far b e q l s) s.one end_a q l.role l.steady s.renews j j_to given
+  first_a = wrote.write_high doc near far 0 a s.sound s.rules (calm_before doc near far b e q l s) (times_before doc near far b e q l s) s.one end_a q l.role l.steady s.renews j j_to given
 
   pub first_e : IsTail first (history doc (suc e))
   first_e = tail_trans first (history doc (suc a)) (history doc (suc e)) first_a (later_tail doc (suc a) (suc e) (omega (arith, l.within)))
 
   pub first_writes : has (at_key election (write_of o.e.fact)) ≡ true
-  first_writes = wrote.writes doc near far 0 a s.sound (calm_before doc near far b e q l s) (times_before doc near far b e q l s) s.one end_a q l.role l.steady s.renews j j_to given
+  first_writes = wrote.writes doc near far 0 a s.sound s.rules (calm_before doc near far b e q l s) (times_before doc near far b e q l s) s.one end_a q l.role l.steady s.renews j j_to given
 
   -- a write of somebody else above it comes at b or later
   pub foreign_late : (f : IsForeign doc near far b e q l s H H_e quiet first H) → b ≤ f.x.beat
@@ -80,7 +80,7 @@ module _ (doc : Doc) (near far b e : ℕ) (q : Identity) (l : LeadsUntil doc nea
     where
       early : f.x.beat < b → ⊥
       early lt =
-          f.other (alone_since doc near far 0 a s.sound (calm_before doc near far b e q l s) (times_before doc near far b e q l s) s.one end_a q l.role l.steady s.renews j j_to given f.x f.before
+          f.other (alone_since doc near far 0 a s.sound s.rules (calm_before doc near far b e q l s) (times_before doc near far b e q l s) s.one end_a q l.role l.steady s.renews j j_to given f.x f.before
           (tail_trans (f.x ∷ f.before) (history doc (suc f.x.beat)) (history doc (suc a)) (in_own_beat doc (suc e) f.x f.before (tail_trans (f.x ∷ f.before) H (history doc (suc e)) f.position H_e)) (later_tail doc (suc f.x.beat) (suc a) (omega (arith, lt)))) f.since f.writes)
 
   -- ---- the first write of somebody else, and the record over which it comes
@@ -102,7 +102,7 @@ module _ (doc : Doc) (near far b e : ℕ) (q : Identity) (l : LeadsUntil doc nea
     own = own_since doc near far b e q l s H H_e quiet o.e o.low some first_writes o.actor f.before f.since low_h f.own
 
     pub won : Won doc f.x f.before
-    won = is_won doc s.sound e s.end f.x f.before (tail_trans (f.x ∷ f.before) H (history doc (suc e)) f.position H_e) (omega (arith, late, some_b doc near far b e q l s)) f.writes
+    won = is_won doc s.sound s.rules e s.end f.x f.before (tail_trans (f.x ∷ f.before) H (history doc (suc e)) f.position H_e) (omega (arith, late, some_b doc near far b e q l s)) f.writes
 
     pub rival : won.who ≡ q → ⊥
     rival same = f.other (won.actor ∙ ap actor_of same)
@@ -111,7 +111,7 @@ module _ (doc : Doc) (near far b e : ℕ) (q : Identity) (l : LeadsUntil doc nea
     back_is = ap (λ d. back_of f.x.actor d) won.fact ∙ ap (λ who. back_of who (Answers won.call won.reply won.comes won.wrote)) won.actor
 
     known : Waits doc plainly (end_beat doc) (whole_history doc)
-    known = whole_known doc s.sound (greatest_below doc (length doc.controllers)) (rates_at_most doc) plainly (λ x h at from late. (omega arith, omega arith))
+    known = whole_known doc s.sound s.rules (greatest_below doc (length doc.controllers)) (rates_at_most doc) plainly (λ x h at from late. (omega arith, omega arith))
 
     -- it waited for the record's duration since it was shown it
     took : Took doc plainly (record { who = won.who; call = won.call; reply = won.reply; comes = won.comes }) f.x.beat f.before

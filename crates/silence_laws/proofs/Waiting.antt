@@ -7,7 +7,7 @@ use Rattle.kube_objects.specs.Document.{Doc, is_controller, call_timeout}
 use Rattle.kube_objects.specs.Entry.{Entry, Identity, Call, Sends, Delivers, Expires, actor_of, entry}
 use Rattle.kube_objects.specs.Newest.{when}
 use Rattle.kube_objects.specs.Process.{alive, call_in, call_says, is_late}
-use Rattle.kube_objects.specs.Own.{IsOwn}
+use Rattle.kube_objects.specs.Own.{ReleasesByStop}
 use Rattle.kube_objects.proofs.Own.{is_late-own}
 use Rattle.history.specs.History.{history}
 use Rattle.history_laws.specs.Tails.{IsTail}
@@ -45,7 +45,7 @@ pub beats_rise : (doc : Doc) (e : ℕ) (x : Entry) (T : List Entry) → IsTail (
 beats_rise doc e x T at z Z low = beat_before doc x.beat z Z (tail_trans (z ∷ Z) (x ∷ T) (history doc (suc x.beat)) (inr low) (in_own_beat doc (suc e) x T at))
 
 -- a waiting call's sending is the one that has its number
-pub one_sending : (doc : Doc) → IsOwn doc → (m : ℕ) (q : Identity) (w : Call) (S : List Entry) → IsTail S (history doc m) → (b : Begun q w S) → (x : Entry) (T : List Entry) (call : Call) (arrives : Option ℕ) → IsTail (x ∷ T) (history doc m)
+pub one_sending : (doc : Doc) → ReleasesByStop doc → (m : ℕ) (q : Identity) (w : Call) (S : List Entry) → IsTail S (history doc m) → (b : Begun q w S) → (x : Entry) (T : List Entry) (call : Call) (arrives : Option ℕ) → IsTail (x ∷ T) (history doc m)
     → x.actor ≡ actor_of q → x.fact ≡ Sends call arrives → w.number ≡ call.number → b.f ∷ b.before ≡ x ∷ T
 one_sending doc rules m q w S at b x T call arrives position actor fact number =
     sends_differ doc rules m q b.f x b.before T w call b.arrives arrives (tail_trans (b.f ∷ b.before) S (history doc m) b.position at) position b.actor actor b.fact fact number
@@ -55,7 +55,7 @@ pub record IsCountedAfter (q : Identity) (w : Call) (S : List Entry) : Type 0 wh
   pub begun : Begun q w S
   pub up : alive q.process S ≡ Some q.incarnation
 
-pub counted_after : (doc : Doc) → IsOwn doc → (m : ℕ) (q : Identity) (x : Entry) (S : List Entry) (w : Call) (reply : _) → IsTail (x ∷ S) (history doc m) → x.actor ≡ actor_of q → x.fact ≡ Delivers w reply true → IsCountedAfter q w S
+pub counted_after : (doc : Doc) → ReleasesByStop doc → (m : ℕ) (q : Identity) (x : Entry) (S : List Entry) (w : Call) (reply : _) → IsTail (x ∷ S) (history doc m) → x.actor ≡ actor_of q → x.fact ≡ Delivers w reply true → IsCountedAfter q w S
 counted_after doc rules m q x S w reply at actor fact = record {
   begun = begun_by q S w (ap (λ p. call_in p S) (sym mine) ∙ counts.waits);
   up = subst (λ (q : Identity). alive q.process S ≡ Some q.incarnation) mine counts.up;
@@ -77,7 +77,7 @@ says_done q x w reply actor fact = ap (call_says q x.actor) fact ∙ ap (λ who.
 none_some : {A : Type 0} (x : A) → None ≡ Some x → ⊥
 none_some x is = cc
 
-module _ (doc : Doc) (rules : IsOwn doc) (near far e : ℕ) (one : 1 ≤ near) (q : Identity) (role : is_controller doc q.process ≡ true) (steady : IsSteady doc near far 0 e q.process) (time : IsInTime doc far 0 e q.process) where
+module _ (doc : Doc) (rules : ReleasesByStop doc) (near far e : ℕ) (one : 1 ≤ near) (q : Identity) (role : is_controller doc q.process ≡ true) (steady : IsSteady doc near far 0 e q.process) (time : IsInTime doc far 0 e q.process) where
   pub never_expires : (x : Entry) (T : List Entry) (w : Call) → IsTail (x ∷ T) (history doc (suc e)) → x.actor ≡ actor_of q → x.fact ≡ Expires w → ⊥
   never_expires x T w at actor fact = ⊎_elim early (λ le. soon le) (cases_lt (b.f.beat + 2 * far) x.beat)
     where

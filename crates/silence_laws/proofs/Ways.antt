@@ -7,7 +7,7 @@ use Rattle.kube_objects.specs.Newest.{or_else}
 use Rattle.kube_objects.specs.Pauses.{resume, held_up}
 use Rattle.kube_objects.specs.Process.{alive, open_as, call_in}
 use Rattle.kube_objects.specs.Wire.{reply_delay_of, reply_loss_of, request_delay, reply_delay, arrival, request_arrival, reply_arrival}
-use Rattle.kube_objects.specs.Own.{IsOwn}
+use Rattle.kube_objects.specs.Own.{ReleasesByStop}
 use Rattle.kube_objects.proofs.Pauses.{resume_later}
 use Rattle.history.specs.History.{history}
 use Rattle.history_laws.specs.Tails.{IsTail}
@@ -33,7 +33,7 @@ pub record IsFreely (q : Identity) (x : Entry) (T : List Entry) : Type 0 where
   pub up : alive q.process T ≡ Some q.incarnation
   pub idle : call_in q T ≡ None
 
-pub sent_freely : (doc : Doc) → IsOwn doc → (m : ℕ) (q : Identity) → is_controller doc q.process ≡ true → (x : Entry) (T : List Entry) (call : Call) (arrives : Option ℕ) → IsTail (x ∷ T) (history doc m) → x.actor ≡ actor_of q → x.fact ≡ Sends call arrives
+pub sent_freely : (doc : Doc) → ReleasesByStop doc → (m : ℕ) (q : Identity) → is_controller doc q.process ≡ true → (x : Entry) (T : List Entry) (call : Call) (arrives : Option ℕ) → IsTail (x ∷ T) (history doc m) → x.actor ≡ actor_of q → x.fact ≡ Sends call arrives
     → open_as call.kind call ≡ Some call → IsFreely q x T
 sent_freely doc rules m q role x T call arrives at actor fact opens = by_free (made.free role_made)
   where
@@ -55,7 +55,7 @@ pub beat_before : (doc : Doc) (m : ℕ) (x : Entry) (T : List Entry) → IsTail 
 beat_before doc m x T at = ⊎_elim (λ lt. omega (arith, lt)) (λ first. omega (arith, first.0)) (entries_are_earlier doc (suc m) x (in_head x T (history doc (suc m)) at))
 
 -- a call tells the beat at which it was sent
-pub sent_at : (doc : Doc) → IsOwn doc → (m : ℕ) (q : Identity) (x : Entry) (T : List Entry) (call : Call) (arrives : Option ℕ) → IsTail (x ∷ T) (history doc m) → x.actor ≡ actor_of q → x.fact ≡ Sends call arrives → call.sent ≡ x.beat
+pub sent_at : (doc : Doc) → ReleasesByStop doc → (m : ℕ) (q : Identity) (x : Entry) (T : List Entry) (call : Call) (arrives : Option ℕ) → IsTail (x ∷ T) (history doc m) → x.actor ≡ actor_of q → x.fact ≡ Sends call arrives → call.sent ≡ x.beat
 sent_at doc rules m q x T call arrives at actor fact = (subst (λ o. IfSome o (λ s. (s.call.sent ≡ x.beat) × (s.arrives ≡ request_arrival doc s.who.process x.beat T))) (sent_is x q call arrives actor fact) (messages_travel doc rules m x T at).0).0
 
 -- ---- ways
@@ -70,7 +70,7 @@ pub record IsWay (near far from to : ℕ) : Type 0 where
   pub least : from + near ≤ to
   pub most : to ≤ from + far
 
-module _ (doc : Doc) (rules : IsOwn doc) (near far e : ℕ) (q : Identity) (role : is_controller doc q.process ≡ true) (steady : IsSteady doc near far 0 e q.process) where
+module _ (doc : Doc) (rules : ReleasesByStop doc) (near far e : ℕ) (q : Identity) (role : is_controller doc q.process ≡ true) (steady : IsSteady doc near far 0 e q.process) where
   pub request_way : (x : Entry) (T : List Entry) (call : Call) (k : ℕ) → IsTail (x ∷ T) (history doc (suc e)) → x.actor ≡ actor_of q → x.fact ≡ Sends call (Some k) → open_as call.kind call ≡ Some call
       → ((j : ℕ) → x.beat ≤ j → j ≤ k → j ≤ x.beat + far → is_stalled doc j ≡ false) → IsWay near far x.beat k
   request_way x T call k at actor fact opens goes = record { least = omega (arith, same, passes.request_least); most = omega (arith, same, passes.request_most) }

@@ -8,7 +8,7 @@ use Rattle.kube_objects.specs.Document.{Doc, end_beat, is_controller}
 use Rattle.kube_objects.specs.Entry.{Entry, Identity, Call, Release, Starts, Stops, Sends, Answers, entry}
 use Rattle.kube_objects.specs.Identities.{of_process}
 use Rattle.kube_objects.specs.Newest.{has}
-use Rattle.kube_objects.specs.Own.{IsOwn}
+use Rattle.kube_objects.specs.Own.{ReleasesByStop}
 use Rattle.kube_objects.specs.Stalls.{is_stalled}
 use Rattle.history.specs.History.{history}
 use Rattle.history.specs.Premise.{lease_premise}
@@ -35,6 +35,7 @@ pub record LeadsUntil (doc : Doc) (near far b e : ℕ) (q : Identity) : Type 0 w
 -- its deadline, and before another controller finds its record over on any controller's clock
 pub record Bears (doc : Doc) (near far b e : ℕ) (q : Identity) : Type 0 where
   pub sound : IsSound doc
+  pub rules : ReleasesByStop doc
   pub one : 1 ≤ near
   pub ways : near ≤ far
   pub end : e ≤ end_beat doc
@@ -59,7 +60,7 @@ IsSilent doc b e p = (x : Entry) (call : Call) (arrives : Option ℕ) → In x (
 
 -- so it writes no election Lease from then on
 abbrev pub SilentsAreQuiet : Type 0
-SilentsAreQuiet = (doc : Doc) → IsOwn doc → (b e p : ℕ) → IsSilent doc b e p → IsQuiet doc b e p
+SilentsAreQuiet = (doc : Doc) → ReleasesByStop doc → (b e p : ℕ) → IsSilent doc b e p → IsQuiet doc b e p
 
 -- the leader is stopped at beat b, and its process doesn't start again up to beat e
 pub record IsStopped (doc : Doc) (b e : ℕ) (q : Identity) : Type 0 where

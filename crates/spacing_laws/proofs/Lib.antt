@@ -1,5 +1,3 @@
-pub mod Born
-pub mod Acting
 pub mod Spaced
 pub mod Effects
 pub mod Rates

@@ -11,7 +11,7 @@ use Rattle.kube_objects.specs.Newest.{when}
 use Rattle.kube_objects.specs.Process.{open_as, alive, call_in, is_late, counted}
 use Rattle.kube_objects.specs.Turns.{with_reply}
 use Rattle.kube_objects.specs.Wire.{Back, reply_arrival}
-use Rattle.kube_objects.specs.Own.{IsOwn}
+use Rattle.kube_objects.specs.Own.{ReleasesByStop}
 use Rattle.history.specs.History.{history}
 use Rattle.history.specs.Steps.{deliver_as, delivered, react_as}
 use Rattle.history_laws.specs.Order.{IsWithin, IsOrdered}
@@ -76,7 +76,7 @@ pub record IsReplied (doc : Doc) (q : Identity) (call : Call) (sent : List Entry
   pub position : IsTail (entry at 3 q (Delivers call reply true) ∷ before) (history doc (suc at))
   pub since : IsTail sent before
 
-module _ (doc : Doc) (rules : IsOwn doc) (near far a e : ℕ) (q : Identity) (role : is_controller doc q.process ≡ true) (steady : IsSteady doc near far a e q.process) (time : IsInTime doc far a e q.process) (one : 1 ≤ near)
+module _ (doc : Doc) (rules : ReleasesByStop doc) (near far a e : ℕ) (q : Identity) (role : is_controller doc q.process ≡ true) (steady : IsSteady doc near far a e q.process) (time : IsInTime doc far a e q.process) (one : 1 ≤ near)
     (m : ℕ) (x : Entry) (T : List Entry) (call : Call) (arrives : Option ℕ) (at : IsTail (x ∷ T) (history doc m)) (actor : x.actor ≡ actor_of q) (fact : x.fact ≡ Sends call arrives) (step : 3 ≤ x.step)
     (sent : call.sent ≡ x.beat) (opens : open_as call.kind call ≡ Some call) (from : a ≤ x.beat) (room : x.beat + 2 * far ≤ e) where
   pub round : IsRound doc near far q call arrives x.beat

@@ -5,7 +5,7 @@ use Rattle.kube_objects.specs.declared.call.Reply.TheVariants.{Done}
 use Rattle.kube_objects.specs.Document.{Doc, is_controller}
 use Rattle.kube_objects.specs.Elector.{succeeds}
 use Rattle.kube_objects.specs.Entry.{Entry, Identity, Call, Delivers, entry}
-use Rattle.kube_objects.specs.Own.{IsOwn}
+use Rattle.kube_objects.specs.Own.{ReleasesByStop}
 use Rattle.history.specs.History.{history}
 use Rattle.history_laws.specs.Tails.{IsTail}
 use Rattle.takeover_laws.specs.Calm.{IsSteady}
@@ -27,7 +27,7 @@ pub record IsGiven (doc : Doc) (near far a : ℕ) (q : Identity) (y : ℕ) : Typ
   pub most : y ≤ o.e.beat + far
 
 -- so is one of a call that was sent then
-pub given_of : (doc : Doc) → IsOwn doc → (near far a e : ℕ) (q : Identity) → is_controller doc q.process ≡ true → IsSteady doc near far a e q.process → 1 ≤ near → (y : ℕ) → y ≤ e → HasSuccess doc q a y → IsGiven doc near far a q y
+pub given_of : (doc : Doc) → ReleasesByStop doc → (near far a e : ℕ) (q : Identity) → is_controller doc q.process ≡ true → IsSteady doc near far a e q.process → 1 ≤ near → (y : ℕ) → y ≤ e → HasSuccess doc q a y → IsGiven doc near far a q y
 given_of doc rules near far a e q role steady one y to s = record {
   call = s.call;
   version = s.version;

@@ -13,7 +13,7 @@ use Rattle.kube_objects.specs.Pauses.{is_paused}
 use Rattle.kube_objects.specs.Process.{alive, starts, call_says, last_call, call_in}
 use Rattle.kube_objects.specs.Turns.{end_term, expired_in, just_expired, end_as}
 use Rattle.kube_objects.specs.Wire.{send}
-use Rattle.kube_objects.specs.Own.{IsOwn}
+use Rattle.kube_objects.specs.Own.{ReleasesByStop}
 use Rattle.history.specs.History.{history}
 use Rattle.history.specs.Steps.{if_up, finish, turn}
 use Rattle.history_laws.specs.Tails.{IsTail}
@@ -106,7 +106,7 @@ module _ (doc : Doc) (q : Identity) (low : List Entry) (at : ℕ) (view : Option
           (λ other. true_is (sym (ap (is_by q) mine ∙ same_self q) ∙ ap (λ (e : Entry). is_by q e.actor) same ∙ other)) no_move
       by_place z Z (inr at) below mine moves = s.unmoved z Z at below mine moves
 
-  module _ (rules : IsOwn doc) (m : ℕ) (role : is_controller doc q.process ≡ true) (led : (h : List Entry) → IsTail low h → IsTail h (history doc m) → leads q h ≡ true)
+  module _ (rules : ReleasesByStop doc) (m : ℕ) (role : is_controller doc q.process ≡ true) (led : (h : List Entry) → IsTail low h → IsTail h (history doc m) → leads q h ≡ true)
       (up : (h : List Entry) → IsTail low h → IsTail h (history doc m) → alive q.process h ≡ Some q.incarnation) where
     by_actor : (who : Actor) (p : Identity) → who ≡ actor_of p → is_by q who ≡ true → p ≡ q
     by_actor who p by mine = same_is p q (sym (ap (is_by q) by) ∙ mine)

@@ -9,7 +9,7 @@ use Rattle.kube_objects.specs.Identities.{is_by, of_process}
 use Rattle.kube_objects.specs.Newest.{has}
 use Rattle.kube_objects.specs.Pauses.{can_at}
 use Rattle.kube_objects.specs.Process.{alive}
-use Rattle.kube_objects.specs.Own.{IsOwn}
+use Rattle.kube_objects.specs.Own.{ReleasesByStop}
 use Rattle.kube_objects.proofs.Clocks.{local_up}
 use Rattle.history.specs.History.{history, at_turn}
 use Rattle.history.specs.Safe.{Acts}
@@ -54,7 +54,7 @@ IsTimely doc p at K = (k : ℕ) → k < K → local doc p k < at + renew_deadlin
 pub all_before : (doc : Doc) (k : ℕ) (h : List Entry) → IsTail h (history doc (suc k)) → AllBefore (suc k) h
 all_before doc k h at z stands four = ⊎_elim (λ lt. lt) (λ first. omega (arith, first.1, four)) (entries_are_earlier doc (suc k) z (in_tail z h (history doc (suc k)) at stands))
 
-module _ (doc : Doc) (rules : IsOwn doc) (near far a e m : ℕ) (q : Identity) (role : is_controller doc q.process ≡ true) (steady : IsSteady doc near far a e q.process) (at y : ℕ) (low : List Entry) (leader : IsLeader doc q at y low)
+module _ (doc : Doc) (rules : ReleasesByStop doc) (near far a e m : ℕ) (q : Identity) (role : is_controller doc q.process ≡ true) (steady : IsSteady doc near far a e q.process) (at y : ℕ) (low : List Entry) (leader : IsLeader doc q at y low)
     (from : a < y) (to : y < m) (within : m ≤ suc e) where
   abbrev rd : ℕ
   rd = renew_deadline doc q.process

@@ -1,3 +1,4 @@
+pub mod Giving
 pub mod Won
 pub mod Rivals
 pub mod Reacting

@@ -11,7 +11,7 @@ use Rattle.kube_objects.specs.Kubelet.{next_request, send_next}
 use Rattle.kube_objects.specs.Process.{counted}
 use Rattle.kube_objects.specs.Turns.{react}
 use Rattle.kube_objects.specs.Wire.{Back}
-use Rattle.kube_objects.specs.Own.{IsOwn}
+use Rattle.kube_objects.specs.Own.{ReleasesByStop}
 use Rattle.history.proofs.Own.{react-own}
 use Rattle.history.specs.History.{history}
 use Rattle.history.specs.Steps.{deliver_all, deliver_as, delivered, react_as, step_three}
@@ -117,7 +117,7 @@ next_stands doc k q (Some request) R x T is (inr at) = at
 abbrev pub reacted : Doc → ℕ → Identity → Call → Reply → List Entry → List Entry
 reacted doc k q w reply h = react doc k q (leads q h) (follow_on doc q k w.kind w.request reply h) h
 
-pub replies_follow : (doc : Doc) → IsOwn doc → (m : ℕ) (q : Identity) (x : Entry) (T : List Entry) (w : Call) (reply : Reply) → IsTail (x ∷ T) (history doc m) → x.step ≡ 3 → x.actor ≡ actor_of q → is_controller doc q.process ≡ true → x.fact ≡ Delivers w reply true
+pub replies_follow : (doc : Doc) → ReleasesByStop doc → (m : ℕ) (q : Identity) (x : Entry) (T : List Entry) (w : Call) (reply : Reply) → IsTail (x ∷ T) (history doc m) → x.step ≡ 3 → x.actor ≡ actor_of q → is_controller doc q.process ≡ true → x.fact ≡ Delivers w reply true
     → IsTail (reacted doc x.beat q w reply (x ∷ T)) (history doc (suc x.beat))
 replies_follow doc rules m q x T w reply at step actor role fact = cases (counted doc s.b.who k s.b.call.number s.h) s.stands s.position
   where
@@ -182,7 +182,7 @@ is_lead (Leads version) = true
 is_lead _ = false
 
 -- who comes to lead didn't lead before
-pub leads_are_new : (doc : Doc) → IsOwn doc → (m : ℕ) (q : Identity) (x : Entry) (T : List Entry) (version : Version) → IsTail (x ∷ T) (history doc m) → x.actor ≡ actor_of q → x.fact ≡ Leads version → leads q T ≡ false
+pub leads_are_new : (doc : Doc) → ReleasesByStop doc → (m : ℕ) (q : Identity) (x : Entry) (T : List Entry) (version : Version) → IsTail (x ∷ T) (history doc m) → x.actor ≡ actor_of q → x.fact ≡ Leads version → leads q T ≡ false
 leads_are_new doc rules m q x T version at actor fact = cases (counted doc p k s.b.call.number s.h) s.stands
   where
     k : ℕ

@@ -14,6 +14,7 @@ use Rattle.kube_objects.specs.Document.{Doc, end_beat, is_controller, renew_dead
 use Rattle.kube_objects.specs.Elector.{Moment, Fails, Asks, shown, moment, observed_at, is_valid, updated, renewed, follow_get, follow, follow_on, succeeds, leads, attempt_from, attempt, respected}
 use Rattle.kube_objects.specs.Entry.{Entry, Identity, Call, CallKind, Plain, Fast, Fact, Sends, Answers, Delivers, actor_of, entry}
 use Rattle.kube_objects.specs.Identities.{is_own, is_other}
+use Rattle.kube_objects.specs.Own.{ReleasesByStop}
 use Rattle.kube_objects.specs.Process.{open_as}
 use Rattle.kube_objects.specs.Stored.{Held, election, stored, next_version}
 use Rattle.kube_objects.specs.Turns.{react}
@@ -106,7 +107,7 @@ record Round (doc : Doc) (near far e : ℕ) (q : Identity) (x : Entry) (T : List
   ways : IsWay near far x.beat o.e.beat at
   within : at ≤ e
 
-module _ (doc : Doc) (near far a e : ℕ) (sound : IsSound doc) (calm : IsCalm doc near far a e) (time : AreInTime doc near far a e) (one : 1 ≤ near) (end : e ≤ end_beat doc)
+module _ (doc : Doc) (near far a e : ℕ) (sound : IsSound doc) (rules : ReleasesByStop doc) (calm : IsCalm doc near far a e) (time : AreInTime doc near far a e) (one : 1 ≤ near) (end : e ≤ end_beat doc)
     (q : Identity) (role : is_controller doc q.process ≡ true) (steady : IsSteady doc near far a e q.process) (renews : RenewsInTime doc near far a e q) (y : ℕ) (to : y ≤ e) (s : IsGiven doc near far a q y) where
   my_time : IsInTime doc far a e q.process
   my_time = time q.process role steady
@@ -117,8 +118,8 @@ module _ (doc : Doc) (near far a e : ℕ) (sound : IsSound doc) (calm : IsCalm d
   from : a < y
   from = omega (arith, s.least, s.from, one)
 
-  abbrev start : IsSet doc q y s.version (wrote.what doc near far a e sound calm time one end q role steady renews y to s).lease (entry y 3 q (Delivers s.call (Done s.version) true) ∷ s.before)
-  start = wrote.start doc near far a e sound calm time one end q role steady renews y to s
+  abbrev start : IsSet doc q y s.version (wrote.what doc near far a e sound rules calm time one end q role steady renews y to s).lease (entry y 3 q (Delivers s.call (Done s.version) true) ∷ s.before)
+  start = wrote.start doc near far a e sound rules calm time one end q role steady renews y to s
 
   abbrev low : List Entry
   low = start.low
@@ -133,7 +134,7 @@ module _ (doc : Doc) (near far a e : ℕ) (sound : IsSound doc) (calm : IsCalm d
   now_soon = omega (arith, start.early, my_time.deadline)
 
   pub acts_while : (k : ℕ) → y ≤ k → k ≤ e → local doc q.process k < at + rd → Acts doc q k
-  acts_while k le upto soon = acts_at doc sound.2 near far a e (suc e) q role steady at y low start.leader from (omega (arith, to)) (omega arith) k le (omega (arith, upto)) soon
+  acts_while k le upto soon = acts_at doc rules near far a e (suc e) q role steady at y low start.leader from (omega (arith, to)) (omega arith) k le (omega (arith, upto)) soon
 
   pub acts_now : Acts doc q y
   acts_now = acts_while y (omega arith) to now_soon
@@ -220,7 +221,7 @@ module _ (doc : Doc) (near far a e : ℕ) (sound : IsSound doc) (calm : IsCalm d
     round_of m x T call arrives stands after actor fact step opens le upto = record { at = r.at; reply = r.reply; before = r.before; position = r.position; o = from_answer; same = same; ways = ways_x; within = omega (arith, r.most, room_x) }
       where
         free : IsFree q x T call
-        free = is_free doc sound.2 m q role x T call arrives stands actor fact opens
+        free = is_free doc rules m q role x T call arrives stands actor fact opens
 
         from_x : a ≤ x.beat
         from_x = omega (arith, le, from)
@@ -229,34 +230,34 @@ module _ (doc : Doc) (near far a e : ℕ) (sound : IsSound doc) (calm : IsCalm d
         room_x = omega (arith, upto, room)
 
         comes : ℕ
-        comes = closing.y doc sound.2 near far a e q role steady my_time one m x T call arrives stands actor fact step free.sent opens from_x room_x
+        comes = closing.y doc rules near far a e q role steady my_time one m x T call arrives stands actor fact step free.sent opens from_x room_x
 
         below : List Entry
-        below = closing.before doc sound.2 near far a e q role steady my_time one m x T call arrives stands actor fact step free.sent opens from_x room_x
+        below = closing.before doc rules near far a e q role steady my_time one m x T call arrives stands actor fact step free.sent opens from_x room_x
 
         comes_least : x.beat < comes
-        comes_least = closing.y_least doc sound.2 near far a e q role steady my_time one m x T call arrives stands actor fact step free.sent opens from_x room_x
+        comes_least = closing.y_least doc rules near far a e q role steady my_time one m x T call arrives stands actor fact step free.sent opens from_x room_x
 
         comes_most : comes ≤ x.beat + 2 * far
-        comes_most = closing.y_most doc sound.2 near far a e q role steady my_time one m x T call arrives stands actor fact step free.sent opens from_x room_x
+        comes_most = closing.y_most doc rules near far a e q role steady my_time one m x T call arrives stands actor fact step free.sent opens from_x room_x
 
         r : IsReplied doc q call (x ∷ T) (x.beat + 2 * far)
         r =
-            is_replied doc sound.2 near far a e q role steady my_time one m x T call arrives stands actor fact step free.sent opens from_x room_x
-            (up_at doc sound.2 near far a e (suc comes) q role steady at y low start.leader from (omega (arith, le, comes_least)) (omega (arith, comes_most, room_x)) comes (λ k lt. timely k (omega (arith, lt, comes_most, upto))) below
-            (tail_trans low (x ∷ T) below (inr after) (closing.sent_low doc sound.2 near far a e q role steady my_time one m x T call arrives stands actor fact step free.sent opens from_x room_x))
-            (closing.before_high doc sound.2 near far a e q role steady my_time one m x T call arrives stands actor fact step free.sent opens from_x room_x)
-            (closing.earlier doc sound.2 near far a e q role steady my_time one m x T call arrives stands actor fact step free.sent opens from_x room_x))
+            is_replied doc rules near far a e q role steady my_time one m x T call arrives stands actor fact step free.sent opens from_x room_x
+            (up_at doc rules near far a e (suc comes) q role steady at y low start.leader from (omega (arith, le, comes_least)) (omega (arith, comes_most, room_x)) comes (λ k lt. timely k (omega (arith, lt, comes_most, upto))) below
+            (tail_trans low (x ∷ T) below (inr after) (closing.sent_low doc rules near far a e q role steady my_time one m x T call arrives stands actor fact step free.sent opens from_x room_x))
+            (closing.before_high doc rules near far a e q role steady my_time one m x T call arrives stands actor fact step free.sent opens from_x room_x)
+            (closing.earlier doc rules near far a e q role steady my_time one m x T call arrives stands actor fact step free.sent opens from_x room_x))
 
         from_answer : Origin doc q call r.reply r.before r.at
-        from_answer = origin doc sound.2 (suc r.at) q (entry r.at 3 q (Delivers call r.reply true)) r.before call r.reply r.position refl refl
+        from_answer = origin doc rules (suc r.at) q (entry r.at 3 q (Delivers call r.reply true)) r.before call r.reply r.position refl refl
 
         high : IsTail r.before (history doc (suc r.at))
         high = tail_trans r.before (entry r.at 3 q (Delivers call r.reply true) ∷ r.before) (history doc (suc r.at)) (inr (tail_all r.before)) r.position
 
         same : from_answer.begun.f ∷ from_answer.begun.before ≡ x ∷ T
         same =
-            sends_differ doc sound.2 (suc r.at) q from_answer.begun.f x from_answer.begun.before T call call from_answer.begun.arrives arrives
+            sends_differ doc rules (suc r.at) q from_answer.begun.f x from_answer.begun.before T call call from_answer.begun.arrives arrives
             (tail_trans (from_answer.begun.f ∷ from_answer.begun.before) r.before (history doc (suc r.at)) from_answer.begun.position high) (tail_trans (x ∷ T) r.before (history doc (suc r.at)) r.since high)
             from_answer.begun.actor actor from_answer.begun.fact fact refl
 
@@ -266,21 +267,21 @@ module _ (doc : Doc) (near far a e : ℕ) (sound : IsSound doc) (calm : IsCalm d
         ways_x : IsWay near far x.beat from_answer.e.beat r.at
         ways_x =
             subst (λ k. IsWay near far k from_answer.e.beat r.at) beat
-            (way doc sound.2 near far a e q role steady call r.reply r.before r.at r.position from_answer (omega (arith, r.most, room_x)) (omega (arith, beat, from_x)))
+            (way doc rules near far a e q role steady call r.reply r.before r.at r.position from_answer (omega (arith, r.most, room_x)) (omega (arith, beat, from_x)))
 
     -- an answer to a call stands once
     no_answer_below : (x1 : Entry) (T1 : List Entry) (call : Call) (r : Round doc near far e q x1 T1 call) (x : Entry) (T : List Entry) → IsTail (x ∷ T) r.o.low → (w : Won doc x T) → w.who ≡ q → w.call ≡ call → ⊥
     no_answer_below x1 T1 call r x T stands w mine same = omega (arith, tail_length (x ∷ T) r.o.low stands, ap length once)
       where
         high : IsTail (r.o.e ∷ r.o.low) (history doc (suc r.at))
-        high = answer_high doc sound.2 near far a e q role steady call r.reply r.before r.at r.position r.o r.within
+        high = answer_high doc rules near far a e q role steady call r.reply r.before r.at r.position r.o r.within
 
         back : Back
         back = record { who = w.who; call = w.call; reply = w.reply; comes = w.comes }
 
         once : x ∷ T ≡ r.o.e ∷ r.o.low
         once =
-            answers_differ doc sound.2 (suc r.at) x r.o.e T r.o.low back (record { who = q; call = call; reply = r.reply; comes = Some r.at })
+            answers_differ doc rules (suc r.at) x r.o.e T r.o.low back (record { who = q; call = call; reply = r.reply; comes = Some r.at })
             (tail_trans (x ∷ T) (r.o.e ∷ r.o.low) (history doc (suc r.at)) (inr stands) high) high
             (ap (λ d. back_of x.actor d) w.fact ∙ ap (λ who. back_of who (Answers w.call w.reply w.comes w.wrote)) w.actor)
             (ap (λ d. back_of r.o.e.actor d) r.o.fact ∙ ap (λ who. back_of who (Answers call r.reply (Some r.at) (written call.request r.o.low))) r.o.actor)
@@ -289,7 +290,7 @@ module _ (doc : Doc) (near far a e : ℕ) (sound : IsSound doc) (calm : IsCalm d
     -- ---- its attempt
 
     abbrev lease : Lease
-    lease = (wrote.what doc near far a e sound calm time one end q role steady renews y to s).lease
+    lease = (wrote.what doc near far a e sound rules calm time one end q role steady renews y to s).lease
 
     abbrev shown_low : List Entry
     shown_low = entry y 3 q (Delivers s.call (Done s.version) true) ∷ s.before
@@ -298,10 +299,10 @@ module _ (doc : Doc) (near far a e : ℕ) (sound : IsSound doc) (calm : IsCalm d
     some_way = omega (arith, s.least, s.most, one)
 
     tried : HasTried doc q low at (Some (s.version, lease)) (history doc (suc g))
-    tried = has_tried doc sound.2 near far a e q role steady at y low start.leader from (Some (s.version, lease)) start.idle start.nothing g d.from (omega (arith, room)) d.reached (timely g (omega (arith, some_way)))
+    tried = has_tried doc rules near far a e q role steady at y low start.leader from (Some (s.version, lease)) start.idle start.nothing g d.from (omega (arith, room)) d.reached (timely g (omega (arith, some_way)))
 
     x1_from : y ≤ tried.x.beat
-    x1_from = later doc sound.2 near far a e (suc g) q role steady at y low start.leader from (omega (arith, d.from)) (omega (arith, room)) tried.x tried.before tried.since tried.position
+    x1_from = later doc rules near far a e (suc g) q role steady at y low start.leader from (omega (arith, d.from)) (omega (arith, room)) tried.x tried.before tried.since tried.position
 
     x1_upto : tried.x.beat ≤ g
     x1_upto = ⊎_elim (λ lt. omega (arith, lt)) (λ first. omega (arith, first.0)) (entries_are_earlier doc (suc g) tried.x (in_head tried.x tried.before (history doc (suc g)) tried.position))
@@ -318,7 +319,7 @@ module _ (doc : Doc) (near far a e : ℕ) (sound : IsSound doc) (calm : IsCalm d
     window = omega (arith, d.upto, last_by, s.most)
 
     abbrev own : Own doc q o.e.beat (o.e ∷ o.low)
-    own = wrote.first_own doc near far a e sound calm time one end q role steady renews y to s acts_now n within_n room window
+    own = wrote.first_own doc near far a e sound rules calm time one end q role steady renews y to s acts_now n within_n room window
 
     abbrev Since : Call → List Entry → Type 0
     Since call h = wrote.IsSentSince q shown_low call h
@@ -360,7 +361,7 @@ module _ (doc : Doc) (near far a e : ℕ) (sound : IsSound doc) (calm : IsCalm d
 
     stored1 : stored election r1.o.low ≡ Some own.y
     stored1 =
-        wrote.stays_stored doc near far a e sound calm time one end q role steady renews y to s acts_now n within_n room window r1.o.low first_low last_high
+        wrote.stays_stored doc near far a e sound rules calm time one end q role steady renews y to s acts_now n within_n room window r1.o.low first_low last_high
         (λ x T stands below w mine f. no_answer_below tried.x tried.before tried.call r1 x T stands w mine
         (call_same w.call tried.call T f tried.x tried.before tried.arrives tried.fact (only_one w.call T (tail_trans T r1.o.low r1.before (tail_trans T (x ∷ T) r1.o.low (inr (tail_all T)) stands) low1_high) f)))
       where
@@ -376,7 +377,7 @@ module _ (doc : Doc) (near far a e : ℕ) (sound : IsSound doc) (calm : IsCalm d
             (later_tail doc (suc r1.at) (suc n) (omega (arith, x1_upto, r1.ways.sent_most, r1.ways.comes_most))))
 
     given : own.y.version ≡ s.version
-    given = wrote.given doc near far a e sound calm time one end q role steady renews y to s acts_now n within_n room window
+    given = wrote.given doc near far a e sound rules calm time one end q role steady renews y to s acts_now n within_n room window
 
     -- a round that ends in a version is a success
     success_of : (x : Entry) (T : List Entry) (call : Call) (r : Round doc near far e q x T call) (version : Version) → r.reply ≡ Done version → a ≤ call.sent → succeeds call.request (Done version) ≡ true → HasSuccess doc q a r.at
@@ -390,7 +391,7 @@ module _ (doc : Doc) (near far a e : ℕ) (sound : IsSound doc) (calm : IsCalm d
     }
 
     sent1 : tried.call.sent ≡ tried.x.beat
-    sent1 = (is_free doc sound.2 (suc g) q role tried.x tried.before tried.call tried.arrives tried.position tried.actor tried.fact tried.opens).sent
+    sent1 = (is_free doc rules (suc g) q role tried.x tried.before tried.call tried.arrives tried.position tried.actor tried.fact tried.opens).sent
 
     -- ---- it renews at once
 
@@ -435,7 +436,7 @@ module _ (doc : Doc) (near far a e : ℕ) (sound : IsSound doc) (calm : IsCalm d
 
       position2 : IsTail (x2 ∷ T2) (history doc (suc r1.at))
       position2 =
-          subst (λ f. IsTail (react doc r1.at q (leads q T2) f T2) (history doc (suc r1.at))) asks (replies_follow doc sound.2 (suc r1.at) q heard r1.before tried.call r1.reply r1.position refl refl role refl)
+          subst (λ f. IsTail (react doc r1.at q (leads q T2) f T2) (history doc (suc r1.at))) asks (replies_follow doc rules (suc r1.at) q heard r1.before tried.call r1.reply r1.position refl refl role refl)
 
       at1_from : y < r1.at
       at1_from = omega (arith, x1_from, r1.ways.sent_least, r1.ways.comes_least, one)
@@ -494,7 +495,7 @@ module _ (doc : Doc) (near far a e : ℕ) (sound : IsSound doc) (calm : IsCalm d
 
       stored2 : stored election r2.o.low ≡ Some own.y
       stored2 =
-          wrote.stays_stored doc near far a e sound calm time one end q role steady renews y to s acts_now n within_n room window r2.o.low first_low last_high
+          wrote.stays_stored doc near far a e sound rules calm time one end q role steady renews y to s acts_now n within_n room window r2.o.low first_low last_high
           (λ x T stands below w mine f. none2 x T stands w mine f)
         where
           first_low : IsTail (o.e ∷ o.low) r2.o.low

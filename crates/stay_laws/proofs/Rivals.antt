@@ -8,9 +8,10 @@ use Rattle.kube_objects.specs.declared.object.Object.TheVariants as object
 use Rattle.kube_objects.specs.Clocks.{local}
 use Rattle.kube_objects.specs.Document.{Doc, end_beat, is_controller, lease_seconds}
 use Rattle.kube_objects.specs.Elector.{succeeds}
-use Rattle.kube_objects.specs.Entry.{Entry, Identity, Answers, actor_of}
+use Rattle.kube_objects.specs.Entry.{Entry, Identity, Stops, Answers, actor_of, entry}
 use Rattle.kube_objects.specs.Identities.{is_same, is_by, is_other, of_process, holder_of}
-use Rattle.kube_objects.specs.Newest.{has, when}
+use Rattle.kube_objects.specs.Newest.{added, has, when}
+use Rattle.kube_objects.specs.Own.{ReleasesByStop}
 use Rattle.kube_objects.specs.Process.{is_stop, stops}
 use Rattle.kube_objects.specs.Stored.{Held, election, stored, at_key, write_of}
 use Rattle.kube_objects.specs.Wire.{Back, back_of, request_arrival, request_delay}
@@ -25,6 +26,7 @@ use Rattle.history_laws.proofs.Plainly.{some_is, true_is, same_is, same_self}
 use Rattle.history_laws.proofs.Tailed.{tail_all, tail_trans, count_tail, later_tail, same_head, same_rest}
 use Rattle.span_laws.proofs.Spans.{goes_most}
 use Rattle.lease_laws.proofs.EachKind.{top_stays}
+use Rattle.lease_laws.proofs.Invariant.{gives_up}
 use Rattle.lease_laws.proofs.Premises.{rates_at_most}
 use Rattle.call_laws.specs.Answering.{with_events}
 use Rattle.call_laws.proofs.Above.{in_head}
@@ -39,6 +41,7 @@ use Rattle.takeover_laws.proofs.Writers.{Sending, sending_of}
 use Rattle.gap_laws.proofs.Waits.{Slow, Waited, WaitedFor, Topped, Took, Waits}
 use Rattle.gap_laws.proofs.Histories.{whole_known}
 use Rattle.stay_laws.specs.Stays.{RenewsInTime}
+use Rattle.stay_laws.proofs.Giving.{gives_at_stop}
 use Rattle.stay_laws.proofs.Won.{Won, is_won, never_stopped}
 
 -- what is stored is q's own record, written at a beat or later
@@ -67,14 +70,14 @@ not_sooner (e ∷ h) s x T (inr at) f stands = not_sooner h s.1 x T at f stands
 abbrev pub plainly : Slow
 plainly = record { who = 0; from = 0; least = 0 }
 
-module _ (doc : Doc) (near far a e : ℕ) (sound : IsSound doc) (calm : IsCalm doc near far a e) (time : AreInTime doc near far a e) (one : 1 ≤ near) (end : e ≤ end_beat doc)
+module _ (doc : Doc) (near far a e : ℕ) (sound : IsSound doc) (rules : ReleasesByStop doc) (calm : IsCalm doc near far a e) (time : AreInTime doc near far a e) (one : 1 ≤ near) (end : e ≤ end_beat doc)
     (q : Identity) (role : is_controller doc q.process ≡ true) (steady : IsSteady doc near far a e q.process) (renews : RenewsInTime doc near far a e q) where
   abbrev all : List Entry
   all = history doc (suc e)
 
   -- what is known of all waits
   pub known : Waits doc plainly (end_beat doc) (whole_history doc)
-  known = whole_known doc sound (greatest_below doc (length doc.controllers)) (rates_at_most doc) plainly (λ x h at from late. (omega arith, omega arith))
+  known = whole_known doc sound rules (greatest_below doc (length doc.controllers)) (rates_at_most doc) plainly (λ x h at from late. (omega arith, omega arith))
 
   -- its answer as a message to its sender
   back_is : (x : Entry) (T : List Entry) → (w : Won doc x T) → back_of x.actor x.fact ≡ Some (record { who = w.who; call = w.call; reply = w.reply; comes = w.comes })
@@ -123,7 +126,7 @@ module _ (doc : Doc) (near far a e : ℕ) (sound : IsSound doc) (calm : IsCalm d
 
     -- its sending
     sending : (s : Sending doc a e w.who w.call (Some x.beat)) × (s.f ≡ w.f) × (s.before ≡ w.low)
-    sending = sending_of doc sound.2 near far a e e w.who w.role rival_steady (time w.who.process w.role rival_steady) (omega arith) one w.call (Some x.beat) w.f w.low asked w.f_actor w.f_fact sent_in
+    sending = sending_of doc rules near far a e e w.who w.role rival_steady (time w.who.process w.role rival_steady) (omega arith) one w.call (Some x.beat) w.f w.low asked w.f_actor w.f_fact sent_in
 
     s : Sending doc a e w.who w.call (Some x.beat)
     s = sending.0
@@ -138,11 +141,11 @@ module _ (doc : Doc) (near far a e : ℕ) (sound : IsSound doc) (calm : IsCalm d
         arrives : Some x.beat ≡ request_arrival doc w.who.process s.f.beat s.before
         arrives =
             (subst (λ o. IfSome o (λ s2. (s2.call.sent ≡ s.f.beat) × (s2.arrives ≡ request_arrival doc s2.who.process s.f.beat s.before))) (sent_is s.f w.who w.call (Some x.beat) s.actor s.fact)
-            (messages_travel doc sound.2 (suc e) s.f s.before s.position).0).1
+            (messages_travel doc rules (suc e) s.f s.before s.position).0).1
 
         comes : x.beat ≡ s.f.beat + request_delay w.who.process (with_events doc s.f.beat)
         comes =
-            request_comes doc sound.2 near far w.who.process s.f.beat s.before passes (forces_stand doc sound.2 (suc e) s.f s.before s.position (omega (arith, s.step))) x.beat
+            request_comes doc rules near far w.who.process s.f.beat s.before passes (forces_stand doc rules (suc e) s.f s.before s.position (omega (arith, s.step))) x.beat
             (λ j low high. (rival_steady.passes j (omega (arith, s.from, low)) (omega (arith, high, x_upto))).goes) (sym arrives)
 
     module _ (rival : w.who ≡ q → ⊥) where
@@ -176,7 +179,7 @@ module _ (doc : Doc) (near far a e : ℕ) (sound : IsSound doc) (calm : IsCalm d
   module _ (k : ℕ) (from : a ≤ k) (to : k ≤ e) (acting : Acts doc q k) (x0 : Entry) (T0 : List Entry) (at0 : IsTail (x0 ∷ T0) all) (mine0 : x0.actor ≡ actor_of q) (writes0 : has (at_key election (write_of x0.fact)) ≡ true) (after : a ≤ x0.beat) (some : 1 ≤ x0.beat) where
     -- it isn't stopped
     unstopped : (T : List Entry) → IsTail T all → stops q T ≡ 0
-    unstopped T at = let none = never_stopped doc sound.2 near far a e q steady sound end k from to acting in omega (arith, none, count_tail (λ x. is_stop x.fact && is_by q x.actor) T all at)
+    unstopped T at = let none = never_stopped doc rules near far a e q steady sound end k from to acting in omega (arith, none, count_tail (λ x. is_stop x.fact && is_by q x.actor) T all at)
 
     -- its accepted write leaves its own record
     pub own_of : (from : ℕ) (x : Entry) (T : List Entry) → IsTail (x ∷ T) all → (w : Won doc x T) → w.who ≡ q → from ≤ x.beat → Own doc q from (x ∷ T)
@@ -197,15 +200,29 @@ module _ (doc : Doc) (near far a e : ℕ) (sound : IsSound doc) (calm : IsCalm d
         who : t.b.who ≡ q
         who = ap (λ (b : Back). b.who) (some_is t.b (record { who = w.who; call = w.call; reply = w.reply; comes = w.comes }) (sym t.is ∙ back_is x T w)) ∙ mine
 
-        none : stops t.b.who T ≡ 0
-        none = ap (λ p. stops p T) who ∙ unstopped T (tail_trans T (x ∷ T) all (inr (tail_all T)) at)
+        in_T : IsTail T all
+        in_T = tail_trans T (x ∷ T) all (inr (tail_all T)) at
+
+        -- it gives up no Lease, as it isn't stopped
+        keeps : gives_up t.b.call.kind ≡ true → ⊥
+        keeps gives = omega (arith, none)
+          where
+            s : (before : List Entry) × (w.low ≡ entry w.f.beat 1 w.who Stops ∷ before)
+            s =
+                gives_at_stop doc rules (suc e) w.who w.role w.f w.low w.call (Some x.beat) (tail_trans (w.f ∷ w.low) T all w.asked in_T) w.f_actor w.f_fact
+                (sym (ap (λ (b : Back). gives_up b.call.kind) (some_is t.b (record { who = w.who; call = w.call; reply = w.reply; comes = w.comes }) (sym t.is ∙ back_is x T w))) ∙ gives)
+
+            none : added true (stops q s.0) ≡ 0
+            none =
+                ap (λ b. added b (stops q s.0)) (sym (same_self q)) ∙ ap (λ p. stops q (entry w.f.beat 1 p Stops ∷ s.0)) (sym mine) ∙ ap (stops q) (sym s.1)
+                ∙ unstopped w.low (tail_trans w.low (w.f ∷ w.low) all (inr (tail_all w.low)) (tail_trans (w.f ∷ w.low) T all w.asked in_T))
 
         fit : (t.lease.holder ≡ holder_of t.b.who) × (t.lease.duration ≡ Some (lease_seconds doc t.b.who.process))
-        fit = ⊎_elim (λ own. own) (λ free. absurd (omega (arith, free.1, none))) t.fit
+        fit = ⊎_elim (λ own. own) (λ free. absurd (keeps free.1)) t.fit
 
     -- its first write
     pub won0 : Won doc x0 T0
-    won0 = is_won doc sound e end x0 T0 at0 some writes0
+    won0 = is_won doc sound rules e end x0 T0 at0 some writes0
 
     module _ (n : ℕ) (within : n ≤ e) (soon : n ≤ x0.beat + renews.wait + 5 * far) where
       -- positions up to beat n
@@ -231,7 +248,7 @@ module _ (doc : Doc) (near far a e : ℕ) (sound : IsSound doc) (calm : IsCalm d
       -- an accepted write above the first one is a controller's success
       pub won_at : (x : Entry) (T : List Entry) → IsTail (x ∷ T) (history doc (suc n)) → IsTail (x0 ∷ T0) T → has (at_key election (write_of x.fact)) ≡ true → Won doc x T
       won_at x T at low writes =
-          is_won doc sound e end x T (in_all (x ∷ T) at)
+          is_won doc sound rules e end x T (in_all (x ∷ T) at)
           (omega (arith, some, not_sooner (history doc (suc n)) (entries_are_ordered doc (suc n)) x T at x0 (in_head x0 T0 T low))) writes
 
       -- one more entry

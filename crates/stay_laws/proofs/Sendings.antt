@@ -8,7 +8,7 @@ use Rattle.kube_objects.specs.Pauses.{resume, held_up}
 use Rattle.kube_objects.specs.Process.{open_as, alive, call_in}
 use Rattle.kube_objects.specs.Stored.{election, key_of}
 use Rattle.kube_objects.specs.Wire.{arrival, request_arrival, request_delay, reply_delay, reply_loss_of, reply_delay_of}
-use Rattle.kube_objects.specs.Own.{IsOwn}
+use Rattle.kube_objects.specs.Own.{ReleasesByStop}
 use Rattle.kube_objects.proofs.Pauses.{resume_later}
 use Rattle.history.specs.History.{history}
 use Rattle.history.specs.Sound.{IsSound}
@@ -16,7 +16,7 @@ use Rattle.history_laws.specs.Tails.{In, IsTail}
 use Rattle.history_laws.proofs.Order.{entries_are_ordered}
 use Rattle.history_laws.proofs.Plainly.{some_is, none_is}
 use Rattle.history_laws.proofs.Tailed.{tail_all, tail_trans}
-use Rattle.lease_laws.proofs.Histories.{turn_right}
+use Rattle.lease_laws.proofs.Histories.{bears_own, turn_right}
 use Rattle.lease_laws.proofs.Invariant.{view, SentRight}
 use Rattle.lease_laws.proofs.Steps.{AtMost}
 use Rattle.call_laws.specs.Answering.{with_events}
@@ -36,7 +36,7 @@ pub record IsFree (q : Identity) (x : Entry) (T : List Entry) (call : Call) : Ty
   pub step : 3 ≤ x.step
   pub sent : call.sent ≡ x.beat
 
-pub is_free : (doc : Doc) → IsOwn doc → (m : ℕ) (q : Identity) → is_controller doc q.process ≡ true → (x : Entry) (T : List Entry) (call : Call) (arrives : Option ℕ) → IsTail (x ∷ T) (history doc m) → x.actor ≡ actor_of q → x.fact ≡ Sends call arrives
+pub is_free : (doc : Doc) → ReleasesByStop doc → (m : ℕ) (q : Identity) → is_controller doc q.process ≡ true → (x : Entry) (T : List Entry) (call : Call) (arrives : Option ℕ) → IsTail (x ∷ T) (history doc m) → x.actor ≡ actor_of q → x.fact ≡ Sends call arrives
     → open_as call.kind call ≡ Some call → IsFree q x T call
 is_free doc rules m q role x T call arrives at actor fact opens = by_free (made.free (ap (λ (p : Identity). is_controller doc p.process) mine ∙ role))
   where
@@ -59,12 +59,12 @@ is_free doc rules m q role x T call arrives at actor fact opens = by_free (made.
     by_free (inl stopped) = absurd (not_open (subst (λ kind. open_as kind call ≡ Some call) (ap (λ (c : Call). c.kind) made.call_is ∙ stopped.kind_is) opens))
 
 -- a controller asks for the election Lease alone
-pub key_is : (doc : Doc) (high : ℕ) → AtMost doc high → IsSound doc → (k : ℕ) → k ≤ end_beat doc → (q : Identity) → is_controller doc q.process ≡ true → (x : Entry) (call : Call) (arrives : Option ℕ) → In x (history doc (suc k)) → x.actor ≡ actor_of q
+pub key_is : (doc : Doc) (high : ℕ) → AtMost doc high → IsSound doc → ReleasesByStop doc → (k : ℕ) → k ≤ end_beat doc → (q : Identity) → is_controller doc q.process ≡ true → (x : Entry) (call : Call) (arrives : Option ℕ) → In x (history doc (suc k)) → x.actor ≡ actor_of q
     → x.fact ≡ Sends call arrives → key_of call.request ≡ election
-key_is doc high greatest sound k end q role x call arrives stands actor fact = (right.may.controller role).key
+key_is doc high greatest sound rules k end q role x call arrives stands actor fact = (right.may.controller role).key
   where
     right : SentRight doc high k (view (history doc (suc k))) (record { who = q; call = call; arrives = arrives })
-    right = subst (λ o. IfSome o (SentRight doc high k (view (history doc (suc k))))) (sent_is x q call arrives actor fact) ((turn_right doc high greatest sound (processes doc) k end).entries x stands).0
+    right = subst (λ o. IfSome o (SentRight doc high k (view (history doc (suc k))))) (sent_is x q call arrives actor fact) ((turn_right doc high greatest (bears_own doc high rules) sound (processes doc) k end).entries x stands).0
 
 -- from beat to beat: sent, answered and delivered
 pub record IsWay (near far sent answered comes : ℕ) : Type 0 where
@@ -73,7 +73,7 @@ pub record IsWay (near far sent answered comes : ℕ) : Type 0 where
   pub comes_least : answered + near ≤ comes
   pub comes_most : comes ≤ answered + far
 
-module _ (doc : Doc) (rules : IsOwn doc) (near far a e : ℕ) (q : Identity) (role : is_controller doc q.process ≡ true) (steady : IsSteady doc near far a e q.process) (w : Call) (reply : Reply) (T : List Entry) (y : ℕ)
+module _ (doc : Doc) (rules : ReleasesByStop doc) (near far a e : ℕ) (q : Identity) (role : is_controller doc q.process ≡ true) (steady : IsSteady doc near far a e q.process) (w : Call) (reply : Reply) (T : List Entry) (y : ℕ)
     (at : IsTail (entry y 3 q (Delivers w reply true) ∷ T) (history doc (suc y))) (o : Origin doc q w reply T y) (to : y ≤ e) where
   high : IsTail T (history doc (suc y))
   high = tail_trans T (entry y 3 q (Delivers w reply true) ∷ T) (history doc (suc y)) (inr (tail_all T)) at

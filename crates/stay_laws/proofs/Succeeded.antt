@@ -14,7 +14,7 @@ use Rattle.kube_objects.specs.Newest.{newest, when, only_if, join, has, or_zero}
 use Rattle.kube_objects.specs.Pauses.{can_at}
 use Rattle.kube_objects.specs.Process.{alive, last_call}
 use Rattle.kube_objects.specs.Turns.{expired_in, react}
-use Rattle.kube_objects.specs.Own.{IsOwn}
+use Rattle.kube_objects.specs.Own.{ReleasesByStop}
 use Rattle.history.specs.History.{history, at_turn, three_steps}
 use Rattle.history_laws.specs.Tails.{IsTail}
 use Rattle.history_laws.proofs.Counting.{counted_is}
@@ -70,7 +70,7 @@ abbrev is_lead : Fact → Bool
 is_lead (Leads version) = true
 is_lead _ = false
 
-module _ (doc : Doc) (rules : IsOwn doc) (q : Identity) (role : is_controller doc q.process ≡ true) (y : ℕ) (call : Call) (version : Version) (T : List Entry) (so : succeeds call.request (Done version) ≡ true)
+module _ (doc : Doc) (rules : ReleasesByStop doc) (q : Identity) (role : is_controller doc q.process ≡ true) (y : ℕ) (call : Call) (version : Version) (T : List Entry) (so : succeeds call.request (Done version) ≡ true)
     (at : IsTail (entry y 3 q (Delivers call (Done version) true) ∷ T) (history doc (suc y))) where
   abbrev reply : Entry
   reply = entry y 3 q (Delivers call (Done version) true)

@@ -11,7 +11,7 @@ use Rattle.kube_objects.specs.Newest.{when, has}
 use Rattle.kube_objects.specs.Process.{open_as, alive, call_in}
 use Rattle.kube_objects.specs.Turns.{is_fast_call}
 use Rattle.kube_objects.specs.Wire.{send, next_call, request_arrival}
-use Rattle.kube_objects.specs.Own.{IsOwn}
+use Rattle.kube_objects.specs.Own.{ReleasesByStop}
 use Rattle.kube_objects.proofs.Clocks.{local_up}
 use Rattle.history.specs.History.{history, at_turn}
 use Rattle.history.specs.Steps.{turn}
@@ -45,7 +45,7 @@ pub record HasTried (doc : Doc) (q : Identity) (low : List Entry) (at : ℕ) (vi
 abbrev pub AsksNothing : Doc → Identity → List Entry → Type 0
 AsksNothing doc q low = (k : ℕ) (w : Call) (reply : Reply) (T : List Entry) (r : Request) → low ≡ entry k 3 q (Delivers w reply true) ∷ T → follow_on doc q k w.kind w.request reply low ≡ Asks r → ⊥
 
-module _ (doc : Doc) (rules : IsOwn doc) (near far a e : ℕ) (q : Identity) (role : is_controller doc q.process ≡ true) (steady : IsSteady doc near far a e q.process) (at y : ℕ) (low : List Entry) (leader : IsLeader doc q at y low)
+module _ (doc : Doc) (rules : ReleasesByStop doc) (near far a e : ℕ) (q : Identity) (role : is_controller doc q.process ≡ true) (steady : IsSteady doc near far a e q.process) (at y : ℕ) (low : List Entry) (leader : IsLeader doc q at y low)
     (from : a < y) (view : Option Shown) (idle : Idle doc q low at view low) (nothing : AsksNothing doc q low)
     (g : ℕ) (le : y ≤ g) (to : g ≤ e) (reached : at ≤ local doc q.process g) (soon : local doc q.process g < at + renew_deadline doc q.process) where
   up : (h : List Entry) → IsTail low h → IsTail h (history doc (suc g)) → alive q.process h ≡ Some q.incarnation

@@ -16,7 +16,7 @@ use Rattle.kube_objects.specs.Process.{alive, is_present, is_stop, stops}
 use Rattle.kube_objects.specs.Stored.{election, key_of, request_write, event_write, at_key, write_of}
 use Rattle.kube_objects.specs.Wire.{Sent, back_of}
 use Rattle.kube_objects.specs.Clocks.{local}
-use Rattle.kube_objects.specs.Own.{IsOwn}
+use Rattle.kube_objects.specs.Own.{ReleasesByStop}
 use Rattle.history.specs.History.{history, at_turn}
 use Rattle.history.specs.Premise.{greatest_below}
 use Rattle.history.specs.Safe.{Acts}
@@ -28,7 +28,7 @@ use Rattle.history_laws.proofs.Plainly.{true_is, false_is, and_left, and_right}
 use Rattle.history_laws.proofs.Tailed.{tail_all, tail_trans, turn_tail, before_turn, later_tail}
 use Rattle.lease_laws.proofs.Claims.{term_of}
 use Rattle.lease_laws.proofs.EachKind.{elsewhere}
-use Rattle.lease_laws.proofs.Histories.{turn_right}
+use Rattle.lease_laws.proofs.Histories.{bears_own, turn_right}
 use Rattle.lease_laws.proofs.Premises.{rates_at_most}
 use Rattle.lease_laws.proofs.Quiet.{quiet_tick, deletes_elsewhere}
 use Rattle.lease_laws.proofs.Steps.{sound_of}
@@ -71,7 +71,7 @@ won_succeeds (PostStatus name status at) reply won = absurd won
 none_has : {A : Type 0} (o : Option A) → o ≡ None → has o ≡ true → ⊥
 none_has o is some = false_is (sym (ap has is) ∙ some)
 
-module _ (doc : Doc) (sound : IsSound doc) (k : ℕ) (end : k ≤ end_beat doc) where
+module _ (doc : Doc) (sound : IsSound doc) (rules : ReleasesByStop doc) (k : ℕ) (end : k ≤ end_beat doc) where
   -- by the kind of the entry
   by_fact : (x : Entry) (T : List Entry) (who : Actor) (d : Fact) → x.actor ≡ who → x.fact ≡ d → IsTail (x ∷ T) (history doc (suc k)) → 1 ≤ x.beat → has (at_key election (write_of d)) ≡ true → MadeAs doc x.beat x.step who d T → Won doc x T
   by_fact x T who (FirstPut key object) actor fact position from is made = absurd (omega (arith, from, made))
@@ -79,7 +79,7 @@ module _ (doc : Doc) (sound : IsSound doc) (k : ℕ) (end : k ≤ end_beat doc) 
       absurd (none_has (at_key election (event_write w version))
       (ap (λ w. at_key election (event_write w version)) made.3 ∙ ap (λ v. at_key election (event_write (stamp doc x.beat made.1) v)) made.4 ∙ elsewhere doc x.beat made.1 T (sound_of doc x.beat made.1 sound made.2)) is)
   by_fact x T who (Ticks t) actor fact position from is made =
-      absurd (none_has (at_key election (write_of (Ticks t))) (quiet_tick x.beat made.0 t (deletes_elsewhere doc x.beat made.0 t T made.2)).write is)
+      absurd (none_has (at_key election (write_of (Ticks t))) (quiet_tick x.beat made.0 t (deletes_elsewhere doc x.beat made.0 t T made.2)).mute.write is)
   by_fact x T who (Answers call reply comes wrote) actor fact position from is made = by_role (is_controller doc s.who.process) refl
     where
       s : Sent
@@ -119,7 +119,7 @@ module _ (doc : Doc) (sound : IsSound doc) (k : ℕ) (end : k ≤ end_beat doc) 
         f_fact = sent.1 ∙ ap (λ c. Sends c s.arrives) (sym made.call_is) ∙ ap (Sends call) (due_at x.beat s.arrives made.arriving.now);
       }
       by_role false role =
-          absurd (true_is (sym (some_key (at_key election (request_write call.request wrote)) refl) ∙ asks_elsewhere doc sound k end x (record { who = s.who; call = call; reply = reply; comes = comes }) (in_head x T (history doc (suc k)) position)
+          absurd (true_is (sym (some_key (at_key election (request_write call.request wrote)) refl) ∙ asks_elsewhere doc sound rules k end x (record { who = s.who; call = call; reply = reply; comes = comes }) (in_head x T (history doc (suc k)) position)
           (ap (λ d. back_of x.actor d) fact ∙ ap (λ who. back_of who (Answers call reply comes wrote)) (actor ∙ made.by)) role))
   by_fact x T who (Sends call arrives) actor fact position from is made = absurd (false_is is)
   by_fact x T who (Delivers call reply counted) actor fact position from is made = absurd (false_is is)
@@ -137,7 +137,7 @@ module _ (doc : Doc) (sound : IsSound doc) (k : ℕ) (end : k ≤ end_beat doc) 
 
   -- after the first beat each is such
   pub is_won : (x : Entry) (T : List Entry) → IsTail (x ∷ T) (history doc (suc k)) → 1 ≤ x.beat → has (at_key election (write_of x.fact)) ≡ true → Won doc x T
-  is_won x T position from is = by_fact x T x.actor x.fact refl refl position from is (are_made doc sound.2 (suc k) x T position)
+  is_won x T position from is = by_fact x T x.actor x.fact refl refl position from is (are_made doc rules (suc k) x T position)
 
 -- ---- no stop
 
@@ -161,7 +161,7 @@ stop_is doc k step who ReleaseStops h made is = absurd made
 stop_is doc k step who Ends h made is = absurd (false_is is)
 stop_is doc k step who (Leads version) h made is = absurd (false_is is)
 
-module _ (doc : Doc) (rules : IsOwn doc) (near far a e : ℕ) (q : Identity) (steady : IsSteady doc near far a e q.process) where
+module _ (doc : Doc) (rules : ReleasesByStop doc) (near far a e : ℕ) (q : Identity) (steady : IsSteady doc near far a e q.process) where
   -- from beat a on it isn't stopped
   no_more_stops : (g h : List Entry) → Above (λ x. a ≤ x.beat) g h → IsTail h (history doc (suc e)) → stops q h ≡ stops q g
   no_more_stops g [] above at = ap (stops q) (sym above)
@@ -183,8 +183,8 @@ module _ (doc : Doc) (rules : IsOwn doc) (near far a e : ℕ) (q : Identity) (st
 
       at_turn_none : stops q turn ≡ 0
       at_turn_none =
-          ((turn_right doc (greatest_below doc (length doc.controllers)) (rates_at_most doc) sound q.process k (omega (arith, to, end))).lives q.process q.incarnation
-          (present_is (alive q.process turn) q.incarnation (and_left (is_present (alive q.process turn) q.incarnation) (is_before (local doc q.process k) (deadline doc q turn)) (term_of doc rules q k turn acting.1)))).0
+          (((turn_right doc (greatest_below doc (length doc.controllers)) (rates_at_most doc) (bears_own doc (greatest_below doc (length doc.controllers)) rules) sound q.process k (omega (arith, to, end))).lives q
+          (present_is (alive q.process turn) q.incarnation (and_left (is_present (alive q.process turn) q.incarnation) (is_before (local doc q.process k) (deadline doc q turn)) (term_of doc rules q k turn acting.1)))).unstopped (inl rules.release)).0
 
       first : q.process ≤ processes doc
       first = omega (arith, controllers_first doc q.process acting.0)

@@ -7,6 +7,7 @@ use Rattle.kube_objects.specs.declared.object.Object.{Object}
 use Rattle.kube_objects.specs.Document.{Doc, end_beat, is_controller}
 use Rattle.kube_objects.specs.Entry.{Entry, Identity, Call, Fact, Sends, Answers, Delivers, actor_of, entry}
 use Rattle.kube_objects.specs.Newest.{has}
+use Rattle.kube_objects.specs.Own.{ReleasesByStop}
 use Rattle.kube_objects.specs.Process.{call_in}
 use Rattle.kube_objects.specs.Stored.{Held, election, key_of, stored, at_key, write_of}
 use Rattle.history.specs.History.{history}
@@ -51,7 +52,7 @@ pub record IsSentSince (q : Identity) (low : List Entry) (call : Call) (h : List
   pub fact : f.fact ≡ Sends call arrives
   pub idle : call_in q before ≡ None
 
-module _ (doc : Doc) (near far a e : ℕ) (sound : IsSound doc) (calm : IsCalm doc near far a e) (time : AreInTime doc near far a e) (one : 1 ≤ near) (end : e ≤ end_beat doc)
+module _ (doc : Doc) (near far a e : ℕ) (sound : IsSound doc) (rules : ReleasesByStop doc) (calm : IsCalm doc near far a e) (time : AreInTime doc near far a e) (one : 1 ≤ near) (end : e ≤ end_beat doc)
     (q : Identity) (role : is_controller doc q.process ≡ true) (steady : IsSteady doc near far a e q.process) (renews : RenewsInTime doc near far a e q) (y : ℕ) (to : y ≤ e) (s : IsGiven doc near far a q y) where
   -- the reply, its answer and its call's sending
   abbrev pub reply : Entry
@@ -67,10 +68,10 @@ module _ (doc : Doc) (near far a e : ℕ) (sound : IsSound doc) (calm : IsCalm d
   all_of h at = tail_trans h (history doc (suc y)) (history doc (suc e)) at (later_tail doc (suc y) (suc e) (omega (arith, to)))
 
   asked_high : IsTail (o.begun.f ∷ o.begun.before) (history doc (suc e))
-  asked_high = all_of (o.begun.f ∷ o.begun.before) (sending_high doc sound.2 near far a e q role steady s.call (Done s.version) s.before y s.position o to)
+  asked_high = all_of (o.begun.f ∷ o.begun.before) (sending_high doc rules near far a e q role steady s.call (Done s.version) s.before y s.position o to)
 
   pub write_high : IsTail (o.e ∷ o.low) (history doc (suc e))
-  write_high = all_of (o.e ∷ o.low) (answer_high doc sound.2 near far a e q role steady s.call (Done s.version) s.before y s.position o to)
+  write_high = all_of (o.e ∷ o.low) (answer_high doc rules near far a e q role steady s.call (Done s.version) s.before y s.position o to)
 
   abbrev pub what : IsSuccess s.call.request s.version
   what = success_is s.call.request s.version s.success
@@ -80,13 +81,13 @@ module _ (doc : Doc) (near far a e : ℕ) (sound : IsSound doc) (calm : IsCalm d
     where
       key : key_of s.call.request ≡ election
       key =
-          key_is doc (greatest_below doc (length doc.controllers)) (rates_at_most doc) sound e end q role o.begun.f s.call o.begun.arrives (in_head o.begun.f o.begun.before (history doc (suc e)) asked_high) o.begun.actor o.begun.fact
+          key_is doc (greatest_below doc (length doc.controllers)) (rates_at_most doc) sound rules e end q role o.begun.f s.call o.begun.arrives (in_head o.begun.f o.begun.before (history doc (suc e)) asked_high) o.begun.actor o.begun.fact
 
   abbrev pub shown_low : List Entry
   shown_low = reply ∷ s.before
 
   pub start : IsSet doc q y s.version what.lease shown_low
-  start = is_set doc sound.2 q role y s.call s.version s.before s.success s.position
+  start = is_set doc rules q role y s.call s.version s.before s.success s.position
 
   reply_high : IsTail shown_low (history doc (suc e))
   reply_high = all_of shown_low s.position
@@ -98,14 +99,14 @@ module _ (doc : Doc) (near far a e : ℕ) (sound : IsSound doc) (calm : IsCalm d
 
   module _ (acting : Acts doc q y) (n : ℕ) (ge : y ≤ n) (within : n ≤ e) (soon : n ≤ o.e.beat + renews.wait + 5 * far) where
     pub own : (h : List Entry) → IsTail (o.e ∷ o.low) h → IsTail h (history doc (suc n)) → Own doc q o.e.beat h
-    own = own_at doc near far a e sound calm time one end q role steady renews y (omega (arith, s.least, s.from)) to acting o.e o.low write_high o.actor writes s.from some_beat n within soon
+    own = own_at doc near far a e sound rules calm time one end q role steady renews y (omega (arith, s.least, s.from)) to acting o.e o.low write_high o.actor writes s.from some_beat n within soon
 
     pub its_writes : (x : Entry) (T : List Entry) → IsTail (x ∷ T) (history doc (suc n)) → IsTail (o.e ∷ o.low) T → has (at_key election (write_of x.fact)) ≡ true → x.actor ≡ actor_of q
-    its_writes = own_writes doc near far a e sound calm time one end q role steady renews y (omega (arith, s.least, s.from)) to acting o.e o.low write_high o.actor writes s.from some_beat n within soon
+    its_writes = own_writes doc near far a e sound rules calm time one end q role steady renews y (omega (arith, s.least, s.from)) to acting o.e o.low write_high o.actor writes s.from some_beat n within soon
 
     -- what it wrote
     abbrev won : Won doc o.e o.low
-    won = won0 doc near far a e sound calm time one end q role steady renews y (omega (arith, s.least, s.from)) to acting o.e o.low write_high o.actor writes s.from some_beat
+    won = won0 doc near far a e sound rules calm time one end q role steady renews y (omega (arith, s.least, s.from)) to acting o.e o.low write_high o.actor writes s.from some_beat
 
     up_e : (h : List Entry) → IsTail h (history doc (suc n)) → IsTail h (history doc (suc e))
     up_e h at = tail_trans h (history doc (suc n)) (history doc (suc e)) at (later_tail doc (suc n) (suc e) (omega (arith, within)))
@@ -127,10 +128,10 @@ module _ (doc : Doc) (near far a e : ℕ) (sound : IsSound doc) (calm : IsCalm d
         asked = tail_trans (w.f ∷ w.low) T (history doc (suc e)) w.asked (tail_trans T (x ∷ T) (history doc (suc e)) (inr (tail_all T)) (up_e (x ∷ T) at))
 
         sending : (s : Sending doc a e q w.call (Some x.beat)) × (s.f ≡ w.f) × (s.before ≡ w.low)
-        sending = sending_of doc sound.2 near far a e e q role steady (time q.process role steady) (omega arith) one w.call (Some x.beat) w.f w.low asked (w.f_actor ∙ ap actor_of mine) w.f_fact (omega (arith, late, s.from))
+        sending = sending_of doc rules near far a e e q role steady (time q.process role steady) (omega arith) one w.call (Some x.beat) w.f w.low asked (w.f_actor ∙ ap actor_of mine) w.f_fact (omega (arith, late, s.from))
 
         at_sending : IsFree q w.f w.low w.call
-        at_sending = is_free doc sound.2 (suc e) q role w.f w.low w.call (Some x.beat) asked (w.f_actor ∙ ap actor_of mine) w.f_fact sending.0.opens
+        at_sending = is_free doc rules (suc e) q role w.f w.low w.call (Some x.beat) asked (w.f_actor ∙ ap actor_of mine) w.f_fact sending.0.opens
 
         later : o.begun.f.beat < w.f.beat
         later = omega (arith, late, at_sending.sent, s.sent)
@@ -168,7 +169,7 @@ module _ (doc : Doc) (near far a e : ℕ) (sound : IsSound doc) (calm : IsCalm d
       where
         first_high : IsTail (o.e ∷ o.low) (history doc (suc n))
         first_high =
-            tail_trans (o.e ∷ o.low) (history doc (suc y)) (history doc (suc n)) (answer_high doc sound.2 near far a e q role steady s.call (Done s.version) s.before y s.position o to) (later_tail doc (suc y) (suc n) (omega (arith, ge)))
+            tail_trans (o.e ∷ o.low) (history doc (suc y)) (history doc (suc n)) (answer_high doc rules near far a e q role steady s.call (Done s.version) s.before y s.position o to) (later_tail doc (suc y) (suc n) (omega (arith, ge)))
 
     -- no such call wrote by a position
     abbrev pub NoneSince : List Entry → Type 0
@@ -183,7 +184,7 @@ module _ (doc : Doc) (near far a e : ℕ) (sound : IsSound doc) (calm : IsCalm d
           where
             w : Won doc x T
             w =
-                won_at doc near far a e sound calm time one end q role steady renews y (omega (arith, s.least, s.from)) to acting o.e o.low write_high o.actor writes s.from some_beat n within soon x T at low (ap has some)
+                won_at doc near far a e sound rules calm time one end q role steady renews y (omega (arith, s.least, s.from)) to acting o.e o.low write_high o.actor writes s.from some_beat n within soon x T at low (ap has some)
 
             mine : w.who ≡ q
             mine = actor_is w.who q (sym w.actor ∙ its_writes x T at low (ap has some))
@@ -194,7 +195,7 @@ module _ (doc : Doc) (near far a e : ℕ) (sound : IsSound doc) (calm : IsCalm d
                 base : (first_own.y.beat ≤ w.call.sent) × WaitedFor doc plainly w.who w.call.sent first_own.y
                 base =
                     subst (λ o. IfSome o (λ y. (y.beat ≤ w.call.sent) × WaitedFor doc plainly w.who w.call.sent y)) is
-                    (topped doc near far a e sound calm time one end q role steady renews x T (up_e (x ∷ T) at) w).1.base
+                    (topped doc near far a e sound rules calm time one end q role steady renews x T (up_e (x ∷ T) at) w).1.base
 
     pub stays_stored : (h : List Entry) → IsTail (o.e ∷ o.low) h → IsTail h (history doc (suc n)) → NoneSince h → stored election h ≡ Some first_own.y
     stays_stored [] low at none = absurd (nothing low)
@@ -212,7 +213,7 @@ module _ (doc : Doc) (near far a e : ℕ) (sound : IsSound doc) (calm : IsCalm d
         ∙ sym (ap version_of (sym (ap (reply_or (Done s.version)) o.fact) ∙ ap (reply_or (Done s.version)) won.fact ∙ t.1.version))
       where
         t : Topped doc o.e o.low × Took doc plainly (record { who = won.who; call = won.call; reply = won.reply; comes = won.comes }) o.e.beat o.low
-        t = topped doc near far a e sound calm time one end q role steady renews o.e o.low write_high won
+        t = topped doc near far a e sound rules calm time one end q role steady renews o.e o.low write_high won
 
         version_of : Reply → Version
         version_of (Done version) = version

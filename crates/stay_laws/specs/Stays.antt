@@ -7,6 +7,7 @@ use Rattle.kube_objects.specs.Document.{Doc, end_beat, is_controller, retry_peri
 use Rattle.kube_objects.specs.Elector.{succeeds}
 use Rattle.kube_objects.specs.Entry.{Entry, Identity, Call, Delivers, actor_of, entry}
 use Rattle.kube_objects.specs.Newest.{has}
+use Rattle.kube_objects.specs.Own.{ReleasesByStop}
 use Rattle.kube_objects.specs.Stored.{election, at_key, write_of}
 use Rattle.history.specs.History.{history}
 use Rattle.history.specs.Safe.{Acts}
@@ -50,7 +51,7 @@ pub record Stays (doc : Doc) (q : Identity) (j e : ℕ) : Type 0 where
 -- in a calm span, a steady leader whose renewals are in time stays from each success on that a call of the span had
 abbrev pub LeaderStays : Doc → Type 0
 LeaderStays doc =
-    (near far a e : ℕ) → IsSound doc → IsCalm doc near far a e → AreInTime doc near far a e → 1 ≤ near → near ≤ far → e ≤ end_beat doc
+    (near far a e : ℕ) → IsSound doc → ReleasesByStop doc → IsCalm doc near far a e → AreInTime doc near far a e → 1 ≤ near → near ≤ far → e ≤ end_beat doc
     → (q : Identity) → is_controller doc q.process ≡ true → IsSteady doc near far a e q.process → RenewsInTime doc near far a e q
     → (j : ℕ) → HasSuccess doc q a j → Stays doc q j e
 

@@ -109,8 +109,8 @@ module _ (doc : Doc) (near far b e : ℕ) (q : Identity) (l : LeadsUntil doc nea
       t : IsTold c d.actor d.fact s1
       t = told_by c d.actor d.fact s1 is
 
-      it : ShowsIt doc near far e s.sound s.end c role o.low low_high y top lease object_is foreign t.w t.reply S d.beat
-      it = shows_it doc near far e s.sound s.end c role o.low low_high y top lease object_is foreign d S position s1 t same
+      it : ShowsIt doc near far e s.sound s.rules s.end c role o.low low_high y top lease object_is foreign t.w t.reply S d.beat
+      it = shows_it doc near far e s.sound s.rules s.end c role o.low low_high y top lease object_is foreign d S position s1 t same
 
       d_high : IsTail (d ∷ S) (history doc (suc e))
       d_high = tail_trans (d ∷ S) o.low (history doc (suc e)) position low_high
@@ -122,7 +122,7 @@ module _ (doc : Doc) (near far b e : ℕ) (q : Identity) (l : LeadsUntil doc nea
       e_high = tail_trans (it.o.e ∷ it.o.low) S (history doc (suc e)) it.o.answered s_high
 
       way : IsWay near far it.o.e.beat d.beat
-      way = reply_way doc s.sound.2 near far e c role steady it.o.e it.o.low e_high it.o.step d.beat (beat_before doc e d S d_high) it.o.comes_is
+      way = reply_way doc s.rules near far e c role steady it.o.e it.o.low e_high it.o.step d.beat (beat_before doc e d S d_high) it.o.comes_is
 
       since : k.z.beat ≤ it.o.e.beat
       since = entries_rise doc (suc e) it.o.e it.o.low e_high k.z (in_head k.z k.before it.o.low it.low)
@@ -157,7 +157,7 @@ module _ (doc : Doc) (near far b e : ℕ) (q : Identity) (l : LeadsUntil doc nea
   shows_here = ap (λ t. only_if t (told w.request reply)) (same_self c) ∙ ap (λ request. told request reply) get ∙ ap (λ reply. told (Get election) reply) found
 
   way : IsWay near far o.e.beat r
-  way = reply_way doc s.sound.2 near far e c role steady o.e o.low (tail_trans (o.e ∷ o.low) T (history doc (suc e)) o.answered high) o.step r within o.comes_is
+  way = reply_way doc s.rules near far e c role steady o.e o.low (tail_trans (o.e ∷ o.low) T (history doc (suc e)) o.answered high) o.step r within o.comes_is
 
   since : y.beat ≤ o.e.beat
   since = omega (arith, k.beat, entries_rise doc (suc e) o.e o.low (tail_trans (o.e ∷ o.low) T (history doc (suc e)) o.answered high) k.z (in_head k.z k.before o.low k.position))

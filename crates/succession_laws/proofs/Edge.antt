@@ -113,7 +113,7 @@ module _ (doc : Doc) (near far b e : ℕ) (q : Identity) (l : LeadsUntil doc nea
 
   way : IsWay near far x.beat k
   way =
-      request_way doc s.sound.2 near far e c.process (l.others c.process role other) (suc k) x S c w o.begun.arrives x_low role refl o.begun.actor o.begun.fact (omega (arith, x_upto, within)) k o.arrives
+      request_way doc s.rules near far e c.process (l.others c.process role other) (suc k) x S c w o.begun.arrives x_low role refl o.begun.actor o.begun.fact (omega (arith, x_upto, within)) k o.arrives
       (λ j low high soon. l.goes j (omega (arith, high, within)))
 
   -- its Get was sent in its turn
@@ -121,7 +121,7 @@ module _ (doc : Doc) (near far b e : ℕ) (q : Identity) (l : LeadsUntil doc nea
   in_turn = by_step made.step_is
     where
       made : MadeSend doc x.beat x.step x.actor w o.begun.arrives S
-      made = subst (λ d. MadeAs doc x.beat x.step x.actor d S) o.begun.fact (are_made doc s.sound.2 (suc k) x S x_low)
+      made = subst (λ d. MadeAs doc x.beat x.step x.actor d S) o.begun.fact (are_made doc s.rules (suc k) x S x_low)
 
       mine : made.q ≡ c
       mine = actor_is made.q c (sym made.by ∙ o.begun.actor)
@@ -130,7 +130,7 @@ module _ (doc : Doc) (near far b e : ℕ) (q : Identity) (l : LeadsUntil doc nea
       role_made = ap (λ (p : Identity). is_controller doc p.process) mine ∙ role
 
       sending : (p : Sending doc 0 k c w o.begun.arrives) × (p.f ≡ x) × (p.before ≡ S)
-      sending = sending_of doc s.sound.2 near far 0 e k c role (l.others c.process role other) (s.calls c.process role) within s.one w o.begun.arrives x S x_low o.begun.actor o.begun.fact (omega arith)
+      sending = sending_of doc s.rules near far 0 e k c role (l.others c.process role other) (s.calls c.process role) within s.one w o.begun.arrives x S x_low o.begun.actor o.begun.fact (omega arith)
 
       late : 3 ≤ x.step
       late = subst (λ (f : Entry). 3 ≤ f.step) sending.1 sending.0.step
@@ -147,11 +147,11 @@ module _ (doc : Doc) (near far b e : ℕ) (q : Identity) (l : LeadsUntil doc nea
           at_s = subst (λ g. IsTail g (history doc (suc k))) f.is (tail_trans S (x ∷ S) (history doc (suc k)) (inr (tail_all S)) x_low)
 
           from : Origin doc made.q f.waiting f.reply f.before x.beat
-          from = origin doc s.sound.2 (suc k) made.q (entry x.beat 3 made.q (Delivers f.waiting f.reply true)) f.before f.waiting f.reply at_s refl refl
+          from = origin doc s.rules (suc k) made.q (entry x.beat 3 made.q (Delivers f.waiting f.reply true)) f.before f.waiting f.reply at_s refl refl
 
           plain : (is_fast f.waiting.kind ≡ false) × (from.begun.f.step ≡ 4 → f.waiting.request ≡ Get election)
           plain =
-              sends_plainly doc s.sound.2 slowly (suc k) from.begun.f from.begun.before made.q f.waiting from.begun.arrives
+              sends_plainly doc s.rules slowly (suc k) from.begun.f from.begun.before made.q f.waiting from.begun.arrives
               (tail_trans (from.begun.f ∷ from.begun.before) f.before (history doc (suc k)) from.begun.position (tail_trans f.before _ (history doc (suc k)) (inr (tail_all f.before)) at_s)) from.begun.actor from.begun.fact role_made
 
       by_step : (x.step ≡ 1) ⊎ ((x.step ≡ 3) ⊎ (x.step ≡ 4)) → x.step ≡ 4
@@ -181,7 +181,7 @@ module _ (doc : Doc) (near far b e : ℕ) (q : Identity) (l : LeadsUntil doc nea
         omega (arith, upto, entries_rise doc (suc k) z Z at o.e (in_head o.e o.low Z above))
 
     won : Won doc z Z
-    won = is_won doc s.sound k (omega (arith, within, s.end)) z Z at (omega (arith, z_beat, last, s.one, s.ways, l.long)) writes
+    won = is_won doc s.sound s.rules k (omega (arith, within, s.end)) z Z at (omega (arith, z_beat, last, s.one, s.ways, l.long)) writes
 
     first_below : IsTail ((first doc near far b e q l s).e ∷ (first doc near far b e q l s).low) Z
     first_below =
@@ -191,7 +191,7 @@ module _ (doc : Doc) (near far b e : ℕ) (q : Identity) (l : LeadsUntil doc nea
     z_step = omega (arith, made.step_is)
       where
         made : MadeAnswer doc z.beat z.step z.actor won.call won.reply won.comes won.wrote Z
-        made = subst (λ d. MadeAs doc z.beat z.step z.actor d Z) won.fact (are_made doc s.sound.2 (suc k) z Z at)
+        made = subst (λ d. MadeAs doc z.beat z.step z.actor d Z) won.fact (are_made doc s.rules (suc k) z Z at)
 
     mine : won.who.process ≡ q.process
     mine = writer_is_its doc near far b e q l s k within (omega (arith, last)) quiet z Z at first_below won z_step
@@ -204,7 +204,7 @@ module _ (doc : Doc) (near far b e : ℕ) (q : Identity) (l : LeadsUntil doc nea
 
     its_way : IsWay near far its.f.beat z.beat
     its_way =
-        request_way doc s.sound.2 near far (b - 1) q.process l.steady (suc k) its.f its.low its.who its.call (Some z.beat) f_high l.role its.mine its.f_actor its.f_fact (omega (arith, its.early, its.sent)) z.beat refl
+        request_way doc s.rules near far (b - 1) q.process l.steady (suc k) its.f its.low its.who its.call (Some z.beat) f_high l.role its.mine its.f_actor its.f_fact (omega (arith, its.early, its.sent)) z.beat refl
         (λ j low high soon. l.goes j (omega (arith, soon, its.early, its.sent, last, within)))
 
     -- the leader's update was sent after a reply
@@ -212,11 +212,11 @@ module _ (doc : Doc) (near far b e : ℕ) (q : Identity) (l : LeadsUntil doc nea
     f_step = by_step made.step_is
       where
         made : MadeSend doc its.f.beat its.f.step its.f.actor its.call (Some z.beat) its.low
-        made = subst (λ d. MadeAs doc its.f.beat its.f.step its.f.actor d its.low) its.f_fact (are_made doc s.sound.2 (suc k) its.f its.low f_high)
+        made = subst (λ d. MadeAs doc its.f.beat its.f.step its.f.actor d its.low) its.f_fact (are_made doc s.rules (suc k) its.f its.low f_high)
 
         plain : (is_fast its.call.kind ≡ false) × (its.f.step ≡ 4 → its.call.request ≡ Get election)
         plain =
-            sends_plainly doc s.sound.2 slowly (suc k) its.f its.low its.who its.call (Some z.beat) f_high its.f_actor its.f_fact (ap (is_controller doc) its.mine ∙ l.role)
+            sends_plainly doc s.rules slowly (suc k) its.f its.low its.who its.call (Some z.beat) f_high its.f_actor its.f_fact (ap (is_controller doc) its.mine ∙ l.role)
 
         writing : IsWrite its.call.request
         writing = success_writes its.call.request its.reply its.so
@@ -260,13 +260,13 @@ module _ (doc : Doc) (near far b e : ℕ) (q : Identity) (l : LeadsUntil doc nea
     get_at : o.low ≡ two.above
     get_at =
         same_rest o.e _ o.low two.above
-        (answers_differ doc s.sound.2 (suc k) o.e _ o.low two.above (record { who = c; call = w; reply = reply; comes = Some y }) (record { who = c; call = w; reply = answer w.request two.above; comes = reply_arrival doc c.process k two.above }) e_high two.position
+        (answers_differ doc s.rules (suc k) o.e _ o.low two.above (record { who = c; call = w; reply = reply; comes = Some y }) (record { who = c; call = w; reply = answer w.request two.above; comes = reply_arrival doc c.process k two.above }) e_high two.position
         (ap (λ d. back_of o.e.actor d) o.fact ∙ ap (λ who. back_of who (Answers w reply (Some y) (written w.request o.low))) o.actor) refl refl refl)
 
     write_at : IsTail (z ∷ Z) two.above
     write_at =
         subst (λ g. IsTail g two.above)
-        (sym (answers_differ doc s.sound.2 (suc k) z _ Z two.below (record { who = its.who; call = its.call; reply = its.reply; comes = its.comes })
+        (sym (answers_differ doc s.rules (suc k) z _ Z two.below (record { who = its.who; call = its.call; reply = its.reply; comes = its.comes })
         (record { who = its.who; call = its.call; reply = answer its.call.request two.below; comes = reply_arrival doc its.who.process k two.below }) at
         (tail_trans _ two.above (history doc (suc k)) two.order (tail_trans two.above (answered doc k s_sent two.above) (history doc (suc k)) (inr (tail_all two.above)) two.position))
         (ap (λ d. back_of z.actor d) its.fact ∙ ap (λ who. back_of who (Answers its.call its.reply its.comes its.wrote)) its.actor) refl refl refl)) two.order

@@ -10,7 +10,7 @@ use Rattle.kube_objects.specs.Stored.{election, key_of, Held}
 use Rattle.kube_objects.specs.declared.call.Reply.{Reply}
 use Rattle.kube_objects.specs.declared.call.Reply.TheVariants.{Done}
 use Rattle.kube_objects.specs.declared.call.Request.TheVariants.{Get}
-use Rattle.kube_objects.specs.Own.{IsOwn}
+use Rattle.kube_objects.specs.Own.{ReleasesByStop}
 use Rattle.history.specs.History.{history, at_turn}
 use Rattle.history.specs.Safe.{Acts}
 use Rattle.history.specs.Steps.{restart}
@@ -28,7 +28,7 @@ use Rattle.takeover_laws.specs.Waits.{longest_wait, shortest_wait}
 use Rattle.calm_laws.specs.Bounds.{LastsFor}
 use Rattle.calm_laws.proofs.First as first
 
-module _ (doc : Doc) (rules : IsOwn doc) (near far e n : ℕ) (one : 1 ≤ near) (ways : near ≤ far) (within : n ≤ e) (q : Identity) (role : is_controller doc q.process ≡ true)
+module _ (doc : Doc) (rules : ReleasesByStop doc) (near far e n : ℕ) (one : 1 ≤ near) (ways : near ≤ far) (within : n ≤ e) (q : Identity) (role : is_controller doc q.process ≡ true)
     (steady : IsSteady doc near far 0 e q.process) (my_time : IsInTime doc far 0 e q.process) (none : (k : ℕ) → 0 ≤ k → k ≤ n → Acts doc q k → ⊥) (led : (h : List Entry) → IsTail h (history doc (suc n)) → leads q h ≡ false)
     (lasting : ℕ) (top : Option Held) (lasts : LastsFor doc q.process lasting (object_of top)) (K : ℕ) (some : 1 ≤ K)
     (given : (w : Call) (reply : Reply) (T : List Entry) (y : ℕ) → Origin doc q w reply T y → IsTail T (history doc (suc n)) → w.request ≡ Get election → K ≤ y → y + far ≤ n → reply ≡ answer_get (as_kind lease_in top))

@@ -123,7 +123,7 @@ module _ (doc : Doc) (near far b e : ℕ) (q : Identity) (l : LeadsUntil doc nea
         of = of_it doc near far b e q l s o.e.beat by early quiet o.low low (tail_trans o.low (o.e ∷ o.low) (history doc (suc o.e.beat)) (inr (tail_all o.low)) e_own)
 
         way : ways_of.IsWay near far o.e.beat r
-        way = reply_way doc s.sound.2 near far e c role steady o.e o.low e_high o.step r (omega (arith, upto, within)) o.comes_is
+        way = reply_way doc s.rules near far e c role steady o.e o.low e_high o.step r (omega (arith, upto, within)) o.comes_is
 
     -- a write of it that is sent after a Get is sent after one that was answered late
     record Late (x : Entry) (T : List Entry) (request : Request) : Type 0 where
@@ -142,10 +142,10 @@ module _ (doc : Doc) (near far b e : ℕ) (q : Identity) (l : LeadsUntil doc nea
     late_write n within x T call arrives at actor fact unled write since = by_reason reason.0
       where
         sending : Sending doc 0 n c call arrives
-        sending = (sending_of doc s.sound.2 near far 0 e n c role steady my_time within s.one call arrives x T at actor fact (omega arith)).0
+        sending = (sending_of doc s.rules near far 0 e n c role steady my_time within s.one call arrives x T at actor fact (omega arith)).0
 
         reason : Reason doc x.beat c call.request T × (3 ≤ x.step)
-        reason = reason_of doc s.sound.2 (suc n) c role x T call arrives at actor fact unled sending.opens
+        reason = reason_of doc s.rules (suc n) c role x T call arrives at actor fact unled sending.opens
 
         x_upto : x.beat ≤ n
         x_upto = ⊎_elim (λ lt. omega (arith, lt)) (λ first. omega (arith, first.0)) (entries_are_earlier doc (suc n) x (in_head x T (history doc (suc n)) at))
@@ -172,7 +172,7 @@ module _ (doc : Doc) (near far b e : ℕ) (q : Identity) (l : LeadsUntil doc nea
             at_low = subst (λ g. IsTail g (history doc (suc n))) f.is (tail_trans T (x ∷ T) (history doc (suc n)) (inr (tail_all T)) at)
 
             o : Origin doc c f.waiting f.reply f.before x.beat
-            o = origin doc s.sound.2 (suc n) c (entry x.beat 3 c (Delivers f.waiting f.reply true)) f.before f.waiting f.reply at_low refl refl
+            o = origin doc s.rules (suc n) c (entry x.beat 3 c (Delivers f.waiting f.reply true)) f.before f.waiting f.reply at_low refl refl
 
             high : IsTail f.before (history doc (suc n))
             high = tail_trans f.before low (history doc (suc n)) (inr (tail_all f.before)) at_low
@@ -182,7 +182,7 @@ module _ (doc : Doc) (near far b e : ℕ) (q : Identity) (l : LeadsUntil doc nea
 
             key : key_of f.waiting.request ≡ election
             key =
-                asks_election doc s.sound n (omega (arith, within, s.end)) c role o.begun.f f.waiting o.begun.arrives
+                asks_election doc s.sound s.rules n (omega (arith, within, s.end)) c role o.begun.f f.waiting o.begun.arrives
                 (in_head o.begun.f o.begun.before (history doc (suc n)) (tail_trans (o.begun.f ∷ o.begun.before) f.before (history doc (suc n)) o.begun.position high)) o.begun.actor o.begun.fact
 
             get : f.waiting.request ≡ Get election
@@ -192,7 +192,7 @@ module _ (doc : Doc) (near far b e : ℕ) (q : Identity) (l : LeadsUntil doc nea
             e_high = tail_trans (o.e ∷ o.low) f.before (history doc (suc e)) o.answered (tail_trans f.before (history doc (suc n)) (history doc (suc e)) high (later_tail doc (suc n) (suc e) (omega (arith, within))))
 
             way : ways_of.IsWay near far o.e.beat x.beat
-            way = reply_way doc s.sound.2 near far e c role steady o.e o.low e_high o.step x.beat (omega (arith, x_upto, within)) o.comes_is
+            way = reply_way doc s.rules near far e c role steady o.e o.low e_high o.step x.beat (omega (arith, x_upto, within)) o.comes_is
 
             early : o.e.beat < b + far → b + far ≤ o.e.beat
             early lt =
@@ -248,7 +248,7 @@ module _ (doc : Doc) (near far b e : ℕ) (q : Identity) (l : LeadsUntil doc nea
           high_e = tail_trans T (history doc (suc n)) (history doc (suc e)) high (later_tail doc (suc n) (suc e) (omega (arith, within)))
 
           way : ways_of.IsWay near far o.e.beat y
-          way = reply_way doc s.sound.2 near far e c role steady o.e o.low (tail_trans (o.e ∷ o.low) T (history doc (suc e)) o.answered high_e) o.step y (omega (arith, soon, within)) o.comes_is
+          way = reply_way doc s.rules near far e c role steady o.e o.low (tail_trans (o.e ∷ o.low) T (history doc (suc e)) o.answered high_e) o.step y (omega (arith, soon, within)) o.comes_is
 
           last : o.e.beat < b + far → reply ≡ answer_get (as_kind lease_in top)
           last lt = ⊎_elim (λ le. absurd (omega (arith, le, late, way.most, lt))) by_edge late_K
@@ -267,7 +267,7 @@ module _ (doc : Doc) (near far b e : ℕ) (q : Identity) (l : LeadsUntil doc nea
           f = late_write n within x T call arrives at actor fact (led_not T (tail_trans T (x ∷ T) (history doc (suc n)) (inr (tail_all T)) at)) write (omega (arith, late, K_least, some_way))
 
           r : IsRound doc near far c call arrives x.beat
-          r = rounds_in doc s.sound.2 near far 0 e c steady s.one (suc n) x T call arrives at actor fact (omega (arith, f.step)) (omega arith) (omega (arith, soon, within)) (λ k n least is most. omega (arith, most, soon, within))
+          r = rounds_in doc s.rules near far 0 e c steady s.one (suc n) x T call arrives at actor fact (omega (arith, f.step)) (omega arith) (omega (arith, soon, within)) (λ k n least is most. omega (arith, most, soon, within))
 
           answer_entry : Entry
           answer_entry = entry r.at 2 c (Answers call (answer call.request r.before) (reply_arrival doc c.process r.at r.before) (written call.request r.before))
@@ -293,7 +293,7 @@ module _ (doc : Doc) (near far b e : ℕ) (q : Identity) (l : LeadsUntil doc nea
           writes = fits_writes call.request r.before of_top.y stored_is fits
 
           w : Won doc answer_entry r.before
-          w = is_won doc s.sound n (omega (arith, within, s.end)) answer_entry r.before answer_at (omega (arith, r.least, s.one)) writes
+          w = is_won doc s.sound s.rules n (omega (arith, within, s.end)) answer_entry r.before answer_at (omega (arith, r.least, s.one)) writes
 
           mine : w.who ≡ c
           mine = actor_is w.who c (sym w.actor)
@@ -334,7 +334,7 @@ module _ (doc : Doc) (near far b e : ℕ) (q : Identity) (l : LeadsUntil doc nea
       where
         with_identity : (i : ℕ) → alive p S ≡ Some i → ⊥
         with_identity i up =
-            none_first doc s.sound.2 near far e n s.one s.ways within c rival.role (steady c rival.role rival.other) (my_time c rival.role rival.other) (others.none doc near far b e q l s p rival.role rival.other n within (omega arith) idle i up) led_not (blocked_for doc p q.process) (top c rival.role rival.other n within idle led_not room K late_K) lasts K (omega (arith, a_way, rest_least))
+            none_first doc s.rules near far e n s.one s.ways within c rival.role (steady c rival.role rival.other) (my_time c rival.role rival.other) (others.none doc near far b e q l s p rival.role rival.other n within (omega arith) idle i up) led_not (blocked_for doc p q.process) (top c rival.role rival.other n within idle led_not room K late_K) lasts K (omega (arith, a_way, rest_least))
             (given c rival.role rival.other n within idle led_not room K late_K) (no_writes c rival.role rival.other n within idle led_not room K late_K) slow fast wait needed b (omega (arith, a_way, rest_least)) rival.runs_least rival.runs_most (s.waits p rival.role) wait_is needed_is enough most enough_is most_is
             G (omega (arith, some_wait, a_way, rest_least)) (omega (arith, some_wait, a_way, rest_least)) (omega (arith, a_way, rest_least, some_wait)) (others.there doc near far b e q l s p rival.role rival.other n within (omega arith) idle i up G (omega (arith, a_way, rest_least, some_wait)) (omega (arith, a_way, rest_least, some_wait)))
           where
@@ -366,12 +366,12 @@ module _ (doc : Doc) (near far b e : ℕ) (q : Identity) (l : LeadsUntil doc nea
         to = omega (arith, led_r.to, x.to);
         success = success;
         stays =
-            leaders_stay doc near far b e s.sound (calm_since doc near far b e q l s renew quiet replies room) (times_since doc near far b e q l s renew) s.one s.ways s.end r x.role
+            leaders_stay doc near far b e s.sound s.rules (calm_since doc near far b e q l s renew quiet replies room) (times_since doc near far b e q l s renew) s.one s.ways s.end r x.role
             (others_since doc near far b e q l s renew r.process x.role x.other) (renew.since r x.role x.other) led_r.j success;
       }
         where
-          x : Another doc s.sound.2 b n q
-          x = another doc s.sound.2 b n q idle_ends (idle_before doc near far b e q l s renew)
+          x : Another doc s.rules b n q
+          x = another doc s.rules b n q idle_ends (idle_before doc near far b e q l s renew)
 
           r : Identity
           r = x.r
@@ -380,13 +380,13 @@ module _ (doc : Doc) (near far b e : ℕ) (q : Identity) (l : LeadsUntil doc nea
           room = omega (arith, within, a_way, rest_least)
 
           led_r : HasLed doc r x.k
-          led_r = acting_led doc s.sound.2 r x.k x.acting_is
+          led_r = acting_led doc s.rules r x.k x.acting_is
 
           -- nobody else had a success before b
           not_before_b : (j : ℕ) → HasSuccess doc r 0 j → j < b → ⊥
           not_before_b j hs lt =
               idle_before doc near far b e q l s renew r x.role x.other (b - 1) (omega (arith, lt))
-              ((leaders_stay doc near far 0 (b - 1) s.sound (calm_before doc near far b e q l s) (times_before doc near far b e q l s) s.one s.ways (omega (arith, l.within, s.end)) r x.role
+              ((leaders_stay doc near far 0 (b - 1) s.sound s.rules (calm_before doc near far b e q l s) (times_before doc near far b e q l s) s.one s.ways (omega (arith, l.within, s.end)) r x.role
               (restrict doc near far 0 (b - 1) e r.process (omega (arith, l.within)) (l.others r.process x.role x.other)) (renew.before r x.role x.other) j hs).acts (b - 1) (omega (arith, lt)) (omega arith))
 
           unled : (h : List Entry) → IsTail h (history doc b) → leads r h ≡ false
@@ -395,7 +395,7 @@ module _ (doc : Doc) (near far b e : ℕ) (q : Identity) (l : LeadsUntil doc nea
               by_test : (t : Bool) → leads r h ≡ t → leads r h ≡ false
               by_test false is = is
               by_test true is =
-                  let led_h : HasLed doc r (b - 1) = leads_led doc s.sound.2 r (b - 1) h (tail_trans h (history doc b) (history doc (suc (b - 1))) at (later_tail doc b (suc (b - 1)) (omega arith))) is in
+                  let led_h : HasLed doc r (b - 1) = leads_led doc s.rules r (b - 1) h (tail_trans h (history doc b) (history doc (suc (b - 1))) at (later_tail doc b (suc (b - 1)) (omega arith))) is in
                   absurd (not_before_b led_h.j led_h.success (omega (arith, led_h.to, l.long, a_way)))
 
           hs : HasSuccess doc r 0 led_r.j
@@ -405,7 +405,7 @@ module _ (doc : Doc) (near far b e : ℕ) (q : Identity) (l : LeadsUntil doc nea
           within_j = omega (arith, led_r.to, x.to, within)
 
           o : Origin doc r hs.call (Done hs.version) hs.before led_r.j
-          o = origin doc s.sound.2 (suc led_r.j) r (entry led_r.j 3 r (Delivers hs.call (Done hs.version) true)) hs.before hs.call (Done hs.version) hs.position refl refl
+          o = origin doc s.rules (suc led_r.j) r (entry led_r.j 3 r (Delivers hs.call (Done hs.version) true)) hs.before hs.call (Done hs.version) hs.position refl refl
 
           high : IsTail hs.before (history doc (suc led_r.j))
           high = tail_trans hs.before (entry led_r.j 3 r (Delivers hs.call (Done hs.version) true) ∷ hs.before) (history doc (suc led_r.j)) (inr (tail_all hs.before)) hs.position
@@ -414,10 +414,10 @@ module _ (doc : Doc) (near far b e : ℕ) (q : Identity) (l : LeadsUntil doc nea
           f_high = tail_trans (o.begun.f ∷ o.begun.before) hs.before (history doc (suc led_r.j)) o.begun.position high
 
           sent : hs.call.sent ≡ o.begun.f.beat
-          sent = ways_of.sent_beat doc s.sound.2 near far e r x.role (l.others r.process x.role x.other) o.begun.f o.begun.before hs.call o.begun.arrives (tail_trans _ (history doc (suc led_r.j)) (history doc (suc e)) f_high (later_tail doc (suc led_r.j) (suc e) (omega (arith, within_j)))) o.begun.actor o.begun.fact
+          sent = ways_of.sent_beat doc s.rules near far e r x.role (l.others r.process x.role x.other) o.begun.f o.begun.before hs.call o.begun.arrives (tail_trans _ (history doc (suc led_r.j)) (history doc (suc e)) f_high (later_tail doc (suc led_r.j) (suc e) (omega (arith, within_j)))) o.begun.actor o.begun.fact
 
-          ways : ways_of.Went doc s.sound.2 near far e r x.role (l.others r.process x.role x.other) o.begun.f.beat o.e.beat led_r.j
-          ways = ways_of.went doc s.sound.2 near far e r x.role (l.others r.process x.role x.other) hs.call (Done hs.version) hs.before led_r.j o (tail_trans hs.before (history doc (suc led_r.j)) (history doc (suc e)) high (later_tail doc (suc led_r.j) (suc e) (omega (arith, within_j)))) within_j
+          ways : ways_of.Went doc s.rules near far e r x.role (l.others r.process x.role x.other) o.begun.f.beat o.e.beat led_r.j
+          ways = ways_of.went doc s.rules near far e r x.role (l.others r.process x.role x.other) hs.call (Done hs.version) hs.before led_r.j o (tail_trans hs.before (history doc (suc led_r.j)) (history doc (suc e)) high (later_tail doc (suc led_r.j) (suc e) (omega (arith, within_j)))) within_j
 
           -- so its call wasn't sent before b
           since : b ≤ hs.call.sent

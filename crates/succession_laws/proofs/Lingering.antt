@@ -8,6 +8,7 @@ use Rattle.kube_objects.specs.Document.{Doc, end_beat, retry_period, renew_deadl
 use Rattle.kube_objects.specs.Elector.{succeeds}
 use Rattle.kube_objects.specs.Entry.{Identity}
 use Rattle.kube_objects.specs.Newest.{or_else, has}
+use Rattle.kube_objects.specs.Own.{ReleasesByStop}
 use Rattle.kube_objects.specs.Pauses.{is_paused, pause_end, held_up}
 use Rattle.kube_objects.specs.Stored.{election, at_key, request_write}
 use Rattle.kube_objects.specs.Wire.{arrival, loses_replies, reply_delay, reply_delay_of}
@@ -44,7 +45,7 @@ comes_then doc p k delay y false is awake = some_is y (k + delay) (sym is ∙ ap
     by_end None awake = refl
     by_end (Some j) awake = absurd (true_is awake)
 
-module _ (doc : Doc) (near far b e : ℕ) (q : Identity) (sound : IsSound doc) (one : 1 ≤ near) (ways : near ≤ far) (end : e ≤ end_beat doc) (waits : 1 ≤ retry_period doc q.process)
+module _ (doc : Doc) (near far b e : ℕ) (q : Identity) (sound : IsSound doc) (rules : ReleasesByStop doc) (one : 1 ≤ near) (ways : near ≤ far) (end : e ≤ end_beat doc) (waits : 1 ≤ retry_period doc q.process)
     (l : LeadsUntil doc near far b e q) (quiet : IsQuiet doc b e q.process) (hears : Hears doc far b e q.process)
     (slow lasting : ℕ) (runs : RunsAtLeast doc q.process b e slow) (is_enough : IsEnough slow (retry_period doc q.process + renew_deadline doc q.process) lasting) where
   some_way : 1 ≤ far
@@ -71,7 +72,7 @@ module _ (doc : Doc) (near far b e : ℕ) (q : Identity) (sound : IsSound doc) (
         soon lt = omega (arith, lt)
 
         o : Origin doc q w reply T x.beat
-        o = origin doc sound.2 (suc n) q x T w reply at actor fact
+        o = origin doc rules (suc n) q x T w reply at actor fact
 
         high : IsTail T (history doc (suc n))
         high = tail_trans T (x ∷ T) (history doc (suc n)) (inr (tail_all T)) at
@@ -83,7 +84,7 @@ module _ (doc : Doc) (near far b e : ℕ) (q : Identity) (sound : IsSound doc) (
         f_high = tail_trans (o.begun.f ∷ o.begun.before) T (history doc (suc n)) o.begun.position high
 
         sent : w.sent ≡ o.begun.f.beat
-        sent = its_call_sent doc sound.2 (suc n) o.begun.f o.begun.before q w o.begun.arrives f_high o.begun.actor o.begun.fact
+        sent = its_call_sent doc rules (suc n) o.begun.f o.begun.before q w o.begun.arrives f_high o.begun.actor o.begun.fact
 
         done : (version : Version) × (reply ≡ Done version)
         done = done_of w.request reply so
@@ -91,7 +92,7 @@ module _ (doc : Doc) (near far b e : ℕ) (q : Identity) (sound : IsSound doc) (
         wrote : has (at_key election (request_write w.request (written w.request o.low))) ≡ true
         wrote =
             wrote_by w.request o.low done.0 (success_is w.request done.0 (ap (succeeds w.request) (sym done.1) ∙ so)).write
-            (asks_election doc sound n (omega (arith, within, end)) q l.role o.begun.f w o.begun.arrives (in_head o.begun.f o.begun.before (history doc (suc n)) f_high) o.begun.actor o.begun.fact)
+            (asks_election doc sound rules n (omega (arith, within, end)) q l.role o.begun.f w o.begun.arrives (in_head o.begun.f o.begun.before (history doc (suc n)) f_high) o.begun.actor o.begun.fact)
             (sym o.reply_is ∙ done.1)
 
         early : w.sent < b
@@ -104,14 +105,14 @@ module _ (doc : Doc) (near far b e : ℕ) (q : Identity) (sound : IsSound doc) (
 
         way : IsWay near far o.begun.f.beat o.e.beat
         way =
-            request_way doc sound.2 near far (b - 1) q.process l.steady (suc n) o.begun.f o.begun.before q w o.begun.arrives f_high l.role refl o.begun.actor o.begun.fact (omega (arith, early, sent)) o.e.beat o.arrives
+            request_way doc rules near far (b - 1) q.process l.steady (suc n) o.begun.f o.begun.before q w o.begun.arrives f_high l.role refl o.begun.actor o.begun.fact (omega (arith, early, sent)) o.e.beat o.arrives
             (λ j low high soon. l.goes j (omega (arith, soon, early, sent, room, some_way, within)))
 
         e_upto : o.e.beat ≤ n
         e_upto = omega (arith, way.most, early, sent, room, some_way)
 
         delay : reply_delay q.process o.low ≡ reply_delay q.process (with_events doc o.e.beat)
-        delay = ap (or_else 1) ((forces_stand doc sound.2 (suc n) o.e o.low e_high (omega (arith, o.step))).0 (reply_delay_of q.process))
+        delay = ap (or_else 1) ((forces_stand doc rules (suc n) o.e o.low e_high (omega (arith, o.step))).0 (reply_delay_of q.process))
 
         late : suc last ≤ x.beat → x.beat ≤ last
         late le =
@@ -140,11 +141,11 @@ module _ (doc : Doc) (near far b e : ℕ) (q : Identity) (sound : IsSound doc) (
     where
       over : b + 2 * far + lasting < k + 2 → ⊥
       over lt =
-          none_acts doc sound.2 0 e k end to q l.role awake last (last + lasting) (omega arith) (omega (arith, some_lasting)) (omega (arith, lt, some_way))
+          none_acts doc rules 0 e k end to q l.role awake last (last + lasting) (omega arith) (omega (arith, some_lasting)) (omega (arith, lt, some_way))
           (readings_grow doc q.process b e slow (retry_period doc q.process + renew_deadline doc q.process) lasting runs is_enough last (last + lasting) (omega (arith, some_way)) (omega arith) (omega (arith, lt, to, some_way)))
           (success_by k to (omega (arith, lt, some_way))) k (omega (arith, lt, some_way)) (omega arith) acting
 
 -- ---- the law
 
 pub leaders_act_on : LeadersActOn
-leaders_act_on doc near far b e q sound one ways end waits l quiet hears slow lasting runs is_enough = acts_until doc near far b e q sound one ways end waits l quiet hears slow lasting runs is_enough
+leaders_act_on doc near far b e q sound rules one ways end waits l quiet hears slow lasting runs is_enough = acts_until doc near far b e q sound rules one ways end waits l quiet hears slow lasting runs is_enough

@@ -7,7 +7,7 @@ use Rattle.kube_objects.specs.Elector.{acts, is_before, deadline, leads}
 use Rattle.kube_objects.specs.Entry.{Entry, Identity}
 use Rattle.kube_objects.specs.Identities.{identity}
 use Rattle.kube_objects.specs.Process.{alive, is_present}
-use Rattle.kube_objects.specs.Own.{IsOwn}
+use Rattle.kube_objects.specs.Own.{ReleasesByStop}
 use Rattle.lease_laws.proofs.Claims.{term_of}
 use Rattle.history.specs.History.{at_turn, history}
 use Rattle.history.specs.Safe.{Acts}
@@ -23,7 +23,7 @@ use Rattle.calm_laws.proofs.Life.{never_led, restart_same}
 use Rattle.silence_laws.specs.Silence.{LeadsUntil, Bears}
 use Rattle.history.specs.Steps.{restart}
 
-module _ (doc : Doc) (rules : IsOwn doc) (b n : ℕ) (q : Identity) where
+module _ (doc : Doc) (rules : ReleasesByStop doc) (b n : ℕ) (q : Identity) where
   abbrev acting : ℕ → ℕ → Option ℕ → Bool
   acting r k None = false
   acting r k (Some i) = acts doc (identity r i) k (at_turn doc r k)
@@ -120,12 +120,12 @@ module _ (doc : Doc) (near far b e : ℕ) (q : Identity) (l : LeadsUntil doc nea
 
   -- it stays up
   late : (h : List Entry) → IsTail S h → IsTail h (history doc (suc n)) → alive p h ≡ Some i
-  late h low high = persists doc s.sound.2 near far 0 e n c role (s.calls p role).deadline (l.others p role other) within none (omega arith) S h s_low low high up
+  late h low high = persists doc s.rules near far 0 e n c role (s.calls p role).deadline (l.others p role other) within none (omega arith) S h s_low low high up
 
   -- and it never leads
   pub led_not : (h : List Entry) → IsTail h (history doc (suc n)) → leads c h ≡ false
   led_not =
-      never_led doc s.sound.2 near far 0 e n c role (s.calls p role).deadline (l.others p role other) within none (omega arith)
+      never_led doc s.rules near far 0 e n c role (s.calls p role).deadline (l.others p role other) within none (omega arith)
       (late (history doc (suc n)) (tail_trans S (history doc (suc b)) (history doc (suc n)) s_high (later_tail doc (suc b) (suc n) (omega (arith, later)))) (tail_all (history doc (suc n))))
 
   -- it is up in its turn of a later beat

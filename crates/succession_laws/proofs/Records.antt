@@ -10,7 +10,7 @@ use Rattle.kube_objects.specs.declared.object.Object.TheVariants as object
 use Rattle.kube_objects.specs.Answers.{written}
 use Rattle.kube_objects.specs.Document.{Doc, processes, is_controller, lease_seconds}
 use Rattle.kube_objects.specs.Elector.{succeeds}
-use Rattle.kube_objects.specs.Entry.{Entry, Identity, Call, Sends, Answers, actor_of}
+use Rattle.kube_objects.specs.Entry.{Entry, Identity, Call, Stops, Sends, Answers, actor_of}
 use Rattle.kube_objects.specs.Identities.{identity_of, of_process, holder_of}
 use Rattle.kube_objects.specs.Newest.{has, join}
 use Rattle.kube_objects.specs.Stored.{Held, election, stored, at_key, write_of, request_write, next_version, holds, last_write}
@@ -24,7 +24,7 @@ use Rattle.history_laws.proofs.Order.{entries_are_earlier, entries_are_ordered}
 use Rattle.history_laws.proofs.Plainly.{upper}
 use Rattle.history_laws.proofs.Tailed.{tail_all, tail_trans, in_tail, later_tail, tail_of_empty, same_head, same_rest}
 use Rattle.lease_laws.proofs.EachKind.{top_stays}
-use Rattle.lease_laws.proofs.Histories.{turn_right}
+use Rattle.lease_laws.proofs.Histories.{bears_own, turn_right}
 use Rattle.lease_laws.proofs.Invariant.{view, Fit, FitRequest, SentRight}
 use Rattle.lease_laws.proofs.Premises.{rates_at_most}
 use Rattle.takeover_laws.specs.Waits.{blocked_for}
@@ -39,8 +39,9 @@ use Rattle.calm_laws.specs.Bounds.{LastsFor}
 use Rattle.calm_laws.proofs.Looks.{object_of}
 use Rattle.stay_laws.proofs.Won.{Won, is_won}
 use Rattle.silence_laws.specs.Silence.{LeadsUntil, Bears}
+use Rattle.silence_laws.proofs.Chain.{never_gives}
 use Rattle.silence_laws.proofs.Setting.{own_process, request_way}
-use Rattle.silence_laws.proofs.Owning.{Leased, leased, never_stopped}
+use Rattle.silence_laws.proofs.Owning.{Leased, leased}
 
 -- no entry stands above one of a later beat
 pub not_sooner : (h : List Entry) → IsOrdered h → (x : Entry) (T : List Entry) → IsTail (x ∷ T) h → (f : Entry) → In f T → f.beat ≤ x.beat
@@ -134,31 +135,35 @@ module _ (doc : Doc) (near far b e : ℕ) (q : Identity) (l : LeadsUntil doc nea
     asked_high = tail_trans (w.f ∷ w.low) T (history doc (suc n)) w.asked (tail_trans T (x ∷ T) (history doc (suc n)) (inr (tail_all T)) at)
 
     sent : w.call.sent ≡ w.f.beat
-    sent = (subst (λ o. IfSome o (λ s. (s.call.sent ≡ w.f.beat) × (s.arrives ≡ request_arrival doc s.who.process w.f.beat w.low))) (sent_is w.f w.who w.call (Some x.beat) w.f_actor w.f_fact) (messages_travel doc s.sound.2 (suc n) w.f w.low asked_high).0).0
+    sent = (subst (λ o. IfSome o (λ s. (s.call.sent ≡ w.f.beat) × (s.arrives ≡ request_arrival doc s.who.process w.f.beat w.low))) (sent_is w.f w.who w.call (Some x.beat) w.f_actor w.f_fact) (messages_travel doc s.rules (suc n) w.f w.low asked_high).0).0
+
+    asked_b : IsTail (w.f ∷ w.low) (history doc (suc (b - 1)))
+    asked_b = tail_trans (w.f ∷ w.low) (history doc (suc w.f.beat)) (history doc (suc (b - 1))) (in_own_beat doc (suc n) w.f w.low asked_high) (later_tail doc (suc w.f.beat) (suc (b - 1)) (omega (arith, early, sent)))
 
     -- as its request fits its sender, so does what it writes
     right : SentRight doc (greatest_below doc (length doc.controllers)) (b - 1) (view (history doc (suc (b - 1)))) (record { who = w.who; call = w.call; arrives = Some x.beat })
     right =
         subst (λ o. IfSome o (SentRight doc (greatest_below doc (length doc.controllers)) (b - 1) (view (history doc (suc (b - 1)))))) (sent_is w.f w.who w.call (Some x.beat) w.f_actor w.f_fact)
-        ((turn_right doc (greatest_below doc (length doc.controllers)) (rates_at_most doc) s.sound (processes doc) (b - 1) (omega (arith, l.within, s.end))).entries w.f there).0
-      where
-        there : In w.f (history doc (suc (b - 1)))
-        there =
-            in_head w.f w.low (history doc (suc (b - 1)))
-            (tail_trans (w.f ∷ w.low) (history doc (suc w.f.beat)) (history doc (suc (b - 1))) (in_own_beat doc (suc n) w.f w.low asked_high) (later_tail doc (suc w.f.beat) (suc (b - 1)) (omega (arith, early, sent))))
+        ((turn_right doc (greatest_below doc (length doc.controllers)) (rates_at_most doc) (bears_own doc (greatest_below doc (length doc.controllers)) s.rules) s.sound (processes doc) (b - 1) (omega (arith, l.within, s.end))).entries w.f (in_head w.f w.low (history doc (suc (b - 1))) asked_b)).0
 
-    fits : FitRequest doc (view (history doc (suc (b - 1)))) w.who w.call.request
+    fits : FitRequest doc w.call.kind w.who w.call.request
     fits = (right.may.controller w.role).fit
 
-    own : (lease : Lease) → Fit doc (view (history doc (suc (b - 1)))) w.who lease → (lease.holder ≡ holder_of w.who) × (lease.duration ≡ Some (lease_seconds doc w.who.process))
+    own : (lease : Lease) → Fit doc w.call.kind w.who lease → (lease.holder ≡ holder_of w.who) × (lease.duration ≡ Some (lease_seconds doc w.who.process))
     own lease (inl fit) = fit
-    own lease (inr free) = absurd (omega (arith, free.1, never_stopped doc s.sound.2 near far (b - 1) w.who (subst (IsSteady doc near far 0 (b - 1)) (sym mine) l.steady) (history doc (suc (b - 1))) (tail_all (history doc (suc (b - 1))))))
+    own lease (inr free) = absurd (never_gives doc s.rules (b - 1) w.who w.role unstopped w.f w.low w.call (Some x.beat) asked_b w.f_actor w.f_fact free.1)
+      where
+        steady : IsSteady doc near far 0 (b - 1) w.who.process
+        steady = subst (IsSteady doc near far 0 (b - 1)) (sym mine) l.steady
+
+        unstopped : (y : Entry) → In y (history doc (suc (b - 1))) → y.fact ≡ Stops → has (of_process w.who.process y.actor) ≡ true → ⊥
+        unstopped y there fact by = omega (arith, steady.stops y there fact by)
 
     wrote_is : w.wrote ≡ written w.call.request T
     wrote_is = made.written_is ∙ ap (λ (c : Call). written c.request T) (sym made.call_is)
       where
         made : MadeAnswer doc x.beat x.step x.actor w.call w.reply w.comes w.wrote T
-        made = subst (λ d. MadeAs doc x.beat x.step x.actor d T) w.fact (are_made doc s.sound.2 (suc n) x T at)
+        made = subst (λ d. MadeAs doc x.beat x.step x.actor d T) w.fact (are_made doc s.rules (suc n) x T at)
 
     -- what it writes is what it asked for
     record Written : Type 0 where
@@ -166,7 +171,7 @@ module _ (doc : Doc) (near far b e : ℕ) (q : Identity) (l : LeadsUntil doc nea
       at_election : at_key election (request_write w.call.request w.wrote) ≡ Some (Some (object.Lease lease))
       fit : (lease.holder ≡ holder_of w.who) × (lease.duration ≡ Some (lease_seconds doc w.who.process))
 
-    by_request : (r : Request) (o : Option (Option Object)) → Leased r o → FitRequest doc (view (history doc (suc (b - 1)))) w.who r → at_key election (request_write w.call.request w.wrote) ≡ o → Written
+    by_request : (r : Request) (o : Option (Option Object)) → Leased r o → FitRequest doc w.call.kind w.who r → at_key election (request_write w.call.request w.wrote) ≡ o → Written
     by_request (Create key lease) o is fit same = record { lease = lease; at_election = same ∙ is; fit = own lease fit }
     by_request (Update key given lease) o is fit same = record { lease = lease; at_election = same ∙ is; fit = own lease fit }
     by_request (Get key) o is fit same = absurd is
@@ -209,7 +214,7 @@ module _ (doc : Doc) (near far b e : ℕ) (q : Identity) (l : LeadsUntil doc nea
     its_beat =
         omega (
           arith,
-          (request_way doc s.sound.2 near far (b - 1) q.process l.steady (suc n) w.f w.low w.who w.call (Some x.beat) asked_high l.role mine w.f_actor w.f_fact (omega (arith, early, sent)) x.beat refl
+          (request_way doc s.rules near far (b - 1) q.process l.steady (suc n) w.f w.low w.who w.call (Some x.beat) asked_high l.role mine w.f_actor w.f_fact (omega (arith, early, sent)) x.beat refl
               (λ j low high soon. l.goes j (omega (arith, high, x_upto, within)))).most,
           early,
           sent,
@@ -224,7 +229,7 @@ module _ (doc : Doc) (near far b e : ℕ) (q : Identity) (l : LeadsUntil doc nea
       where
         foreign : (w.who.process ≡ q.process → ⊥) → ⊥
         foreign other =
-            writer_acts doc s.sound.2 near far 0 e n w.who w.role (l.others w.who.process w.role other) (s.calls w.who.process w.role) within s.one (λ k from to. idle w.who w.role other k to) x T at w.actor
+            writer_acts doc s.rules near far 0 e n w.who w.role (l.others w.who.process w.role other) (s.calls w.who.process w.role) within s.one (λ k from to. idle w.who w.role other k to) x T at w.actor
             (subst (WritesElection 0) (sym w.fact) (omega arith, ap (λ d. has (at_key election (write_of d))) (sym w.fact) ∙ writes)) late
 
     -- from beat b + far on it is the same
@@ -245,5 +250,5 @@ module _ (doc : Doc) (near far b e : ℕ) (q : Identity) (l : LeadsUntil doc nea
         by_write : (o : Option (Option Object)) → at_key election (write_of z.fact) ≡ o → stored election (z ∷ Z) ≡ stored election Z
         by_write None is = top_stays z Z is
         by_write (Some o) is =
-            let w : Won doc z Z = is_won doc s.sound n (omega (arith, within, s.end)) z Z at_n (omega (arith, beat, s.one, s.ways)) (ap has is) in
+            let w : Won doc z Z = is_won doc s.sound s.rules n (omega (arith, within, s.end)) z Z at_n (omega (arith, beat, s.one, s.ways)) (ap has is) in
             absurd (omega (arith, beat, its_beat z Z at_n (ap has is) w (no_foreign z Z at_n (ap has is) (omega (arith, upto, late)) w)))

@@ -3,7 +3,7 @@ use Rattle.std.proofs.Common.{◌≡◌, ◌<◌, ◌≤◌, ℕ, ◌+◌, ◌-�
 use Rattle.kube_objects.specs.Document.{Doc, is_controller}
 use Rattle.kube_objects.specs.Entry.{Entry, Identity, Call, Sends, actor_of}
 use Rattle.kube_objects.specs.Wire.{Sent, request_arrival}
-use Rattle.kube_objects.specs.Own.{IsOwn}
+use Rattle.kube_objects.specs.Own.{ReleasesByStop}
 use Rattle.history.specs.History.{history}
 use Rattle.history.specs.Safe.{Acts}
 use Rattle.history_laws.specs.Tails.{IsTail}
@@ -22,7 +22,7 @@ use Rattle.silence_laws.proofs.Setting.{request_way, some_b, none_else}
 -- ---- messages as facts
 
 -- the beat of a call's sending
-pub its_call_sent : (doc : Doc) → IsOwn doc → (m : ℕ) (x : Entry) (T : List Entry) (q : Identity) (call : Call) (arrives : Option ℕ) → IsTail (x ∷ T) (history doc m) → x.actor ≡ actor_of q → x.fact ≡ Sends call arrives → call.sent ≡ x.beat
+pub its_call_sent : (doc : Doc) → ReleasesByStop doc → (m : ℕ) (x : Entry) (T : List Entry) (q : Identity) (call : Call) (arrives : Option ℕ) → IsTail (x ∷ T) (history doc m) → x.actor ≡ actor_of q → x.fact ≡ Sends call arrives → call.sent ≡ x.beat
 its_call_sent doc rules m x T q call arrives at actor fact =
     (subst (λ o. IfSome o (λ s. (s.call.sent ≡ x.beat) × (s.arrives ≡ request_arrival doc s.who.process x.beat T))) (sent_is x q call arrives actor fact) (messages_travel doc rules m x T at).0).0
 
@@ -31,7 +31,7 @@ its_call_sent doc rules m x T q call arrives at actor fact =
 module _ (doc : Doc) (near far b e : ℕ) (q : Identity) (l : LeadsUntil doc near far b e q) (s : Bears doc near far b e q) (renew : OthersRenew doc near far b e q) where
   -- before b nobody else acts
   pub idle_before : (r : Identity) → is_controller doc r.process ≡ true → (r.process ≡ q.process → ⊥) → (k : ℕ) → k < b → Acts doc r k → ⊥
-  idle_before r role other k lt acting = let led : HasLed doc r k = acting_led doc s.sound.2 r k acting in none_else doc near far b e q l s renew.before r role other led.j (omega (arith, led.to, lt)) led.success
+  idle_before r role other k lt acting = let led : HasLed doc r k = acting_led doc s.rules r k acting in none_else doc near far b e q l s renew.before r role other led.j (omega (arith, led.to, lt)) led.success
 
   -- so the others are steady from b on as well, and what comes after b is a calm
   pub others_since : (p : ℕ) → is_controller doc p ≡ true → (p ≡ q.process → ⊥) → IsSteady doc near far b e p
@@ -48,7 +48,7 @@ module _ (doc : Doc) (near far b e : ℕ) (q : Identity) (l : LeadsUntil doc nea
             arith,
             some_b doc near far b e q l s,
             early,
-            (request_way doc s.sound.2 near far (b - 1) m.who.process (subst (IsSteady doc near far 0 (b - 1)) (sym same) l.steady) b x T m.who m.call m.arrives at role refl actor fact early y arrives
+            (request_way doc s.rules near far (b - 1) m.who.process (subst (IsSteady doc near far 0 (b - 1)) (sym same) l.steady) b x T m.who m.call m.arrives at role refl actor fact early y arrives
                 (λ j low high soon. l.goes j (omega (arith, soon, early, room, some_b doc near far b e q l s)))).most,
           )
         where

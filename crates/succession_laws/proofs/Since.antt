@@ -19,7 +19,7 @@ use Rattle.history_laws.proofs.Lives.{Over}
 use Rattle.history_laws.proofs.Order.{entries_are_earlier}
 use Rattle.history_laws.proofs.Plainly.{some_is, none_is, true_is, false_is}
 use Rattle.history_laws.proofs.Tailed.{tail_all, tail_trans, in_tail, later_tail}
-use Rattle.lease_laws.proofs.Histories.{turn_right}
+use Rattle.lease_laws.proofs.Histories.{bears_own, turn_right}
 use Rattle.lease_laws.proofs.Invariant.{view, SentRight}
 use Rattle.lease_laws.proofs.Premises.{rates_at_most}
 use Rattle.call_laws.specs.Answering.{with_events}
@@ -60,7 +60,7 @@ module _ (doc : Doc) (near far b e : ℕ) (q : Identity) (l : LeadsUntil doc nea
       no_end x T stands fact mine same = by_term (same_or_fresh doc r x.beat (history doc x.beat) T lasts low)
         where
           made : MadeEnd doc x.beat x.step x.actor T
-          made = subst (λ d. MadeAs doc x.beat x.step x.actor d T) fact (are_made doc s.sound.2 (suc e) x T stands)
+          made = subst (λ d. MadeAs doc x.beat x.step x.actor d T) fact (are_made doc s.rules (suc e) x T stands)
 
           r : Identity
           r = made.q
@@ -91,11 +91,11 @@ module _ (doc : Doc) (near far b e : ℕ) (q : Identity) (l : LeadsUntil doc nea
           low = (next_above (λ y. x.beat ≤ y.beat) (history doc x.beat) T (history doc (suc e)) x (from_beat doc x.beat (suc e) (omega (arith, within_e))) above_start stands).1
 
           before : (k : ℕ) → suc k ≡ x.beat → deadline doc r (history doc x.beat) ≡ Some made.at → ⊥
-          before k is was = none_is made.at (sym (unled doc s.sound.2 near far 0 e (d - 1) r role_r lasts (subst (IsSteady doc near far 0 e) (sym process) steady) (omega (arith, within))
+          before k is was = none_is made.at (sym (unled doc s.rules near far 0 e (d - 1) r role_r lasts (subst (IsSteady doc near far 0 e) (sym process) steady) (omega (arith, within))
               (λ k from to. idle r role_r (λ is. other (sym process ∙ is)) k (omega (arith, to, some))) k (omega arith) (omega (arith, is, same)) (ap (λ k. alive r.process (history doc k)) is ∙ there)) ∙ ap (λ k. deadline doc r (history doc k)) is ∙ was)
             where
               over : Over r (history doc x.beat) → ⊥
-              over o = (over_stays doc s.sound.2 (suc e) r (history doc x.beat) T below above_start o).1 made.up
+              over o = (over_stays doc s.rules (suc e) r (history doc x.beat) T below above_start o).1 made.up
 
               there : alive r.process (history doc x.beat) ≡ Some r.incarnation
               there = still_up r (history doc x.beat) (set_counted doc r x.beat made.at was) over
@@ -132,7 +132,7 @@ module _ (doc : Doc) (near far b e : ℕ) (q : Identity) (l : LeadsUntil doc nea
               arith,
               some,
               early,
-              (request_way doc s.sound.2 near far e m.who.process (l.others m.who.process role other) d x place.0 m.who m.call m.arrives place.1 role refl facts.0 facts.1 (omega (arith, early, within)) at arrives
+              (request_way doc s.rules near far e m.who.process (l.others m.who.process role other) d x place.0 m.who m.call m.arrives place.1 role refl facts.0 facts.1 (omega (arith, early, within)) at arrives
                   (λ j low high soon. l.goes j (omega (arith, soon, early, room, some)))).most,
             ))
             (cases_eq m.who.process q.process)
@@ -144,7 +144,7 @@ module _ (doc : Doc) (near far b e : ℕ) (q : Identity) (l : LeadsUntil doc nea
             right : SentRight doc (greatest_below doc (length doc.controllers)) (d - 1) (view (history doc (suc (d - 1)))) m
             right =
                 subst (λ o. IfSome o (SentRight doc (greatest_below doc (length doc.controllers)) (d - 1) (view (history doc (suc (d - 1)))))) is
-                ((turn_right doc (greatest_below doc (length doc.controllers)) (rates_at_most doc) s.sound (processes doc) (d - 1) (omega (arith, within, s.end))).entries x
+                ((turn_right doc (greatest_below doc (length doc.controllers)) (rates_at_most doc) (bears_own doc (greatest_below doc (length doc.controllers)) s.rules) s.sound (processes doc) (d - 1) (omega (arith, within, s.end))).entries x
                 (in_tail x (history doc d) (history doc (suc (d - 1))) (later_tail doc d (suc (d - 1)) (omega arith)) stands)).0
 
     reply_in : (x : Entry) → In x (history doc d) → (m : Back) → back_of x.actor x.fact ≡ Some m → key_eq (key_of m.call.request) election ≡ true → (at : ℕ) → m.comes ≡ Some at → at < d + far
@@ -169,7 +169,7 @@ module _ (doc : Doc) (near far b e : ℕ) (q : Identity) (l : LeadsUntil doc nea
             passes = steady.passes x.beat (omega arith) (omega (arith, early, within))
 
             made : MadeAnswer doc x.beat x.step x.actor m.call m.reply m.comes facts.wrote place.0
-            made = subst (λ d. MadeAs doc x.beat x.step x.actor d place.0) facts.fact (are_made doc s.sound.2 d x place.0 place.1)
+            made = subst (λ d. MadeAs doc x.beat x.step x.actor d place.0) facts.fact (are_made doc s.rules d x place.0 place.1)
 
             whose : made.s.who ≡ m.who
             whose = actor_is made.s.who m.who (sym made.by ∙ facts.by)
@@ -177,7 +177,7 @@ module _ (doc : Doc) (near far b e : ℕ) (q : Identity) (l : LeadsUntil doc nea
             arrival : m.comes ≡ Some (x.beat + reply_delay m.who.process (with_events doc x.beat))
             arrival =
                 made.comes_is ∙ ap (λ (r : Identity). reply_arrival doc r.process x.beat place.0) whose
-                ∙ reply_passes doc near far m.who.process x.beat place.0 passes (forces_stand doc s.sound.2 d x place.0 place.1 (omega (arith, made.step_is)))
+                ∙ reply_passes doc near far m.who.process x.beat place.0 passes (forces_stand doc s.rules d x place.0 place.1 (omega (arith, made.step_is)))
                 (steady.passes (x.beat + reply_delay m.who.process (with_events doc x.beat)) (omega arith) (omega (arith, passes.reply_most, early, room, some))).awake
 
         its_own : m.who.process ≡ q.process → at < d + far
@@ -187,7 +187,7 @@ module _ (doc : Doc) (near far b e : ℕ) (q : Identity) (l : LeadsUntil doc nea
 
         by_role : (t : Bool) → is_controller doc m.who.process ≡ t → at < d + far
         by_role true role = ⊎_elim its_own (others role) (cases_eq m.who.process q.process)
-        by_role false role = absurd (true_is (sym key ∙ asks_elsewhere doc s.sound (d - 1) (omega (arith, within, s.end)) x m (in_tail x (history doc d) (history doc (suc (d - 1))) (later_tail doc d (suc (d - 1)) (omega arith)) stands) is role))
+        by_role false role = absurd (true_is (sym key ∙ asks_elsewhere doc s.sound s.rules (d - 1) (omega (arith, within, s.end)) x m (in_tail x (history doc d) (history doc (suc (d - 1))) (later_tail doc d (suc (d - 1)) (omega arith)) stands) is role))
 
     pub calm_since : IsCalm doc near far d e
     calm_since = record {

@@ -83,7 +83,7 @@ module _ (doc : Doc) (near far b e : ℕ) (q : Identity) (l : LeadsUntil doc nea
   up_last =
       let acting = (it_stays doc near far b e q l s).acts a (omega (arith, (its_lead doc near far b e q l s).to, s.one, s.ways)) (omega arith) in
       let g = at_turn doc q.process a in
-      present_is (alive q.process g) q.incarnation (and_left (is_present (alive q.process g) q.incarnation) (is_before (local doc q.process a) (deadline doc q g)) (term_of doc s.sound.2 q a g acting.1))
+      present_is (alive q.process g) q.incarnation (and_left (is_present (alive q.process g) q.incarnation) (is_before (local doc q.process a) (deadline doc q g)) (term_of doc s.rules q a g acting.1))
 
   pub won_success : (z : Entry) (Z : List Entry) → IsTail (z ∷ Z) (history doc (suc a)) → (w : Won doc z Z) → w.who ≡ q → z.beat + 2 * far ≤ a → HasWon z Z
   won_success z Z at w mine room = record {
@@ -104,10 +104,10 @@ module _ (doc : Doc) (near far b e : ℕ) (q : Identity) (l : LeadsUntil doc nea
       my_time = times_before doc near far b e q l s q.process l.role l.steady
 
       sending : Sending doc 0 a q w.call (Some z.beat)
-      sending = (sending_of doc s.sound.2 near far 0 a a q l.role l.steady my_time (omega arith) s.one w.call (Some z.beat) w.f w.low asked actor w.f_fact (omega arith)).0
+      sending = (sending_of doc s.rules near far 0 a a q l.role l.steady my_time (omega arith) s.one w.call (Some z.beat) w.f w.low asked actor w.f_fact (omega arith)).0
 
       up_f : alive q.process w.low ≡ Some q.incarnation
-      up_f = let p = sending_of doc s.sound.2 near far 0 a a q l.role l.steady my_time (omega arith) s.one w.call (Some z.beat) w.f w.low asked actor w.f_fact (omega arith) in subst (λ h. alive q.process h ≡ Some q.incarnation) p.2 p.0.up
+      up_f = let p = sending_of doc s.rules near far 0 a a q l.role l.steady my_time (omega arith) s.one w.call (Some z.beat) w.f w.low asked actor w.f_fact (omega arith) in subst (λ h. alive q.process h ≡ Some q.incarnation) p.2 p.0.up
 
       f_upto : w.f.beat ≤ a
       f_upto = ⊎_elim (λ lt. omega (arith, lt)) (λ first. omega (arith, first.0)) (entries_are_earlier doc (suc a) w.f (in_head w.f w.low (history doc (suc a)) asked))
@@ -117,7 +117,7 @@ module _ (doc : Doc) (near far b e : ℕ) (q : Identity) (l : LeadsUntil doc nea
 
       way : IsWay near far w.f.beat z.beat
       way =
-          request_way doc s.sound.2 near far a q.process l.steady (suc a) w.f w.low q w.call (Some z.beat) asked l.role refl actor w.f_fact f_upto z.beat refl
+          request_way doc s.rules near far a q.process l.steady (suc a) w.f w.low q w.call (Some z.beat) asked l.role refl actor w.f_fact f_upto z.beat refl
           (λ j low high soon. l.goes j (omega (arith, high, z_upto, l.within)))
 
       n : ℕ
@@ -131,12 +131,12 @@ module _ (doc : Doc) (near far b e : ℕ) (q : Identity) (l : LeadsUntil doc nea
 
       still : (h : List Entry) → IsTail w.low h → IsTail h (history doc (suc n)) → alive q.process h ≡ Some q.incarnation
       still h low high =
-          up_between doc s.sound.2 (suc a) q w.low h (at_turn doc q.process a) low
+          up_between doc s.rules (suc a) q w.low h (at_turn doc q.process a) low
           (tail_trans h (history doc a) (at_turn doc q.process a) (tail_trans h (history doc (suc n)) (history doc a) high (later_tail doc (suc n) a (omega (arith, way.least, s.one, room)))) (before_turn doc q.process a))
           turn_high up_f up_last
 
       r : IsReacted doc near far q w.call (Some z.beat) w.f.beat
-      r = replies_react doc s.sound.2 near far 0 a n q l.role l.steady my_time s.one (omega (arith, way.least, room)) w.f w.low w.call (Some z.beat) f_n actor w.f_fact (omega arith) (omega arith) still
+      r = replies_react doc s.rules near far 0 a n q l.role l.steady my_time s.one (omega (arith, way.least, room)) w.f w.low w.call (Some z.beat) f_n actor w.f_fact (omega arith) (omega arith) still
 
       reply : Reply
       reply = answer w.call.request r.round.before
@@ -152,7 +152,7 @@ module _ (doc : Doc) (near far b e : ℕ) (q : Identity) (l : LeadsUntil doc nea
 
       same : z ∷ Z ≡ there ∷ r.round.before
       same =
-          answers_differ doc s.sound.2 (suc a) z there Z r.round.before z_back (record { who = q; call = w.call; reply = reply; comes = reply_arrival doc q.process r.round.at r.round.before }) at
+          answers_differ doc s.rules (suc a) z there Z r.round.before z_back (record { who = q; call = w.call; reply = reply; comes = reply_arrival doc q.process r.round.at r.round.before }) at
           (tail_trans (there ∷ r.round.before) (history doc (suc r.round.at)) (history doc (suc a)) r.round.position (later_tail doc (suc r.round.at) (suc a) (omega (arith, r.round.most, way.least, room))))
           z_is refl mine refl
 
@@ -188,8 +188,8 @@ module _ (doc : Doc) (near far b e : ℕ) (q : Identity) (l : LeadsUntil doc nea
 
       same_origin : o.e ∷ o.low ≡ z ∷ Z
       same_origin =
-          answers_differ doc s.sound.2 (suc a) o.e z o.low Z (record { who = q; call = w.call; reply = Done done.0; comes = Some y }) z_back
-          (wrote.write_high doc near far 0 a s.sound (calm_before doc near far b e q l s) (times_before doc near far b e q l s) s.one (renewed.end doc near far b e q l s) q l.role l.steady s.renews y to (renewed.g doc near far b e q l s y to hs)) at
+          answers_differ doc s.rules (suc a) o.e z o.low Z (record { who = q; call = w.call; reply = Done done.0; comes = Some y }) z_back
+          (wrote.write_high doc near far 0 a s.sound s.rules (calm_before doc near far b e q l s) (times_before doc near far b e q l s) s.one (renewed.end doc near far b e q l s) q l.role l.steady s.renews y to (renewed.g doc near far b e q l s y to hs)) at
           (ap (λ d. back_of o.e.actor d) o.fact ∙ ap (λ who. back_of who (Answers w.call (Done done.0) (Some y) (written w.call.request o.low))) o.actor) z_is (sym mine) refl
 
   -- ---- its first write
@@ -204,10 +204,10 @@ module _ (doc : Doc) (near far b e : ℕ) (q : Identity) (l : LeadsUntil doc nea
   first = renewed.o doc near far b e q l s led.j led_to led.success
 
   pub first_high : IsTail (first.e ∷ first.low) (history doc (suc a))
-  first_high = wrote.write_high doc near far 0 a s.sound (calm_before doc near far b e q l s) (times_before doc near far b e q l s) s.one (renewed.end doc near far b e q l s) q l.role l.steady s.renews led.j led_to (renewed.g doc near far b e q l s led.j led_to led.success)
+  first_high = wrote.write_high doc near far 0 a s.sound s.rules (calm_before doc near far b e q l s) (times_before doc near far b e q l s) s.one (renewed.end doc near far b e q l s) q l.role l.steady s.renews led.j led_to (renewed.g doc near far b e q l s led.j led_to led.success)
 
   first_writes : has (at_key election (write_of first.e.fact)) ≡ true
-  first_writes = wrote.writes doc near far 0 a s.sound (calm_before doc near far b e q l s) (times_before doc near far b e q l s) s.one (renewed.end doc near far b e q l s) q l.role l.steady s.renews led.j led_to (renewed.g doc near far b e q l s led.j led_to led.success)
+  first_writes = wrote.writes doc near far 0 a s.sound s.rules (calm_before doc near far b e q l s) (times_before doc near far b e q l s) s.one (renewed.end doc near far b e q l s) q l.role l.steady s.renews led.j led_to (renewed.g doc near far b e q l s led.j led_to led.success)
 
   pub first_ways : sendings.IsWay near far first.begun.f.beat first.e.beat led.j
   first_ways = renewed.ways doc near far b e q l s led.j led_to led.success
@@ -222,8 +222,8 @@ module _ (doc : Doc) (near far b e : ℕ) (q : Identity) (l : LeadsUntil doc nea
     where
       early : z.beat < led.j → z.actor ≡ actor_of q
       early lt =
-          wrote.its_writes doc near far 0 a s.sound (calm_before doc near far b e q l s) (times_before doc near far b e q l s) s.one (renewed.end doc near far b e q l s) q l.role l.steady s.renews led.j led_to (renewed.g doc near far b e q l s led.j led_to led.success)
-          (renewing.acts_now doc near far 0 a s.sound (calm_before doc near far b e q l s) (times_before doc near far b e q l s) s.one (renewed.end doc near far b e q l s) q l.role l.steady s.renews led.j led_to (renewed.g doc near far b e q l s led.j led_to led.success))
+          wrote.its_writes doc near far 0 a s.sound s.rules (calm_before doc near far b e q l s) (times_before doc near far b e q l s) s.one (renewed.end doc near far b e q l s) q l.role l.steady s.renews led.j led_to (renewed.g doc near far b e q l s led.j led_to led.success)
+          (renewing.acts_now doc near far 0 a s.sound s.rules (calm_before doc near far b e q l s) (times_before doc near far b e q l s) s.one (renewed.end doc near far b e q l s) q l.role l.steady s.renews led.j led_to (renewed.g doc near far b e q l s led.j led_to led.success))
           led.j (omega arith) led_to (omega (arith, first_ways.comes_most)) z Z
           (tail_trans (z ∷ Z) (history doc (suc z.beat)) (history doc (suc led.j)) (in_own_beat doc (suc a) z Z at) (later_tail doc (suc z.beat) (suc led.j) (omega (arith, lt)))) low writes
 
@@ -289,7 +289,7 @@ module _ (doc : Doc) (near far b e : ℕ) (q : Identity) (l : LeadsUntil doc nea
             z_high = tail_trans (k.z ∷ k.before) (history doc (suc k.z.beat)) (history doc (suc a)) (in_own_beat doc (suc m) k.z k.before k_high) (later_tail doc (suc k.z.beat) (suc a) (omega (arith, early)))
 
             w : Won doc k.z k.before
-            w = is_won doc s.sound a (renewed.end doc near far b e q l s) k.z k.before z_high some writes
+            w = is_won doc s.sound s.rules a (renewed.end doc near far b e q l s) k.z k.before z_high some writes
 
             mine : w.who ≡ q
             mine = actor_is w.who q (sym w.actor ∙ its_own k.z k.before z_high placed writes)
@@ -319,10 +319,10 @@ module _ (doc : Doc) (near far b e : ℕ) (q : Identity) (l : LeadsUntil doc nea
     answered_step x T at w = omega (arith, made.step_is)
       where
         made : MadeAnswer doc x.beat x.step x.actor w.call w.reply w.comes w.wrote T
-        made = subst (λ d. MadeAs doc x.beat x.step x.actor d T) w.fact (are_made doc s.sound.2 (suc m) x T at)
+        made = subst (λ d. MadeAs doc x.beat x.step x.actor d T) w.fact (are_made doc s.rules (suc m) x T at)
 
     known : Waits doc plainly (end_beat doc) (whole_history doc)
-    known = whole_known doc s.sound (greatest_below doc (length doc.controllers)) (rates_at_most doc) plainly (λ x h at from late. (omega arith, omega arith))
+    known = whole_known doc s.sound s.rules (greatest_below doc (length doc.controllers)) (rates_at_most doc) plainly (λ x h at from late. (omega arith, omega arith))
 
     no_foreign : (x : Entry) (T : List Entry) → IsTail (x ∷ T) (history doc (suc m)) → IsTail (first.e ∷ first.low) T → (o : OfIt doc q T) → (w : Won doc x T) → 1 ≤ x.step → (w.who.process ≡ q.process → ⊥) → ⊥
     no_foreign x T at low o w step other =
@@ -369,12 +369,12 @@ module _ (doc : Doc) (near far b e : ℕ) (q : Identity) (l : LeadsUntil doc nea
 
         way : IsWay near far w.f.beat x.beat
         way =
-            request_way doc s.sound.2 near far e w.who.process (l.others w.who.process w.role other) (suc m) w.f w.low w.who w.call (Some x.beat) asked w.role refl w.f_actor w.f_fact (omega (arith, f_upto, within)) x.beat refl
+            request_way doc s.rules near far e w.who.process (l.others w.who.process w.role other) (suc m) w.f w.low w.who w.call (Some x.beat) asked w.role refl w.f_actor w.f_fact (omega (arith, f_upto, within)) x.beat refl
             (λ j low high soon. l.goes j (omega (arith, high, beat_upto x T at, within)))
 
         sent : w.call.sent ≡ w.f.beat
-        sent = (sending_of doc s.sound.2 near far 0 e m w.who w.role (l.others w.who.process w.role other) (s.calls w.who.process w.role) within s.one w.call (Some x.beat) w.f w.low asked w.f_actor w.f_fact (omega arith)).0.sent
-            ∙ ap (λ (x : Entry). x.beat) (sending_of doc s.sound.2 near far 0 e m w.who w.role (l.others w.who.process w.role other) (s.calls w.who.process w.role) within s.one w.call (Some x.beat) w.f w.low asked w.f_actor w.f_fact (omega arith)).1
+        sent = (sending_of doc s.rules near far 0 e m w.who w.role (l.others w.who.process w.role other) (s.calls w.who.process w.role) within s.one w.call (Some x.beat) w.f w.low asked w.f_actor w.f_fact (omega arith)).0.sent
+            ∙ ap (λ (x : Entry). x.beat) (sending_of doc s.rules near far 0 e m w.who w.role (l.others w.who.process w.role other) (s.calls w.who.process w.role) within s.one w.call (Some x.beat) w.f w.low asked w.f_actor w.f_fact (omega arith)).1
 
         beats : w.call.sent - waited.seen ≤ s.renews.wait + 5 * far - near
         beats = omega (arith, timely x T at step low o, way.least, sent, waited.late.0, s.ways, s.one)
@@ -389,7 +389,7 @@ module _ (doc : Doc) (near far b e : ℕ) (q : Identity) (l : LeadsUntil doc nea
       of_it (x ∷ T) (inl is) high = subst (OfIt doc q) is (new_of_it doc b q first.e first.low (is_its doc near far b e q l s quiet m within first.e first.low (subst (λ g. IsTail g (history doc (suc m))) (sym is) high) first_writes won0 (ap (λ (p : Identity). p.process) mine0)))
         where
           won0 : Won doc first.e first.low
-          won0 = is_won doc s.sound a (renewed.end doc near far b e q l s) first.e first.low first_high some_beat first_writes
+          won0 = is_won doc s.sound s.rules a (renewed.end doc near far b e q l s) first.e first.low first_high some_beat first_writes
 
           mine0 : won0.who ≡ q
           mine0 = actor_is won0.who q (sym won0.actor ∙ first.actor)
@@ -401,7 +401,7 @@ module _ (doc : Doc) (near far b e : ℕ) (q : Identity) (l : LeadsUntil doc nea
           by_write : (t : Option (Option Object)) → at_key election (write_of x.fact) ≡ t → OfIt doc q T → OfIt doc q (x ∷ T)
           by_write None none o = old_of_it doc q x T none o
           by_write (Some t) is o =
-              let w : Won doc x T = is_won doc s.sound m (omega (arith, within, s.end)) x T high later (ap has is) in
+              let w : Won doc x T = is_won doc s.sound s.rules m (omega (arith, within, s.end)) x T high later (ap has is) in
               new_of_it doc b q x T (is_its doc near far b e q l s quiet m within x T high (ap has is) w (its_process x T high low o w (answered_step x T high w)))
 
       -- an election write above the first one is the leader's process's

@@ -6,13 +6,13 @@ use Rattle.kube_objects.specs.Elector.{is_fast, leads, shown, moment, observed_a
 use Rattle.kube_objects.specs.Entry.{Entry, Identity, CallKind, Plain, Sends, actor_of, Call}
 use Rattle.kube_objects.specs.declared.call.Request.{Request}
 use Rattle.kube_objects.specs.Stored.{election}
-use Rattle.kube_objects.specs.Own.{IsOwn}
+use Rattle.kube_objects.specs.Own.{ReleasesByStop}
 use Rattle.history.specs.History.{history}
 use Rattle.history_laws.specs.Tails.{IsTail}
 use Rattle.calm_laws.proofs.Requests.{no_kubelet}
 use Rattle.calm_laws.proofs.Added.{SentFor, sends_for}
 
-module _ (doc : Doc) (rules : IsOwn doc) (slowly : doc.settings.fast_renew ≡ false) where
+module _ (doc : Doc) (rules : ReleasesByStop doc) (slowly : doc.settings.fast_renew ≡ false) where
   attempt_plain : (q : Identity) (k : ℕ) (h : List Entry) → attempt doc q k h ≡ (Plain, Get election)
   attempt_plain q k h = ap (λ b. cond (b && leads q h) (attempt_from q (moment doc q k) (observed_at doc q h) (shown q h)) (Plain, Get election)) slowly
 

@@ -6,6 +6,7 @@ use Rattle.kube_objects.specs.Document.{Doc, end_beat, is_controller, retry_peri
 use Rattle.kube_objects.specs.Entry.{Entry, Identity}
 use Rattle.kube_objects.specs.Identities.{of_process}
 use Rattle.kube_objects.specs.Newest.{has}
+use Rattle.kube_objects.specs.Own.{ReleasesByStop}
 use Rattle.kube_objects.specs.Pauses.{is_paused}
 use Rattle.kube_objects.specs.Process.{alive}
 use Rattle.kube_objects.specs.Wire.{back_of, reply_delay}
@@ -90,7 +91,7 @@ pub record Hears (doc : Doc) (far b e p : ℕ) : Type 0 where
 -- enough beats for its retry period and its renew deadline. It needn't renew in time
 abbrev pub ActsOn : Doc → Type 0
 ActsOn doc =
-    (near far b e : ℕ) (q : Identity) → IsSound doc → 1 ≤ near → near ≤ far → e ≤ end_beat doc → 1 ≤ retry_period doc q.process
+    (near far b e : ℕ) (q : Identity) → IsSound doc → ReleasesByStop doc → 1 ≤ near → near ≤ far → e ≤ end_beat doc → 1 ≤ retry_period doc q.process
     → LeadsUntil doc near far b e q → IsQuiet doc b e q.process → Hears doc far b e q.process
     → (slow lasting : ℕ) → RunsAtLeast doc q.process b e slow → IsEnough slow (retry_period doc q.process + renew_deadline doc q.process) lasting
     → (k : ℕ) → k ≤ e → Acts doc q k → k + 2 ≤ b + 2 * far + lasting

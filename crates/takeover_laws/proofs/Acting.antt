@@ -53,4 +53,4 @@ writers_act doc rules near far a e q one role steady time m x before at mine wri
     by_search (inr none) = absurd (writer_acts doc rules near far a e (x.beat + far) q role steady time late one (λ k from to acting. none k from to acting.1) x before there mine writes (omega arith))
 
 pub records_stay : RecordsStay
-records_stay doc near far a e n sound calm time one ways end within none m from late h low high = record_stays doc near far a e n sound calm end within one ways time none m from late h low high
+records_stay doc near far a e n sound rules calm time one ways end within none m from late h low high = record_stays doc near far a e n sound rules calm end within one ways time none m from late h low high

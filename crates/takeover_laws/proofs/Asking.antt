@@ -16,7 +16,7 @@ use Rattle.kube_objects.specs.Process.{alive, last_call, call_in}
 use Rattle.kube_objects.specs.Stored.{election}
 use Rattle.kube_objects.specs.Turns.{expired_in, is_fast_call}
 use Rattle.kube_objects.specs.Wire.{send, next_call, request_arrival}
-use Rattle.kube_objects.specs.Own.{IsOwn}
+use Rattle.kube_objects.specs.Own.{ReleasesByStop}
 use Rattle.history.specs.History.{history, at_turn}
 use Rattle.history.specs.Safe.{Acts}
 use Rattle.history.specs.Steps.{turn}
@@ -89,7 +89,7 @@ abbrev pub reply_or : Reply → Fact → Reply
 reply_or x (Delivers d reply counted) = reply
 reply_or x _ = x
 
-module _ (doc : Doc) (rules : IsOwn doc) (near far a e n r : ℕ) (q : Identity) (role : is_controller doc q.process ≡ true) (lasts : 1 ≤ renew_deadline doc q.process) (steady : IsSteady doc near far a e q.process)
+module _ (doc : Doc) (rules : ReleasesByStop doc) (near far a e n r : ℕ) (q : Identity) (role : is_controller doc q.process ≡ true) (lasts : 1 ≤ renew_deadline doc q.process) (steady : IsSteady doc near far a e q.process)
     (within : n ≤ e) (none : (k : ℕ) → a ≤ k → k ≤ n → Acts doc q k → ⊥) (from : a ≤ r)
     (w : Call) (reply : Reply) (T : List Entry) (after : IsTail (with_events doc a) T) (stands : IsTail (entry r 3 q (Delivers w reply true) ∷ T) (history doc (suc n))) (alive_at : alive q.process T ≡ Some q.incarnation)
     (failed : follow_on doc q r w.kind w.request reply (entry r 3 q (Delivers w reply true) ∷ T) ≡ Fails) (last : r ≤ n) where

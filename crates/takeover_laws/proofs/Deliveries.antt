@@ -15,7 +15,7 @@ use Rattle.kube_objects.specs.Newest.{when, only_if, join}
 use Rattle.kube_objects.specs.Process.{open_as, alive, last_call, call_in, is_present, is_late, answered_call, counted}
 use Rattle.kube_objects.specs.Turns.{react, with_reply}
 use Rattle.kube_objects.specs.Wire.{Back, back_of, next_call, send}
-use Rattle.kube_objects.specs.Own.{IsOwn}
+use Rattle.kube_objects.specs.Own.{ReleasesByStop}
 use Rattle.history.proofs.Own.{react-own}
 use Rattle.history.specs.Steps.{deliver_all, deliver_as, delivered, react_as}
 use Rattle.history_laws.specs.Tails.{In, IsTail}
@@ -49,14 +49,14 @@ module _ (doc : Doc) (k : ℕ) (q : Identity) (call : Call) where
   other_next p None h other w = w
   other_next p (Some request) h other w = other_send p request h other w
 
-  other_react : IsOwn doc → (p : Identity) (c : Call) (reply : Reply) (b : Bool) (h : List Entry) → is_same p q ≡ false → Waits h → Waits (react_as doc k p c reply b h)
+  other_react : ReleasesByStop doc → (p : Identity) (c : Call) (reply : Reply) (b : Bool) (h : List Entry) → is_same p q ≡ false → Waits h → Waits (react_as doc k p c reply b h)
   other_react own p c reply true h other w = subst Waits (sym (react-own doc own k p c reply h)) (other_follow p (leads p h) (follow_on doc p k c.kind c.request reply h) h other w)
   other_react own p c reply false h other w = other_next p (next_request doc p k c.request reply) h other w
 
   ignored : (p : Identity) (c : Call) (reply : Reply) (h : List Entry) → Waits h → Waits (entry k 3 p (Delivers c reply false) ∷ h)
   ignored p c reply h w = record { up = w.up; call_is = w.call_is }
 
-  other_deliver : IsOwn doc → (p : Identity) (c : Call) (reply : Reply) (o : Option Call) (h : List Entry) → is_same p q ≡ false → Waits h → Waits (deliver_as doc k p c reply o h)
+  other_deliver : ReleasesByStop doc → (p : Identity) (c : Call) (reply : Reply) (o : Option Call) (h : List Entry) → is_same p q ≡ false → Waits h → Waits (deliver_as doc k p c reply o h)
   other_deliver own p c reply None h other w = ignored p c reply h w
   other_deliver own p c reply (Some waiting) h other w = other_react own p waiting reply (is_controller doc p.process) (with_reply k p waiting reply h) other (other_reply p waiting reply h other w)
 
@@ -72,7 +72,7 @@ module _ (doc : Doc) (k : ℕ) (q : Identity) (call : Call) where
       none true = refl
       none false = refl
 
-  passes_by : IsOwn doc → (b : Back) (h : List Entry) → is_for b ≡ false → Waits h → Waits (delivered doc k b h)
+  passes_by : ReleasesByStop doc → (b : Back) (h : List Entry) → is_for b ≡ false → Waits h → Waits (delivered doc k b h)
   passes_by own b h other w = by_who (is_same b.who q) refl other
     where
       by_who : (t : Bool) → is_same b.who q ≡ t → (t && (call.number == b.call.number)) ≡ false → Waits (delivered doc k b h)
@@ -99,7 +99,7 @@ module _ (doc : Doc) (k : ℕ) (q : Identity) (call : Call) where
     pub waits : Waits before
     pub position : IsTail (delivered doc k b before) all
 
-module _ (doc : Doc) (rules : IsOwn doc) (k : ℕ) (q : Identity) (call : Call) (adds : (b : Back) (h : List Entry) → IsTail h (delivered doc k b h)) (adds_all : (bs : List Back) (h : List Entry) → IsTail h (deliver_all doc k bs h)) where
+module _ (doc : Doc) (rules : ReleasesByStop doc) (k : ℕ) (q : Identity) (call : Call) (adds : (b : Back) (h : List Entry) → IsTail h (delivered doc k b h)) (adds_all : (bs : List Back) (h : List Entry) → IsTail h (deliver_all doc k bs h)) where
   pub first_for : (R : Back → Type 0) (bs : List Back) (h : List Entry) → Waits doc k q call h → AllComing doc k q call R bs → any_for doc k q call bs ≡ true → First doc k q call R h (deliver_all doc k bs h)
   first_for R [] h w right any = absurd (never any)
     where

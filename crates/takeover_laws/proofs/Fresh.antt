@@ -16,7 +16,7 @@ use Rattle.kube_objects.specs.Pauses.{pause_of, is_paused, is_ahead, wait_of, la
 use Rattle.kube_objects.specs.Process.{gone, life, alive, is_start, starts, call_in, is_late, release_begun, is_present}
 use Rattle.kube_objects.specs.Stamps.{stamped}
 use Rattle.kube_objects.specs.Turns.{expire_as, expire_call, end_as, end_term}
-use Rattle.kube_objects.specs.Own.{IsOwn}
+use Rattle.kube_objects.specs.Own.{ReleasesByStop}
 use Rattle.kube_objects.proofs.Clocks.{local_up}
 use Rattle.kube_objects.proofs.Own.{expire_as-own, acts-own, end_term-own}
 use Rattle.history.specs.History.{put_all, history, at_turn}
@@ -208,8 +208,8 @@ turn_leads doc q p k = (walk_at_turn doc (λ k step h. LedRight doc h) (led_keep
 deadline_same : (doc : Doc) (q : Identity) (o : Option ℕ) → KeepsTurn doc Anyone (λ k h. deadline doc q h ≡ o)
 deadline_same doc q o = record {
   restarts = λ k p h s. s;
-  expires = λ k p i call h up waits late s. s;
-  ends = λ k p i at h role up is before s. s;
+  expires = λ k p i call h up waits late of s. s;
+  ends = λ k p i at h role up is before stop s. s;
   polls = λ k p i h role up awake waits s. s;
   attempts = λ k p i h role up awake waits s. s;
   seeks = λ k p i call h role up awake expired late s. s;
@@ -217,10 +217,10 @@ deadline_same doc q o = record {
   ticks = λ k p h acting s. walk_tick doc k p (λ g. deadline doc q g ≡ o) (λ t g made s. s) h s;
 }
 
-deadline_release : (doc : Doc) → IsOwn doc → (q : Identity) (o : Option ℕ) → KeepsReleaseTurn doc (λ k h. deadline doc q h ≡ o)
-deadline_release doc rules q o = no_release_turn doc (λ k h. deadline doc q h ≡ o) (ap (λ r. r.release) rules.rules)
+deadline_release : (doc : Doc) → ReleasesByStop doc → (q : Identity) (o : Option ℕ) → KeepsReleaseTurn doc (λ k h. deadline doc q h ≡ o)
+deadline_release doc rules q o = no_release_turn doc (λ k h. deadline doc q h ≡ o) rules.release
 
-pub deadline_turns : (doc : Doc) → IsOwn doc → (q : Identity) (k n : ℕ) (h : List Entry) → deadline doc q (turns doc k n h) ≡ deadline doc q h
+pub deadline_turns : (doc : Doc) → ReleasesByStop doc → (q : Identity) (k n : ℕ) (h : List Entry) → deadline doc q (turns doc k n h) ≡ deadline doc q h
 deadline_turns doc rules q k n h = walk_any_turns doc (λ k g. deadline doc q g ≡ deadline doc q h) (deadline_same doc q (deadline doc q h)) (deadline_release doc rules q (deadline doc q h)) k n h refl
 
 over_turns : (doc : Doc) (q : Identity) → KeepsTurn doc Anyone (λ k h. Over q h)
@@ -229,7 +229,7 @@ over_turns doc q = all_turns doc Anyone (λ k h. Over q h) (λ k x h beat step n
 over_release : (doc : Doc) (q : Identity) → KeepsReleaseTurn doc (λ k h. Over q h)
 over_release doc q = all_release_turns doc (λ k h. Over q h) (λ k x h beat step next s. over_more q x h next.0 s)
 
-ended : (doc : Doc) → IsOwn doc → (m : ℕ) (q : Identity) (g : List Entry) (d : ℕ) → alive q.process g ≡ Some q.incarnation → deadline doc q g ≡ Some d → q.incarnation ≤ starts q.process g → nat_lt (local doc q.process m) d ≡ false → Over q (finish doc m q.process g)
+ended : (doc : Doc) → ReleasesByStop doc → (m : ℕ) (q : Identity) (g : List Entry) (d : ℕ) → alive q.process g ≡ Some q.incarnation → deadline doc q g ≡ Some d → q.incarnation ≤ starts q.process g → nat_lt (local doc q.process m) d ≡ false → Over q (finish doc m q.process g)
 ended doc rules m q g d up set counted late =
     subst (λ o. Over q (if_up q.process (λ p T. end_term doc m p (deadline doc p T) T) o g)) (sym up)
     (subst (λ o. Over q (end_term doc m q o g)) (sym set)
@@ -237,7 +237,7 @@ ended doc rules m q g d up set counted late =
     (subst (Over q) (sym (end_term-own doc rules m q g))
     (counted, subst (λ b. join (upper (gone (when b q.incarnation)) (life q.process g)) ≡ Some q.incarnation → ⊥) (sym (eq-eqb q.process q.process refl)) (λ is. none_is q.incarnation is)))))
 
-pub past_ends : (doc : Doc) → IsOwn doc → (m : ℕ) (q : Identity) (h : List Entry) (d : ℕ) → is_controller doc q.process ≡ true → alive q.process h ≡ Some q.incarnation → deadline doc q h ≡ Some d → q.incarnation ≤ starts q.process h → nat_lt (local doc q.process m) d ≡ false → is_paused doc q.process m ≡ false
+pub past_ends : (doc : Doc) → ReleasesByStop doc → (m : ℕ) (q : Identity) (h : List Entry) (d : ℕ) → is_controller doc q.process ≡ true → alive q.process h ≡ Some q.incarnation → deadline doc q h ≡ Some d → q.incarnation ≤ starts q.process h → nat_lt (local doc q.process m) d ≡ false → is_paused doc q.process m ≡ false
     → Over q (turn doc m q.process h)
 past_ends doc rules m q h d role up set counted late awake =
     subst (λ b. Over q (if b then h else unpaused_turn doc m q.process h)) (sym awake)
@@ -277,7 +277,7 @@ next_start doc k step who ReleaseStops h made = absurd made
 next_start doc k step who Ends h made = tt
 next_start doc k step who (Leads version) h made = tt
 
-pub over_stays : (doc : Doc) → IsOwn doc → (m : ℕ) (q : Identity) (g h : List Entry) → IsTail h (history doc m) → IsTail g h → Over q g → Over q h
+pub over_stays : (doc : Doc) → ReleasesByStop doc → (m : ℕ) (q : Identity) (g h : List Entry) → IsTail h (history doc m) → IsTail g h → Over q g → Over q h
 over_stays doc rules m q g [] within at over = subst (Over q) at over
 over_stays doc rules m q g (x ∷ h) within (inl is) over = subst (Over q) is over
 over_stays doc rules m q g (x ∷ h) within (inr at) over =
@@ -299,7 +299,7 @@ still_up q h counted not_over = by_up (alive q.process h) refl
         by_same (inr other) = absurd (differs j is other)
 
 -- who is up, awake and before its deadline acts
-pub acts_before : (doc : Doc) → IsOwn doc → (q : Identity) (k at : ℕ) (h : List Entry) → is_paused doc q.process k ≡ false → alive q.process h ≡ Some q.incarnation → deadline doc q h ≡ Some at → nat_lt (local doc q.process k) at ≡ true → acts doc q k h ≡ true
+pub acts_before : (doc : Doc) → ReleasesByStop doc → (q : Identity) (k at : ℕ) (h : List Entry) → is_paused doc q.process k ≡ false → alive q.process h ≡ Some q.incarnation → deadline doc q h ≡ Some at → nat_lt (local doc q.process k) at ≡ true → acts doc q k h ≡ true
 acts_before doc rules q k at h awake up set before =
     acts-own doc rules q k h
     ∙ and_both (not (is_paused doc q.process k)) (in_term doc q k h) (ap not awake)

@@ -10,6 +10,7 @@ use Rattle.kube_objects.specs.Entry.{Entry, Identity, Call, Fact, First as First
 use Rattle.kube_objects.specs.Identities.{of_process}
 use Rattle.kube_objects.specs.Keys.{key_eq}
 use Rattle.kube_objects.specs.Newest.{when, join, has}
+use Rattle.kube_objects.specs.Own.{ReleasesByStop}
 use Rattle.kube_objects.specs.Stored.{election, key_of, request_write, event_write, at_key, write_of, holds, last_write, stored}
 use Rattle.kube_objects.specs.Wire.{Sent, Back, back_of, request_arrival}
 use Rattle.history.specs.History.{history}
@@ -21,7 +22,7 @@ use Rattle.history_laws.proofs.Order.{entries_are_earlier}
 use Rattle.history_laws.proofs.Plainly.{upper, none_is, true_is}
 use Rattle.history_laws.proofs.Tailed.{tail_all, tail_trans, in_tail, later_tail}
 use Rattle.lease_laws.proofs.EachKind.{elsewhere}
-use Rattle.lease_laws.proofs.Histories.{turn_right}
+use Rattle.lease_laws.proofs.Histories.{bears_own, turn_right}
 use Rattle.lease_laws.proofs.Invariant.{BackRight, view}
 use Rattle.lease_laws.proofs.Quiet.{stored_tick}
 use Rattle.lease_laws.proofs.Steps.{AtMost, sound_of}
@@ -47,10 +48,10 @@ some_high doc =
     (b.0, λ p k role end. omega (arith, (bound (λ k. rate doc p k) (end_beat doc)).1 k end, b.1 p (let lt : p < length doc.controllers = ltb-true p (length doc.controllers) role in omega (arith, lt))))
 
 -- a kubelet asks for other keys
-pub asks_elsewhere : (doc : Doc) → IsSound doc → (k : ℕ) → k ≤ end_beat doc → (x : Entry) (b : Back) → In x (history doc (suc k)) → back_of x.actor x.fact ≡ Some b → is_controller doc b.who.process ≡ false → key_eq (key_of b.call.request) election ≡ false
-asks_elsewhere doc sound k end x b stands is role =
+pub asks_elsewhere : (doc : Doc) → IsSound doc → ReleasesByStop doc → (k : ℕ) → k ≤ end_beat doc → (x : Entry) (b : Back) → In x (history doc (suc k)) → back_of x.actor x.fact ≡ Some b → is_controller doc b.who.process ≡ false → key_eq (key_of b.call.request) election ≡ false
+asks_elsewhere doc sound rules k end x b stands is role =
     let h = some_high doc in
-    let right = (turn_right doc h.0 h.1 sound (processes doc) k end).entries x stands in
+    let right = (turn_right doc h.0 h.1 (bears_own doc h.0 rules) sound (processes doc) k end).entries x stands in
     (subst (λ o. IfSome o (BackRight doc h.0 k (view (history doc (suc k))) x.beat)) is right.1).elsewhere role
 
 pub wrote_key : (r : Request) (w : Option Object) (o : Option Object) → at_key election (request_write r w) ≡ Some o → key_eq (key_of r) election ≡ true
@@ -61,7 +62,7 @@ wrote_key r (Some x) o is = by_test (key_eq (key_of r) election) is
     by_test true is = refl
     by_test false is = absurd (none_is o is)
 
-module _ (doc : Doc) (near far a e n : ℕ) (sound : IsSound doc) (calm : IsCalm doc near far a e) (end : e ≤ end_beat doc) (within : n ≤ e) (one : 1 ≤ near) (ways : near ≤ far)
+module _ (doc : Doc) (near far a e n : ℕ) (sound : IsSound doc) (rules : ReleasesByStop doc) (calm : IsCalm doc near far a e) (end : e ≤ end_beat doc) (within : n ≤ e) (one : 1 ≤ near) (ways : near ≤ far)
     (time : (p : ℕ) → is_controller doc p ≡ true → IsSteady doc near far a e p → IsInTime doc far a e p)
     (none : (q : Identity) → is_controller doc q.process ≡ true → IsSteady doc near far a e q.process → (k : ℕ) → a ≤ k → k ≤ n → Acts doc q k → ⊥) where
   process_is : (q : Identity) (x : Entry) → x.actor ≡ actor_of q → has (of_process q.process x.actor) ≡ true
@@ -72,7 +73,7 @@ module _ (doc : Doc) (near far a e n : ℕ) (sound : IsSound doc) (calm : IsCalm
   no_write x T q position by role writes late = ⊎_elim steady quiet (calm.each q.process role)
     where
       steady : IsSteady doc near far a e q.process → ⊥
-      steady s = writer_acts doc sound.2 near far a e n q role s (time q.process role s) within one (none q role s) x T position by writes late
+      steady s = writer_acts doc rules near far a e n q role s (time q.process role s) within one (none q role s) x T position by writes late
 
       quiet : IsQuiet doc a e q.process → ⊥
       quiet s = s x (in_tail x (history doc (suc n)) (history doc (suc e)) (later_tail doc (suc n) (suc e) (omega (arith, within))) (in_head x T (history doc (suc n)) position)) (process_is q x by) writes
@@ -100,7 +101,7 @@ module _ (doc : Doc) (near far a e n : ℕ) (sound : IsSound doc) (calm : IsCalm
       arrives = due_at x.beat s.arrives made.arriving.now
 
       sent : s.call.sent ≡ made.arriving.e.beat
-      sent = (subst (λ o. IfSome o (λ s. (s.call.sent ≡ made.arriving.e.beat) × (s.arrives ≡ request_arrival doc s.who.process made.arriving.e.beat p))) made.arriving.is (messages_travel doc sound.2 (suc n) made.arriving.e p at_f).0).0
+      sent = (subst (λ o. IfSome o (λ s. (s.call.sent ≡ made.arriving.e.beat) × (s.arrives ≡ request_arrival doc s.who.process made.arriving.e.beat p))) made.arriving.is (messages_travel doc rules (suc n) made.arriving.e p at_f).0).0
 
       early : key_eq (key_of s.call.request) election ≡ true → made.arriving.e.beat < a → ⊥
       early key lt =
@@ -128,7 +129,7 @@ module _ (doc : Doc) (near far a e n : ℕ) (sound : IsSound doc) (calm : IsCalm
           by_role true role =
               no_write x T s.who position (actor ∙ made.by) role (subst (WritesElection a) (sym fact) (late_enough, ap has is)) late
           by_role false role =
-              true_is (sym key ∙ asks_elsewhere doc sound n (omega (arith, within, end)) x back (in_head x T (history doc (suc n)) position)
+              true_is (sym key ∙ asks_elsewhere doc sound rules n (omega (arith, within, end)) x back (in_head x T (history doc (suc n)) position)
               (ap (λ d. back_of x.actor d) fact ∙ ap (λ who. back_of who (Answers call reply comes wrote)) (actor ∙ made.by)) role)
 
       by_write : (o : Option (Option Object)) → at_key election (request_write call.request wrote) ≡ o → join (upper (holds T x.beat who (at_key election (request_write call.request wrote))) (last_write election T)) ≡ stored election T
@@ -156,5 +157,5 @@ module _ (doc : Doc) (near far a e n : ℕ) (sound : IsSound doc) (calm : IsCalm
       let position = tail_trans (x ∷ T) (history doc (suc m)) (history doc (suc n)) at (later_tail doc (suc m) (suc n) (omega (arith, late))) in
       let beat : a + far ≤ x.beat = (next_above (λ y. a + far ≤ y.beat) (history doc (a + far)) T (history doc (suc m)) x (from_beat doc (a + far) (suc m) (omega (arith, from))) low at).0 in
       let upto : x.beat < suc m = ⊎_elim (λ lt. lt) (λ first. omega (arith, first.0)) (entries_are_earlier doc (suc m) x (in_head x T (history doc (suc m)) at)) in
-      same_stored x T x.actor x.fact refl refl position beat (omega (arith, upto, late)) (are_made doc sound.2 (suc n) x T position)
+      same_stored x T x.actor x.fact refl refl position beat (omega (arith, upto, late)) (are_made doc rules (suc n) x T position)
       ∙ record_stays m from late T low (tail_trans T (x ∷ T) (history doc (suc m)) (inr (tail_all T)) at)

@@ -8,7 +8,7 @@ use Rattle.kube_objects.specs.Identities.{identity_of}
 use Rattle.kube_objects.specs.Newest.{has, or_else}
 use Rattle.kube_objects.specs.Pauses.{pause_end, is_paused, resume, held_up}
 use Rattle.kube_objects.specs.Wire.{Sent, Back, sent_as, sent_of, in_force, request_delay_of, reply_delay_of, request_loss_of, reply_loss_of, request_delay, reply_delay, arrival, request_arrival, reply_arrival}
-use Rattle.kube_objects.specs.Own.{IsOwn}
+use Rattle.kube_objects.specs.Own.{ReleasesByStop}
 use Rattle.kube_objects.specs.Stalls.{is_stalled, awake, at_store}
 use Rattle.kube_objects.proofs.Stalls.{awake_later, awake_now}
 use Rattle.history.specs.History.{history}
@@ -29,20 +29,20 @@ abbrev pub Forces : Doc → ℕ → List Entry → Type 0
 Forces doc k h = ((f : What → Option ℕ) → in_force f h ≡ in_force f (with_events doc k)) × ((f : What → Option Bool) → in_force f h ≡ in_force f (with_events doc k))
 
 -- a request arrives from one way after its sending on when the store goes
-pub request_awakes : (doc : Doc) → IsOwn doc → (near far p k : ℕ) (h : List Entry) → Passes doc near far p k → Forces doc k h
+pub request_awakes : (doc : Doc) → ReleasesByStop doc → (near far p k : ℕ) (h : List Entry) → Passes doc near far p k → Forces doc k h
     → request_arrival doc p k h ≡ Some (awake doc (k + request_delay p (with_events doc k)))
 request_awakes doc rules near far p k h passes force =
     ap (at_store doc)
     (ap (λ b. arrival b k (request_delay p h)) (ap (or_else false) (force.1 (request_loss_of p)) ∙ passes.requests)
     ∙ ap (λ n. Some (k + n)) (ap (or_else 1) (force.0 (request_delay_of p))))
 
-pub request_passes : (doc : Doc) → IsOwn doc → (near far p k : ℕ) (h : List Entry) → Passes doc near far p k → Forces doc k h → is_stalled doc (k + request_delay p (with_events doc k)) ≡ false
+pub request_passes : (doc : Doc) → ReleasesByStop doc → (near far p k : ℕ) (h : List Entry) → Passes doc near far p k → Forces doc k h → is_stalled doc (k + request_delay p (with_events doc k)) ≡ false
     → request_arrival doc p k h ≡ Some (k + request_delay p (with_events doc k))
 request_passes doc rules near far p k h passes force goes =
     request_awakes doc rules near far p k h passes force ∙ ap Some (awake_now doc (k + request_delay p (with_events doc k)) goes)
 
 -- where it arrives at a beat up to which the store goes, it comes one way after its sending
-pub request_comes : (doc : Doc) → IsOwn doc → (near far p k : ℕ) (h : List Entry) → Passes doc near far p k → Forces doc k h → (y : ℕ) → ((j : ℕ) → k ≤ j → j ≤ y → is_stalled doc j ≡ false)
+pub request_comes : (doc : Doc) → ReleasesByStop doc → (near far p k : ℕ) (h : List Entry) → Passes doc near far p k → Forces doc k h → (y : ℕ) → ((j : ℕ) → k ≤ j → j ≤ y → is_stalled doc j ≡ false)
     → request_arrival doc p k h ≡ Some y → y ≡ k + request_delay p (with_events doc k)
 request_comes doc rules near far p k h passes force y goes is = omega (arith, woken, now)
   where
@@ -83,7 +83,7 @@ in_answers doc j k x T lt at = let one = with_events doc k in in_tail x one (wit
 -- ---- a call's way
 
 -- where its reply comes in time
-pub rounds_in : (doc : Doc) → IsOwn doc → (near far a e : ℕ) (q : Identity) → IsSteady doc near far a e q.process → 1 ≤ near
+pub rounds_in : (doc : Doc) → ReleasesByStop doc → (near far a e : ℕ) (q : Identity) → IsSteady doc near far a e q.process → 1 ≤ near
     → (m : ℕ) (x : Entry) (T : List Entry) (call : Call) (arrives : Option ℕ) → IsTail (x ∷ T) (history doc m) → x.actor ≡ actor_of q → x.fact ≡ Sends call arrives → 2 ≤ x.step → a ≤ x.beat → x.beat ≤ e
     → ((k n : ℕ) → k ≤ n → arrives ≡ Some n → k ≤ x.beat + far → k + far ≤ e) → IsRound doc near far q call arrives x.beat
 rounds_in doc rules near far a e q steady one m x T call arrives stands actor fact step from to back_in = record {

@@ -9,7 +9,7 @@ use Rattle.kube_objects.specs.Identities.{identity, of_process}
 use Rattle.kube_objects.specs.Newest.{when, join, has}
 use Rattle.kube_objects.specs.Pauses.{is_paused}
 use Rattle.kube_objects.specs.Process.{born, gone, life_says, life, alive, starts}
-use Rattle.kube_objects.specs.Own.{IsOwn}
+use Rattle.kube_objects.specs.Own.{ReleasesByStop}
 use Rattle.history.specs.History.{three_steps, history, at_turn}
 use Rattle.history.specs.Safe.{Acts}
 use Rattle.history_laws.specs.Tails.{In, IsTail}
@@ -39,7 +39,7 @@ since_events doc a n le =
     (above_more (λ e. suc a ≤ e.beat) (IsSince a) (λ e s. inl s) (history doc (suc a)) (history doc (suc n)) (from_beat doc (suc a) (suc n) (omega (arith, le))))
 
 -- who is up stays up, where the entry is no crash, stop or end of its own
-pub lives_on : (doc : Doc) → IsOwn doc → (m : ℕ) (q : Identity) (x : Entry) (T : List Entry) → IsTail (x ∷ T) (history doc m)
+pub lives_on : (doc : Doc) → ReleasesByStop doc → (m : ℕ) (q : Identity) (x : Entry) (T : List Entry) → IsTail (x ∷ T) (history doc m)
     → (x.fact ≡ Crashes → x.step ≡ 1 → has (of_process q.process x.actor) ≡ true → ⊥) → (x.fact ≡ Stops → has (of_process q.process x.actor) ≡ true → ⊥)
     → (x.fact ≡ Ends → (made : MadeEnd doc x.beat x.step x.actor T) → has (of_process q.process x.actor) ≡ true → made.q ≡ q → ⊥)
     → alive q.process T ≡ Some q.incarnation → alive q.process (x ∷ T) ≡ Some q.incarnation
@@ -84,7 +84,7 @@ lives_on doc rules m q x T stands no_crash no_stop no_end up = cases x.fact refl
     cases ReleaseStops fact made = absurd made
     cases (Leads version) fact made = up
 
-module _ (doc : Doc) (rules : IsOwn doc) (near far a e n : ℕ) (q : Identity) (role : is_controller doc q.process ≡ true) (lasts : 1 ≤ renew_deadline doc q.process)
+module _ (doc : Doc) (rules : ReleasesByStop doc) (near far a e n : ℕ) (q : Identity) (role : is_controller doc q.process ≡ true) (lasts : 1 ≤ renew_deadline doc q.process)
     (steady : IsSteady doc near far a e q.process) (within : n ≤ e) (none : (k : ℕ) → a ≤ k → k ≤ n → Acts doc q k → ⊥) where
   -- who is up after a beat and didn't act in it has no term
   pub unled : (k : ℕ) → a ≤ k → k ≤ n → alive q.process (history doc (suc k)) ≡ Some q.incarnation → deadline doc q (history doc (suc k)) ≡ None

@@ -39,11 +39,11 @@ fits_writes (PostStatus name status at) h None is fits = absurd fits
 fits_writes (PostStatus name status at) h (Some x) is fits = absurd fits
 
 pub takeovers_end_in_acting : TakeoversEndInActing
-takeovers_end_in_acting doc near far a e n sound calm time one ways end within none q role steady m x T call arrives stands actor fact step after late from fits =
-    no_write doc near far a e n sound calm end within one ways time none answer_entry r.before q answer_at refl role (since, wrote) (omega (arith, r.most, late))
+takeovers_end_in_acting doc near far a e n sound rules calm time one ways end within none q role steady m x T call arrives stands actor fact step after late from fits =
+    no_write doc near far a e n sound rules calm end within one ways time none answer_entry r.before q answer_at refl role (since, wrote) (omega (arith, r.most, late))
   where
     r : IsRound doc near far q call arrives x.beat
-    r = rounds_in doc sound.2 near far a e q steady one m x T call arrives stands actor fact step from (omega (arith, late, within)) (λ k n least is most. omega (arith, most, late, within))
+    r = rounds_in doc rules near far a e q steady one m x T call arrives stands actor fact step from (omega (arith, late, within)) (λ k n least is most. omega (arith, most, late, within))
 
     in_time : r.at + far ≤ n
     in_time = omega (arith, r.most, late)
@@ -56,12 +56,12 @@ takeovers_end_in_acting doc near far a e n sound calm time one ways end within n
 
     since : a ≤ call.sent
     since =
-        let sent : call.sent ≡ x.beat = (subst (λ o. IfSome o (λ s. (s.call.sent ≡ x.beat) × (s.arrives ≡ request_arrival doc s.who.process x.beat T))) (sent_is x q call arrives actor fact) (messages_travel doc sound.2 m x T stands).0).0 in
+        let sent : call.sent ≡ x.beat = (subst (λ o. IfSome o (λ s. (s.call.sent ≡ x.beat) × (s.arrives ≡ request_arrival doc s.who.process x.beat T))) (sent_is x q call arrives actor fact) (messages_travel doc rules m x T stands).0).0 in
         omega (arith, sent, from)
 
     same : stored election r.before ≡ stored election (history doc (a + far))
     same =
-        record_stays doc near far a e n sound calm end within one ways time none r.at (omega (arith, after, r.least)) in_time r.before
+        record_stays doc near far a e n sound rules calm end within one ways time none r.at (omega (arith, after, r.least)) in_time r.before
         (tail_trans (history doc (a + far)) (history doc r.at) r.before (later_tail doc (a + far) r.at (omega (arith, after, r.least))) (tail_trans (history doc r.at) (with_events doc r.at) r.before (before_events doc r.at) r.after))
         (tail_trans r.before (answer_entry ∷ r.before) (history doc (suc r.at)) (inr (tail_all r.before)) r.position)
 

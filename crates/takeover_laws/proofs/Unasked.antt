@@ -18,7 +18,7 @@ use Rattle.kube_objects.specs.Tick.{tick}
 use Rattle.kube_objects.specs.Turns.{expire_call, expired, end_term, expired_in, just_expired, is_fast_call, attempt_if, try}
 use Rattle.kube_objects.specs.Wire.{send}
 use Rattle.kube_objects.specs.Stalls.{is_stalled}
-use Rattle.kube_objects.specs.Own.{IsOwn}
+use Rattle.kube_objects.specs.Own.{ReleasesByStop}
 use Rattle.history.specs.History.{history}
 use Rattle.history.specs.Steps.{if_up, restart_if, restart, expire, finish, attempts, ticks_while, ticks, controller_turn, kubelet_turn, unpaused_turn, turn}
 use Rattle.history_laws.specs.Tails.{IsTail}
@@ -205,7 +205,7 @@ module _ (doc : Doc) (q : Identity) (low : List Entry) (at : ℕ) (view : Option
           no_reply w reply (sym (ap (λ (e : Entry). e.fact) same) ∙ fact) (sym (ap (λ (e : Entry). e.actor) same) ∙ mine)
       by_place z Z (inr at) below_z w reply fact mine = s.undelivered z Z at below_z w reply fact mine
 
-  module _ (rules : IsOwn doc) (m : ℕ) (role : is_controller doc q.process ≡ true) (unled : (h : List Entry) → IsTail h (history doc m) → leads q h ≡ false)
+  module _ (rules : ReleasesByStop doc) (m : ℕ) (role : is_controller doc q.process ≡ true) (unled : (h : List Entry) → IsTail h (history doc m) → leads q h ≡ false)
       (up : (h : List Entry) → IsTail low h → IsTail h (history doc m) → alive q.process h ≡ Some q.incarnation) where
     by_actor : (who : Actor) (p : Identity) → who ≡ actor_of p → is_by q who ≡ true → p ≡ q
     by_actor who p by mine = same_is p q (sym (ap (is_by q) by) ∙ mine)

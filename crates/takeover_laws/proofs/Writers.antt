@@ -27,7 +27,7 @@ use Rattle.kube_objects.specs.Process.{open_as, alive, call_in, is_present, is_l
 use Rattle.kube_objects.specs.Stored.{election, request_write, at_key}
 use Rattle.kube_objects.specs.Turns.{react, with_reply}
 use Rattle.kube_objects.specs.Wire.{Sent, Back, sent_of, back_of, reply_arrival, request_arrival}
-use Rattle.kube_objects.specs.Own.{IsOwn}
+use Rattle.kube_objects.specs.Own.{ReleasesByStop}
 use Rattle.history.proofs.Own.{react-own}
 use Rattle.history.specs.History.{three_steps, history, at_turn}
 use Rattle.history.specs.Safe.{Acts}
@@ -166,7 +166,7 @@ waits_count doc q k call given h number timely w =
     ∙ ap (λ t. when (not t) call) timely
 
 -- what the reply that counts brings about
-pub delivers : (doc : Doc) → IsOwn doc → (q : Identity) (k : ℕ) (call : Call) (b : Back) (h : List Entry) → is_controller doc q.process ≡ true → b.who ≡ q → (call.number == b.call.number) ≡ true → is_late doc q k call ≡ false → Waits doc k q call h
+pub delivers : (doc : Doc) → ReleasesByStop doc → (q : Identity) (k : ℕ) (call : Call) (b : Back) (h : List Entry) → is_controller doc q.process ≡ true → b.who ≡ q → (call.number == b.call.number) ≡ true → is_late doc q k call ≡ false → Waits doc k q call h
     → delivered doc k b h ≡ react doc k q (leads q (with_reply k q call b.reply h)) (follow_on doc q k call.kind call.request b.reply (with_reply k q call b.reply h)) (with_reply k q call b.reply h)
 delivers doc rules q k call b h role mine number timely w =
     ap (λ p. deliver_as doc k p b.call b.reply (counted doc p k b.call.number h) h) mine
@@ -249,7 +249,7 @@ since_low doc a n f S at from step = by_beat (cases_lt a f.beat)
         let same : f.beat ≡ a = omega (arith, from, le) in
         subst (λ a. IsTail (with_events doc a) S) same (low_of (IsLate f.beat 2) (with_events doc f.beat) S (above_events doc (suc n) f S at (omega (arith, step))))
 
-module _ (doc : Doc) (rules : IsOwn doc) (near far a e n : ℕ) (q : Identity) (role : is_controller doc q.process ≡ true) (steady : IsSteady doc near far a e q.process) (time : IsInTime doc far a e q.process)
+module _ (doc : Doc) (rules : ReleasesByStop doc) (near far a e n : ℕ) (q : Identity) (role : is_controller doc q.process ≡ true) (steady : IsSteady doc near far a e q.process) (time : IsInTime doc far a e q.process)
     (within : n ≤ e) (one : 1 ≤ near) where
   -- ---- no call is late before its reply can come
 
@@ -564,7 +564,7 @@ module _ (doc : Doc) (rules : IsOwn doc) (near far a e n : ℕ) (q : Identity) (
     writer_acts x T position mine election_write late = writes x T x.actor x.fact refl refl position mine election_write late (are_made doc rules (suc n) x T position)
 
 -- what follows the reply to a call
-pub replies_react : (doc : Doc) → IsOwn doc → (near far a e n : ℕ) (q : Identity) → is_controller doc q.process ≡ true → IsSteady doc near far a e q.process → IsInTime doc far a e q.process → 1 ≤ near → n ≤ e
+pub replies_react : (doc : Doc) → ReleasesByStop doc → (near far a e n : ℕ) (q : Identity) → is_controller doc q.process ≡ true → IsSteady doc near far a e q.process → IsInTime doc far a e q.process → 1 ≤ near → n ≤ e
     → (x : Entry) (T : List Entry) (call : Call) (arrives : Option ℕ) → IsTail (x ∷ T) (history doc (suc n)) → x.actor ≡ actor_of q → x.fact ≡ Sends call arrives → a ≤ x.beat → x.beat + 2 * far ≤ n
     → ((h : List Entry) → IsTail T h → IsTail h (history doc (suc n)) → alive q.process h ≡ Some q.incarnation)
     → IsReacted doc near far q call arrives x.beat

@@ -8,7 +8,7 @@ use Rattle.kube_objects.specs.Elector.{Fails, follow_on, shown, observed}
 use Rattle.kube_objects.specs.Entry.{Entry, Identity, Call, Sends, Delivers, actor_of, entry}
 use Rattle.kube_objects.specs.Process.{alive}
 use Rattle.kube_objects.specs.Stored.{election}
-use Rattle.kube_objects.specs.Own.{IsOwn}
+use Rattle.kube_objects.specs.Own.{ReleasesByStop}
 use Rattle.history.specs.History.{history}
 use Rattle.history.specs.Safe.{Acts}
 use Rattle.history_laws.specs.Tails.{IsTail}
@@ -35,7 +35,7 @@ pub record HasAsked (doc : Doc) (q : Identity) (at : ℕ) (low h : List Entry) :
 -- beat at which its clock has gone its longest wait since, and none before its shortest one
 abbrev pub CandidatesAsk : Type 0
 CandidatesAsk =
-    (doc : Doc) → IsOwn doc → (near far a e n r k : ℕ) (q : Identity) → is_controller doc q.process ≡ true → 1 ≤ renew_deadline doc q.process → IsSteady doc near far a e q.process → n ≤ e
+    (doc : Doc) → ReleasesByStop doc → (near far a e n r k : ℕ) (q : Identity) → is_controller doc q.process ≡ true → 1 ≤ renew_deadline doc q.process → IsSteady doc near far a e q.process → n ≤ e
     → ((j : ℕ) → a ≤ j → j ≤ n → Acts doc q j → ⊥) → a ≤ r
     → (call : Call) (reply : Reply) (before : List Entry) → IsTail (with_events doc a) before → IsTail (entry r 3 q (Delivers call reply true) ∷ before) (history doc (suc n)) → alive q.process before ≡ Some q.incarnation
     → follow_on doc q r call.kind call.request reply (entry r 3 q (Delivers call reply true) ∷ before) ≡ Fails

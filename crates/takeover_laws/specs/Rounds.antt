@@ -6,7 +6,7 @@ use Rattle.kube_objects.specs.Document.{Doc, is_controller}
 use Rattle.kube_objects.specs.Entry.{Entry, Identity, Call, Sends, Delivers, actor_of, entry}
 use Rattle.kube_objects.specs.Process.{alive}
 use Rattle.kube_objects.specs.Wire.{reply_arrival}
-use Rattle.kube_objects.specs.Own.{IsOwn}
+use Rattle.kube_objects.specs.Own.{ReleasesByStop}
 use Rattle.history.specs.History.{history}
 use Rattle.history.specs.Steps.{answered}
 use Rattle.history_laws.specs.Tails.{IsTail}
@@ -30,7 +30,7 @@ pub record IsRound (doc : Doc) (near far : ℕ) (q : Identity) (call : Call) (ar
 
 -- each call of a controller whose messages pass is answered after one way, and its reply is delivered after another
 abbrev pub RoundsAreShort : Type 0
-RoundsAreShort = (doc : Doc) → IsOwn doc → (near far a e : ℕ) (q : Identity) → IsSteady doc near far a e q.process → 1 ≤ near
+RoundsAreShort = (doc : Doc) → ReleasesByStop doc → (near far a e : ℕ) (q : Identity) → IsSteady doc near far a e q.process → 1 ≤ near
     → (m : ℕ) (x : Entry) (T : List Entry) (call : Call) (arrives : Option ℕ) → IsTail (x ∷ T) (history doc m) → x.actor ≡ actor_of q → x.fact ≡ Sends call arrives → 2 ≤ x.step → a ≤ x.beat → x.beat + 2 * far ≤ e
     → IsRound doc near far q call arrives x.beat
 
@@ -46,7 +46,7 @@ pub record HasCounted (doc : Doc) (q : Identity) (call : Call) (from to : ℕ) :
 -- and it counts, where the sender stays up and the call timeout is at least two ways
 abbrev pub RepliesCount : Type 0
 RepliesCount =
-    (doc : Doc) → IsOwn doc → (near far a e n : ℕ) (q : Identity) → is_controller doc q.process ≡ true → IsSteady doc near far a e q.process → IsInTime doc far a e q.process → 1 ≤ near → n ≤ e
+    (doc : Doc) → ReleasesByStop doc → (near far a e n : ℕ) (q : Identity) → is_controller doc q.process ≡ true → IsSteady doc near far a e q.process → IsInTime doc far a e q.process → 1 ≤ near → n ≤ e
     → (x : Entry) (T : List Entry) (call : Call) (arrives : Option ℕ) → IsTail (x ∷ T) (history doc (suc n)) → x.actor ≡ actor_of q → x.fact ≡ Sends call arrives → a ≤ x.beat → x.beat + 2 * far ≤ n
     → ((h : List Entry) → IsTail T h → IsTail h (history doc (suc n)) → alive q.process h ≡ Some q.incarnation)
     → HasCounted doc q call (x.beat + 2 * near) (x.beat + 2 * far)

@@ -7,8 +7,8 @@ use crate::rows::{Pace, Renewals, Row, Span};
 use controller_core::Term;
 use kube_base::{Beat, Local, NoMemory, ProcId, Steps, Version, Wall};
 use kube_objects::{
-    BucketRule, EvictRule, JudgeRule, ProbeRule, QueueRule, Reply, RespectRule, RetryRule,
-    SightRule, TickSettings,
+    BucketRule, EvictRule, JudgeRule, ProbeRule, QueueRule, ReleaseActing, ReleaseRule, Reply,
+    RespectRule, RetryRule, SightRule, TickSettings,
 };
 use leader_elector::{Candidate, CandidateNext, Leading, Timing};
 use object_store::Store;
@@ -26,6 +26,8 @@ const TIMING: Timing = Timing {
     fast: false,
     retries: RetryRule::After,
     respect: RespectRule::Record,
+    release: ReleaseRule::Stop,
+    in_release: ReleaseActing::Still,
 };
 
 // Milliseconds from the first beat to this one.

@@ -15,7 +15,7 @@ use Rattle.kube_objects.specs.Document.{Doc}
 use Rattle.kube_objects.specs.Entry.{Entry, Identity, Place, Ticks, Tick, Head, entry}
 use Rattle.kube_objects.specs.Modes.{place_eq, nodes, places}
 use Rattle.kube_objects.specs.Newest.{only_if}
-use Rattle.kube_objects.specs.Own.{IsOwn, JudgesByOwn}
+use Rattle.kube_objects.specs.Own.{ReleasesByStop, JudgesByOwn}
 use Rattle.kube_objects.specs.Seen.{seen_node, node_names}
 use Rattle.kube_objects.specs.Stored.{Held, node_key, stored, next_version}
 use Rattle.kube_objects.specs.Tainting.{waits, Queued, queued, queued_as, first, head_of}
@@ -119,7 +119,7 @@ accepted q h name x s sees = by_held (stored (node_key name) h) refl (ap (as_kin
         ∙ ap (λ (v : Version). as_answer (answer_update (next_version h) v (Some held))) (sym (versioned_is held.version x.0 x.1 (node_in held.object) now))
         ∙ ap (λ b. as_answer (cond b (reply.Done (next_version h)) (reply.Conflict held.version))) (eq-eqb held.version.0 held.version.0 refl)
 
-module _ (doc : Doc) (own : IsOwn doc) (judges : JudgesByOwn doc) (q : Identity) (k : ℕ) (place : Place) where
+module _ (doc : Doc) (own : ReleasesByStop doc) (judges : JudgesByOwn doc) (q : Identity) (k : ℕ) (place : Place) where
   -- a node's place in the queue is as it was, or the node is tainted and waits no more
   abbrev pub Stays : ℕ → List Entry → List Entry → Type 0
   Stays name h g = (waits_since q place name g ≡ waits_since q place name h) ⊎ ((waits_since q place name g ≡ None) × Taken q place name k g)

@@ -8,7 +8,7 @@ use Rattle.std.proofs.lemmas.List.Sums.{length-filter}
 use Rattle.kube_objects.specs.Document.{Doc}
 use Rattle.kube_objects.specs.Entry.{Entry, Identity, Place}
 use Rattle.kube_objects.specs.Newest.{has}
-use Rattle.kube_objects.specs.Own.{IsOwn, JudgesByOwn, StartsEmpty}
+use Rattle.kube_objects.specs.Own.{ReleasesByStop, JudgesByOwn, StartsEmpty}
 use Rattle.kube_objects.specs.Seen.{node_names}
 use Rattle.kube_objects.specs.Tainting.{waits, queued}
 use Rattle.kube_objects.specs.Tokens.{base, token_size, has_token}
@@ -101,7 +101,7 @@ drop x (y ∷ ys) d = by_case (cases_eq y x) (drop x ys d.1)
 
 -- ---- tick by tick
 
-module _ (doc : Doc) (own : IsOwn doc) (judges : JudgesByOwn doc) (empty : StartsEmpty doc) (q : Identity) (place : Place) (n m t : ℕ) (attends : Attends doc q m t) (least : m ≤ t) (only : LeaveTaintedOnly doc q place n m t) (rate fast interval needed : ℕ) (keeps : KeepsRate doc q place rate m t)
+module _ (doc : Doc) (own : ReleasesByStop doc) (judges : JudgesByOwn doc) (empty : StartsEmpty doc) (q : Identity) (place : Place) (n m t : ℕ) (attends : Attends doc q m t) (least : m ≤ t) (only : LeaveTaintedOnly doc q place n m t) (rate fast interval needed : ℕ) (keeps : KeepsRate doc q place rate m t)
     (runs : RunsAtMost doc q.process m t fast) (token : IsNeeded rate token_size interval) (time : IsNeeded fast interval needed) where
   first : IsAttended doc q m
   first = attends m (omega arith) least

@@ -7,7 +7,7 @@ use Rattle.kube_objects.specs.Entry.{Entry, Identity, Place, Fact, Ticks, Tick, 
 use Rattle.kube_objects.specs.InForce.{watches}
 use Rattle.kube_objects.specs.Modes.{nodes, places}
 use Rattle.kube_objects.specs.Newest.{newest, when, or_zero}
-use Rattle.kube_objects.specs.Own.{IsOwn, JudgesByOwn}
+use Rattle.kube_objects.specs.Own.{ReleasesByStop, JudgesByOwn}
 use Rattle.kube_objects.specs.Seen.{is_fresh}
 use Rattle.kube_objects.specs.Tainting.{waits, before_tick, begins_row, queued}
 use Rattle.kube_objects.specs.Tick.{add, pass, taint, evicted}
@@ -44,7 +44,7 @@ begun doc q k = elector_turn doc k q.process (at_turn doc q.process k)
 
 -- ---- positions
 
-module _ (doc : Doc) (own : IsOwn doc) (q : Identity) (k : ℕ) where
+module _ (doc : Doc) (own : ReleasesByStop doc) (q : Identity) (k : ℕ) where
   synced_queue : IsTicked q k (synced_at doc q k) (queue_at doc q k)
   synced_queue =
       let h = synced_at doc q k in
@@ -84,13 +84,13 @@ pass_tail doc q k =
     let h = pass doc k q (synced_at doc q k) in
     ticked_keeps q k (IsTail h) (λ t g at. inr at) h (queue_at doc q k) (cleaned_ticked doc k q h) (tail_all h)
 
-pub queue_in : (doc : Doc) → IsOwn doc → (q : Identity) (k e : ℕ) → IsAttended doc q k → k ≤ e → IsTail (queue_at doc q k) (history doc (suc e))
+pub queue_in : (doc : Doc) → ReleasesByStop doc → (q : Identity) (k e : ℕ) → IsAttended doc q k → k ≤ e → IsTail (queue_at doc q k) (history doc (suc e))
 queue_in doc own q k e attended le =
     tail_trans (queue_at doc q k) (history doc (suc k)) (history doc (suc e))
     (tail_trans (queue_at doc q k) (after_turn doc q.process k) (history doc (suc k)) (queue_tail doc own q k attended) (in_history doc own q k attended)) (later_tail doc (suc k) (suc e) (omega (arith, le)))
 
 -- the queues of an earlier beat
-pub earlier_queue : (doc : Doc) → IsOwn doc → (q : Identity) (y k : ℕ) → IsAttended doc q y → y < k → IsTail (queue_at doc q y) (history doc k)
+pub earlier_queue : (doc : Doc) → ReleasesByStop doc → (q : Identity) (y k : ℕ) → IsAttended doc q y → y < k → IsTail (queue_at doc q y) (history doc k)
 earlier_queue doc own q y k attended lt =
     tail_trans (queue_at doc q y) (history doc (suc y)) (history doc k) (queue_in doc own q y y attended (omega arith)) (later_tail doc (suc y) k (omega (arith, lt)))
 
@@ -103,7 +103,7 @@ pub record Current (q : Identity) (h : List Entry) : Type 0 where
 pub current_more : (q : Identity) (k : ℕ) (t : Tick) (h : List Entry) → Current q h → Current q (add k q t h)
 current_more q k t h s = record { mirrors = mirrors_more q h k t s.mirrors; passes = s.passes }
 
-synced_current : (doc : Doc) → IsOwn doc → (q : Identity) (k : ℕ) → IsAttended doc q k → Current q (synced_at doc q k)
+synced_current : (doc : Doc) → ReleasesByStop doc → (q : Identity) (k : ℕ) → IsAttended doc q k → Current q (synced_at doc q k)
 synced_current doc own q k attended =
     subst (λ b. Current q (if (b && (watches doc q.process h && not (is_fresh q h))) then add k q Sync h else h)) (sym (ready doc own q k attended).settled)
     (subst (λ b. Current q (if (b && not (is_fresh q h)) then add k q Sync h else h)) (sym (ready doc own q k attended).watching) (by_test (is_fresh q h) refl))
@@ -115,17 +115,17 @@ synced_current doc own q k attended =
     by_test true is = record { mirrors = fresh q h is; passes = (ready doc own q k attended).passing }
     by_test false is = record { mirrors = mirrors_sync q h k; passes = (ready doc own q k attended).passing }
 
-pub judged_current : (doc : Doc) → IsOwn doc → (q : Identity) (k : ℕ) → IsAttended doc q k → Current q (judged_at doc q k)
+pub judged_current : (doc : Doc) → ReleasesByStop doc → (q : Identity) (k : ℕ) → IsAttended doc q k → Current q (judged_at doc q k)
 judged_current doc own q k attended =
     ticked_keeps q k (Current q) (λ t g s. current_more q k t g s) (synced_at doc q k) (judged_at doc q k) (pass_ticked doc k q (synced_at doc q k)) (synced_current doc own q k attended)
 
-pub queue_current : (doc : Doc) → IsOwn doc → (q : Identity) (k : ℕ) → IsAttended doc q k → Current q (queue_at doc q k)
+pub queue_current : (doc : Doc) → ReleasesByStop doc → (q : Identity) (k : ℕ) → IsAttended doc q k → Current q (queue_at doc q k)
 queue_current doc own q k attended =
     ticked_keeps q k (Current q) (λ t g s. current_more q k t g s) (judged_at doc q k) (queue_at doc q k) (cleaned_ticked doc k q (judged_at doc q k)) (judged_current doc own q k attended)
 
 -- ---- from the start of a tick to its queues
 
-module _ (doc : Doc) (own : IsOwn doc) (q : Identity) (k : ℕ) where
+module _ (doc : Doc) (own : ReleasesByStop doc) (q : Identity) (k : ℕ) where
   begins : before_tick q k (begun doc q k) ≡ begun doc q k
   begins = (elector_unticked doc k q.process q.process (at_turn doc q.process k) (at_turn_unticked doc q.process k) q (omega arith)).before
 
@@ -147,7 +147,7 @@ same_test q who (Ticks t) = refl
 same_test q who d = refl
 
 -- what no foreign entry changes is as it was after the turn before
-carried : {A : Type 0} (doc : Doc) → IsOwn doc → (q : Identity) (k : ℕ) → IsAttended doc q k → IsAttended doc q (suc k) → (f : List Entry → A)
+carried : {A : Type 0} (doc : Doc) → ReleasesByStop doc → (q : Identity) (k : ℕ) → IsAttended doc q k → IsAttended doc q (suc k) → (f : List Entry → A)
     → ((x : Entry) (h : List Entry) → is_tick_by q x.actor x.fact ≡ false → f (x ∷ h) ≡ f h) → f (begun doc q (suc k)) ≡ f (after_turn doc q.process k)
 carried {A} doc own q k here next f same =
     to_tick doc own q P foreign (suc k) next (next_turn doc own q P foreign k (below_processes doc q k here) refl)
@@ -158,7 +158,7 @@ carried {A} doc own q k here next f same =
     foreign : (x : Entry) (h : List Entry) → is_ticking q x.actor x.fact ≡ false → f h ≡ f (after_turn doc q.process k) → f (x ∷ h) ≡ f (after_turn doc q.process k)
     foreign x h other s = same x h (same_test q x.actor x.fact ∙ other) ∙ s
 
-module _ (doc : Doc) (own : IsOwn doc) (judges : JudgesByOwn doc) (q : Identity) (k : ℕ) (here : IsAttended doc q k) where
+module _ (doc : Doc) (own : ReleasesByStop doc) (judges : JudgesByOwn doc) (q : Identity) (k : ℕ) (here : IsAttended doc q k) where
   fresh_served : (place : Place) (name : ℕ) → IsFresh q k place name (served_at doc q k)
   fresh_served place name =
       subst (IsFresh q k place name) (sym (tainted-own doc judges k q (queue_at doc q k)))
@@ -190,7 +190,7 @@ newest_within f k (e ∷ h) all = by_test (newest_within f k h (λ x at. all x (
     by_test below true = all e (inl refl)
     by_test below false = below
 
-module _ (doc : Doc) (own : IsOwn doc) (q : Identity) (k : ℕ) (attended : IsAttended doc q k) where
+module _ (doc : Doc) (own : ReleasesByStop doc) (q : Identity) (k : ℕ) (attended : IsAttended doc q k) where
   within : (e : Entry) → In e (queue_at doc q k) → e.beat ≤ k
   within e at =
       ⊎_elim (λ before. omega (arith, before)) (λ first. omega (arith, first.0))

@@ -12,7 +12,7 @@ use Rattle.kube_objects.specs.Entry.{Entry, Identity, Ticks, Tick, Sync, Untaint
 use Rattle.kube_objects.specs.InForce.{watches}
 use Rattle.kube_objects.specs.Modes.{mode}
 use Rattle.kube_objects.specs.Newest.{newest, only_if, or_else}
-use Rattle.kube_objects.specs.Own.{IsOwn, JudgesByOwn}
+use Rattle.kube_objects.specs.Own.{ReleasesByStop, JudgesByOwn}
 use Rattle.kube_objects.specs.Seen.{seen_node, is_fresh, stale_tick, stale_says, is_stale, node_names}
 use Rattle.kube_objects.specs.Stored.{node_key, next_version}
 use Rattle.kube_objects.specs.Tainting.{Wanted, wants}
@@ -45,7 +45,7 @@ use Rattle.wave_laws.proofs.Heads.{accepted}
 
 -- ---- before its untaints and swaps an attended tick has no stale key
 
-module _ (doc : Doc) (own : IsOwn doc) (q : Identity) (k : ℕ) (here : IsAttended doc q k) (key : Key) where
+module _ (doc : Doc) (own : ReleasesByStop doc) (q : Identity) (k : ℕ) (here : IsAttended doc q k) (key : Key) where
   begun_unstale : Unstale q (begun doc q k)
   begun_unstale =
       walk_to_tick doc (Ticking doc) (λ k. Unstale q) (unstale_keeps doc q).turns (unstale_release doc q).turns k q.process here.0.0 (ready doc own q k here).awake (at_turn doc q.process k)

@@ -9,7 +9,7 @@ use Rattle.kube_objects.specs.Entry.{Entry, Identity, Place, Tick, Zone, Head, S
 use Rattle.kube_objects.specs.Identities.{is_by}
 use Rattle.kube_objects.specs.Modes.{place_eq}
 use Rattle.kube_objects.specs.Newest.{newest, when, join, or_zero}
-use Rattle.kube_objects.specs.Own.{IsOwn, JudgesByOwn, StartsEmpty}
+use Rattle.kube_objects.specs.Own.{ReleasesByStop, JudgesByOwn, StartsEmpty}
 use Rattle.kube_objects.specs.Tick.{add, pass}
 use Rattle.kube_objects.specs.Tokens.{Rated, rated_says, rated, has_rate, is_base, base, token_size, is_grown, is_there, is_full_by, has_token}
 use Rattle.kube_objects.proofs.Clocks.{local_up}
@@ -54,7 +54,7 @@ module _ (q : Identity) (place : Place) (rate k : ℕ) where
 
 -- ---- beats in which the zone keeps its rate
 
-module _ (doc : Doc) (own : IsOwn doc) (judges : JudgesByOwn doc) (q : Identity) (place : Place) (rate y e : ℕ) (first : IsAttended doc q y) (keeps : KeepsRate doc q place rate y e) where
+module _ (doc : Doc) (own : ReleasesByStop doc) (judges : JudgesByOwn doc) (q : Identity) (place : Place) (rate y e : ℕ) (first : IsAttended doc q y) (keeps : KeepsRate doc q place rate y e) where
   pub rate_at : (k : ℕ) → y ≤ k → k ≤ e → IsAttended doc q k → has_rate rate (rated q place (queue_at doc q k)) ≡ true
   rate_at k from to here = keeps (queue_at doc q k) (⊎_elim (λ same. subst (λ k. IsTail (queue_at doc q y) (queue_at doc q k)) same (tail_all (queue_at doc q y))) later (cases_eq y k)) (queue_in doc own q k e here to)
     where

@@ -8,7 +8,7 @@ use Rattle.kube_objects.specs.Clocks.{local}
 use Rattle.kube_objects.specs.Document.{Doc}
 use Rattle.kube_objects.specs.Entry.{Entry, Identity, Place}
 use Rattle.kube_objects.specs.Newest.{has}
-use Rattle.kube_objects.specs.Own.{IsOwn, JudgesByOwn}
+use Rattle.kube_objects.specs.Own.{ReleasesByStop, JudgesByOwn}
 use Rattle.kube_objects.specs.Seen.{node_names}
 use Rattle.kube_objects.specs.Tainting.{waits, queued}
 use Rattle.kube_objects.specs.Tokens.{base, token_size, has_token}
@@ -66,7 +66,7 @@ rest x (y ∷ ys) (inr there) = more (rest x ys there)
 
 -- ---- to the next tick
 
-module _ (doc : Doc) (own : IsOwn doc) (judges : JudgesByOwn doc) (q : Identity) (place : Place) (n k : ℕ) (here : IsAttended doc q k) where
+module _ (doc : Doc) (own : ReleasesByStop doc) (judges : JudgesByOwn doc) (q : Identity) (place : Place) (n k : ℕ) (here : IsAttended doc q k) where
   -- a node that waits, and wasn't tainted
   abbrev Unserved : ℕ → Type 0
   Unserved at = (waits_since q place n (queue_at doc q k) ≡ Some at) × (waits_since q place n (served_at doc q k) ≡ Some at)
@@ -151,7 +151,7 @@ some_beats rate slow interval (suc enough) token time = omega arith
 some_beats rate slow zero zero token time = absurd (omega (arith, token))
 some_beats rate slow (suc interval) zero token time = absurd (omega (arith, time))
 
-module _ (doc : Doc) (own : IsOwn doc) (judges : JudgesByOwn doc) (q : Identity) (place : Place) (n m y e last : ℕ) (attends : Attends doc q m e) (begin : m ≤ y) (end : last ≤ e) (rate slow interval enough : ℕ) (keeps : KeepsRate doc q place rate y e)
+module _ (doc : Doc) (own : ReleasesByStop doc) (judges : JudgesByOwn doc) (q : Identity) (place : Place) (n m y e last : ℕ) (attends : Attends doc q m e) (begin : m ≤ y) (end : last ≤ e) (rate slow interval enough : ℕ) (keeps : KeepsRate doc q place rate y e)
     (runs : RunsAtLeast doc q.process y e slow) (token : IsEnough rate token_size interval) (time : IsEnough slow interval enough) (to : y ≤ e) where
   some : 1 ≤ enough
   some = some_beats rate slow interval enough token time

@@ -9,7 +9,7 @@ use Rattle.kube_objects.specs.Clocks.{local}
 use Rattle.kube_objects.specs.Document.{Doc}
 use Rattle.kube_objects.specs.Entry.{Entry, Identity, Place, Ticks, Head, Swap, entry}
 use Rattle.kube_objects.specs.Modes.{mode}
-use Rattle.kube_objects.specs.Own.{IsOwn, JudgesByOwn, StartsEmpty}
+use Rattle.kube_objects.specs.Own.{ReleasesByStop, JudgesByOwn, StartsEmpty}
 use Rattle.kube_objects.specs.Seen.{seen_node, node_names}
 use Rattle.kube_objects.specs.Tainting.{Wanted, wants, is_opposite, queued}
 use Rattle.kube_objects.specs.Tick.{pass, cleaned, tainted}
@@ -67,7 +67,7 @@ IsServedBy doc q place name m last =
 -- of it in beat m
 abbrev pub TaintsCome : Type 0
 TaintsCome =
-    (doc : Doc) → IsOwn doc → JudgesByOwn doc → (q : Identity) (place : Place) (name m y e : ℕ) → Attends doc q m e → m ≤ y
+    (doc : Doc) → ReleasesByStop doc → JudgesByOwn doc → (q : Identity) (place : Place) (name m y e : ℕ) → Attends doc q m e → m ≤ y
     → (rate slow interval enough full : ℕ) → KeepsRate doc q place rate y e → RunsAtLeast doc q.process y e slow → IsEnough rate token_size interval → IsEnough slow interval enough
     → y ≤ full → local doc q.process (base q place (queue_at doc q y)) + interval ≤ local doc q.process full
     → full + ahead q place name (queue_at doc q m) * enough ≤ e
@@ -76,7 +76,7 @@ TaintsCome =
 -- so by as many intervals after beat y, and one more, whatever the base is
 abbrev pub TaintsComeAnyway : Type 0
 TaintsComeAnyway =
-    (doc : Doc) → IsOwn doc → JudgesByOwn doc → (q : Identity) (place : Place) (name m y e : ℕ) → Attends doc q m e → m ≤ y
+    (doc : Doc) → ReleasesByStop doc → JudgesByOwn doc → (q : Identity) (place : Place) (name m y e : ℕ) → Attends doc q m e → m ≤ y
     → (rate slow interval enough : ℕ) → KeepsRate doc q place rate y e → RunsAtLeast doc q.process y e slow → IsEnough rate token_size interval → IsEnough slow interval enough
     → y + (ahead q place name (queue_at doc q m) + 1) * enough ≤ e
     → IsServedBy doc q place name m (y + (ahead q place name (queue_at doc q m) + 1) * enough)
@@ -95,7 +95,7 @@ LeaveTaintedOnly doc q place name m t =
 -- these leave by taints only, and buckets start empty
 abbrev pub TaintsTakeTime : Type 0
 TaintsTakeTime =
-    (doc : Doc) → IsOwn doc → JudgesByOwn doc → StartsEmpty doc → (q : Identity) (place : Place) (name m t : ℕ) → Attends doc q m t → m ≤ t → is_waiting q place name (queue_at doc q m) ≡ true → LeavesTainted doc q place name t
+    (doc : Doc) → ReleasesByStop doc → JudgesByOwn doc → StartsEmpty doc → (q : Identity) (place : Place) (name m t : ℕ) → Attends doc q m t → m ≤ t → is_waiting q place name (queue_at doc q m) ≡ true → LeavesTainted doc q place name t
     → LeaveTaintedOnly doc q place name m t
     → (rate fast interval needed : ℕ) → KeepsRate doc q place rate m t → RunsAtMost doc q.process m t fast → IsNeeded rate token_size interval → IsNeeded fast interval needed
     → m + ahead q place name (queue_at doc q m) * needed ≤ t
@@ -111,5 +111,5 @@ pub record IsSwapped (doc : Doc) (q : Identity) (name wanted k : ℕ) : Type 0 w
 -- a node that has the opposite of the taint that it wants doesn't wait: in an attended beat it is swapped at once
 abbrev pub SwapsAreAtOnce : Type 0
 SwapsAreAtOnce =
-    (doc : Doc) → IsOwn doc → JudgesByOwn doc → (q : Identity) (name wanted k : ℕ) → IsAttended doc q k → (x : Version × Node) → seen_node q name (judged_at doc q k) ≡ Some x
+    (doc : Doc) → ReleasesByStop doc → JudgesByOwn doc → (q : Identity) (name wanted k : ℕ) → IsAttended doc q k → (x : Version × Node) → seen_node q name (judged_at doc q k) ≡ Some x
     → wants (mode q (judged_at doc q k)) x.1 ≡ Wanted wanted → list_any (is_opposite wanted) x.1.taints ≡ true → IsSwapped doc q name wanted k

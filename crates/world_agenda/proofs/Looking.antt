@@ -6,7 +6,6 @@ use Rattle.kube_base.specs.declared.numbers.Beat.{Beat}
 use Rattle.kube_objects.specs.Clocks.{local, wall}
 use Rattle.kube_objects.specs.Document.{Doc, processes, end_beat, is_controller, is_up_first}
 use Rattle.kube_objects.specs.Entry.{Entry}
-use Rattle.kube_objects.specs.Own.{IsOwn}
 use Rattle.kube_objects.specs.Pauses.{is_paused}
 use Rattle.kube_objects.specs.Stalls.{is_stalled}
 use Rattle.history.specs.History.{history}
@@ -209,14 +208,14 @@ looked-each doc k asked p h next all others looked = subst (λ n. IsNextBelow do
 
 -- ---- somebody does something at once
 
-pub at-once : (doc : Doc) → IsOwn doc → (k p : ℕ) (w : Wakes) (at : Beat) → NextBeatsWake → k ≤ end_beat doc → p < processes doc → WakesStand doc k p (history doc k) w → goes_now doc k p w ≡ true → at.0 ≡ k
+pub at-once : (doc : Doc) → (k p : ℕ) (w : Wakes) (at : Beat) → NextBeatsWake → k ≤ end_beat doc → p < processes doc → WakesStand doc k p (history doc k) w → goes_now doc k p w ≡ true → at.0 ≡ k
     → IsNextBeat doc k (beat_of (Some at))
-at-once doc own k p w at wakes start inside s goes now =
+at-once doc k p w at wakes start inside s goes now =
     record {
       quiet = λ j from within early stands. let less = ltb-true j at.0 early in omega (arith, less, now, from);
       there = λ n is.
           let same : k ≡ n = sym now ∙ some_is at.0 n is in
-          let stands = ((wakes doc own k k (omega arith) start (λ j from less. absurd (omega (arith, from, less)))).1.1 awake) in
+          let stands = ((wakes doc k k (omega arith) start (λ j from less. absurd (omega (arith, from, less)))).1.1 awake) in
           subst (λ m. IsAhead doc k m × StandsAt doc m) same (record { from = omega arith; within = start }, stands);
     }
   where
@@ -252,9 +251,9 @@ early-later k j (Some n) from late early = let less = ltb-true j n early in let 
 pub late-at : (k n : ℕ) (b : Option ℕ) (r : Bool) → r ≡ not (is_early n b) → r ≡ true → n ≡ k → is_early k b ≡ false
 late-at k n b r is holds at = subst (λ m. is_early m b ≡ false) at (not_true (is_early n b) (sym is ∙ holds))
 
-pub there-now : (doc : Doc) → IsOwn doc → (k : ℕ) (event message both : Option Beat) → NextBeatsWake → k ≤ end_beat doc → IsNextEvent doc k (beat_of event) → IsNextMessage doc k (history doc k) (beat_of message)
+pub there-now : (doc : Doc) → (k : ℕ) (event message both : Option Beat) → NextBeatsWake → k ≤ end_beat doc → IsNextEvent doc k (beat_of event) → IsNextMessage doc k (history doc k) (beat_of message)
     → beat_of both ≡ sooner (beat_of event) (beat_of message) → is_early k (beat_of both) ≡ false → IsNextBeat doc k (beat_of both)
-there-now doc own k event message both wakes start e m is late =
+there-now doc k event message both wakes start e m is late =
     record {
       quiet = λ j from within early stands. early-later k j (beat_of both) from late early;
       there = λ n some.
@@ -265,7 +264,7 @@ there-now doc own k event message both wakes start e m is late =
   where
     stands-at : (n : ℕ) → k ≡ n → ¬ AreAsleep doc k (history doc k) → IsAhead doc k n × StandsAt doc n
     stands-at n same awake =
-        let stands = ((wakes doc own k k (omega arith) start (λ j from less. absurd (omega (arith, from, less)))).1.1 awake) in
+        let stands = ((wakes doc k k (omega arith) start (λ j from less. absurd (omega (arith, from, less)))).1.1 awake) in
         subst (λ m. IsAhead doc k m × StandsAt doc m) same (record { from = omega arith; within = start }, stands)
 
     by_one : (n : ℕ) → n ≤ k → (beat_of event ≡ Some n) ⊎ (beat_of message ≡ Some n) → IsAhead doc k n × StandsAt doc n

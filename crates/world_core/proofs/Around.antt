@@ -1,25 +1,21 @@
 -- Layer 3, the world around one process: all but one process stand through the quiet entries of that one.
-use Rattle.std.proofs.Common.{◌≡◌, ℕ, ◌+◌, ◌<◌, ◌≤◌, ◌==◌, ◌&&◌, nat_lt, Bool, true, false, List, [], ◌∷◌, Option, Some, None, refl, sym, ap, ◌∙◌, subst, arith}
+use Rattle.std.proofs.Common.{◌≡◌, ℕ, ◌+◌, ◌<◌, ◌≤◌, ◌==◌, ◌&&◌, nat_lt, Bool, true, false, List, [], ◌∷◌, Option, Some, None, refl, sym, ap, ◌∙◌, arith}
 use Rattle.std.specs.Prelude.{if◌then◌else◌}
 use Rattle.kube_objects.specs.declared.deed.Actor.{Actor}
 use Rattle.kube_objects.specs.declared.deed.Actor.TheVariants as actor
-use Rattle.kube_objects.specs.Clocks.{local}
 use Rattle.kube_objects.specs.Document.{Doc, is_controller, processes}
-use Rattle.kube_objects.specs.Elector.{deadline}
-use Rattle.kube_objects.specs.Entry.{Entry, Identity, Call, Fact, First, Event, Starts, Crashes, Stops, Stalls, Ends, StepsDown, ReleaseBegins, ReleaseEnds, ReleaseStops, Sends, Answers, Delivers, Expires, Leads, Ticks, entry}
+use Rattle.kube_objects.specs.Entry.{Entry, Identity, Fact, First, Event, Starts, Crashes, Stops, Stalls, Ends, StepsDown, ReleaseBegins, ReleaseEnds, ReleaseStops, Sends, Answers, Delivers, Expires, Leads, Ticks, actor_of, entry}
 use Rattle.kube_objects.specs.Identities.{identity, is_by, of_process}
-use Rattle.kube_objects.specs.Newest.{join, when}
-use Rattle.kube_objects.specs.Process.{life_says, life, alive, born, gone, starts, call_in, is_late, release_begun, ended, is_restart_due}
+use Rattle.kube_objects.specs.Newest.{added, has, join, when}
+use Rattle.kube_objects.specs.Process.{life_says, life, alive, born, gone, is_start, starts, ended, is_restart_due}
 use Rattle.kube_objects.specs.Stored.{write_of}
-use Rattle.kube_objects.specs.Turns.{expire_as, expire_call, end_as, end_term}
 use Rattle.kube_objects.specs.Wire.{Sent, Back}
-use Rattle.kube_objects.proofs.Own.{end_term-own, expire_as-own}
-use Rattle.history.specs.Steps.{start, restart_if, restart, if_up, expire, finish}
+use Rattle.history.specs.Steps.{start, restart_if, restart}
 use Rattle.object_store.proofs.Keeps.{store-beside}
 use Rattle.wire_calls.specs.WireStands.{is_of_wire}
 use Rattle.wire_calls.proofs.Frames.{wire-beside}
 use Rattle.world_core.specs.declared.world.World.{World}
-use Rattle.world_process.specs.Moves.{settled, before_asking, before_asking_as}
+use Rattle.world_process.specs.Moves.{restarted, restarted_as}
 use Rattle.world_process.specs.Plain.{IsUnheard, IsKnown, IsPlain, is_quiet, AreQuiet, with_facts}
 use Rattle.world_core.specs.Worlds.{RestStands, OthersStand, WorldWithin}
 use Rattle.world_process.proofs.Forces.{is_standing, in_force-beside}
@@ -28,25 +24,34 @@ use Rattle.world_process.proofs.Lives.{is_event}
 use Rattle.world_process.proofs.Names.{lt-from, le-from, eq-self}
 use Rattle.world_process.proofs.Plainly.{plain-entry, known-later, starts-start}
 
--- a quiet fact writes nothing, sends nothing, is no event and changes nothing in force
-quiet-write : (d : Fact) → is_quiet d ≡ true → write_of d ≡ None
+-- a process's own fact, that writes nothing and sends nothing: its start, or a quiet one
+abbrev pub is_own : Fact → Bool
+is_own Starts = true
+is_own d = is_quiet d
+
+quiet-own : (d : Fact) → is_quiet d ≡ true → is_own d ≡ true
+quiet-own Starts is = refl
+quiet-own _ is = is
+
+-- it is no event and changes nothing in force
+quiet-write : (d : Fact) → is_own d ≡ true → write_of d ≡ None
 quiet-write (First key object) is = cc
 quiet-write (Event what version) is = cc
 quiet-write (Answers call reply comes written) is = cc
 quiet-write (Ticks tick) is = cc
 quiet-write _ is = refl
 
-quiet-wire : (d : Fact) → is_quiet d ≡ true → is_of_wire d ≡ false
+quiet-wire : (d : Fact) → is_own d ≡ true → is_of_wire d ≡ false
 quiet-wire (Event what version) is = cc
 quiet-wire (Sends call arrives) is = cc
 quiet-wire (Answers call reply comes written) is = cc
 quiet-wire _ is = refl
 
-quiet-event : (d : Fact) → is_quiet d ≡ true → is_event d ≡ false
+quiet-event : (d : Fact) → is_own d ≡ true → is_event d ≡ false
 quiet-event (Event what version) is = cc
 quiet-event _ is = refl
 
-quiet-standing : (d : Fact) → is_quiet d ≡ true → is_standing d ≡ false
+quiet-standing : (d : Fact) → is_own d ≡ true → is_standing d ≡ false
 quiet-standing (Event what version) is = cc
 quiet-standing _ is = refl
 
@@ -58,7 +63,7 @@ pub record Around (doc : Doc) (k i : ℕ) (arriving : List Sent) (coming : List 
 pub around-world : (doc : Doc) (k i : ℕ) (arriving : List Sent) (coming : List Back) (h : List Entry) (w : World) → WorldWithin doc k arriving coming h w → Around doc k i arriving coming h w
 around-world doc k i arriving coming h w s = record { rest = s.rest; others = λ p c other is. s.processes p c is }
 
-pub rest-own : (doc : Doc) (k j step : ℕ) (arriving : List Sent) (coming : List Back) (q : Identity) (d : Fact) (h : List Entry) (w : World) → is_quiet d ≡ true → IsKnown (processes doc) (entry j step q d ∷ h) q →
+pub rest-own : (doc : Doc) (k j step : ℕ) (arriving : List Sent) (coming : List Back) (q : Identity) (d : Fact) (h : List Entry) (w : World) → is_own d ≡ true → IsKnown (processes doc) (entry j step q d ∷ h) q →
     RestStands doc k arriving coming h w → RestStands doc k arriving coming (entry j step q d ∷ h) w
 rest-own doc k j step arriving coming q d h w quiet known s =
     record {
@@ -69,7 +74,7 @@ rest-own doc k j step arriving coming q d h w quiet known s =
       in_force = in_force-beside doc (entry j step q d) h w.in_force (quiet-standing d quiet) s.in_force;
     }
 
-pub around-own : (doc : Doc) (k i j step : ℕ) (arriving : List Sent) (coming : List Back) (q : Identity) (d : Fact) (h : List Entry) (w : World) → q.process ≡ i → is_quiet d ≡ true → IsKnown (processes doc) (entry j step q d ∷ h) q →
+pub around-own : (doc : Doc) (k i j step : ℕ) (arriving : List Sent) (coming : List Back) (q : Identity) (d : Fact) (h : List Entry) (w : World) → q.process ≡ i → is_own d ≡ true → IsKnown (processes doc) (entry j step q d ∷ h) q →
     Around doc k i arriving coming h w → Around doc k i arriving coming (entry j step q d ∷ h) w
 around-own doc k i j step arriving coming q d h w process quiet known s =
     record {
@@ -85,7 +90,17 @@ pub around-facts : (doc : Doc) (k i j step : ℕ) (arriving : List Sent) (coming
     Around doc k i arriving coming h w → Around doc k i arriving coming (with_facts j step q ds h) w
 around-facts doc k i j step arriving coming q [] h w process quiet known s = s
 around-facts doc k i j step arriving coming q (d ∷ ds) h w process quiet known s =
-    around-own doc k i j step arriving coming q d (with_facts j step q ds h) w process quiet.0 (known-facts (processes doc) j step q (d ∷ ds) h known) (around-facts doc k i j step arriving coming q ds h w process quiet.1 known s)
+    around-own doc k i j step arriving coming q d (with_facts j step q ds h) w process (quiet-own d quiet.0) (known-facts (processes doc) j step q (d ∷ ds) h known) (around-facts doc k i j step arriving coming q ds h w process quiet.1 known s)
+
+-- quiet facts start nothing
+quiet-start : (d : Fact) → is_quiet d ≡ true → is_start d ≡ false
+quiet-start Starts is = cc
+quiet-start _ is = refl
+
+pub starts-facts : (p k step : ℕ) (q : Identity) (ds : List Fact) (h : List Entry) → AreQuiet ds → starts p (with_facts k step q ds h) ≡ starts p h
+starts-facts p k step q [] h quiet = refl
+starts-facts p k step q (d ∷ ds) h quiet =
+    ap (λ b. added (b && has (of_process p (actor_of q))) (starts p (with_facts k step q ds h))) (quiet-start d quiet.0) ∙ starts-facts p k step q ds h quiet.1
 
 -- ---- who is up was started
 
@@ -138,7 +153,7 @@ alive-known n p i h s within up = record { within = within; started = by_order (
     by_order true is = absurd (alive-heard p i h (s.fresh p i (lt-from (starts p h) i is)) up)
     by_order false is = le-from (starts p h) i is
 
--- ---- through a turn up to its attempt
+-- ---- through a restart
 
 pub around-started : (doc : Doc) (k i j step : ℕ) (arriving : List Sent) (coming : List Back) (h : List Entry) (w : World) → i < processes doc → Around doc k i arriving coming h w → Around doc k i arriving coming (start j step i h) w
 around-started doc k i j step arriving coming h w within s =
@@ -156,49 +171,10 @@ around-restart doc k i arriving coming h w within s = by_life (alive i h)
     by_life None = by_due (is_restart_due doc i k (ended doc i h))
     by_life (Some j) = s
 
-around-expire : (doc : Doc) (k i : ℕ) (arriving : List Sent) (coming : List Back) (h : List Entry) (w : World) → i < processes doc → Around doc k i arriving coming h w → Around doc k i arriving coming (expire doc k i h) w
-around-expire doc k i arriving coming h w within s = by_life (alive i h) refl
+-- by the sort of the process
+pub around-restarted : (doc : Doc) (k i : ℕ) (arriving : List Sent) (coming : List Back) (h : List Entry) (w : World) → i < processes doc → Around doc k i arriving coming h w → Around doc k i arriving coming (restarted doc k i h) w
+around-restarted doc k i arriving coming h w within s = by_sort (is_controller doc i)
   where
-    by_late : (j : ℕ) → IsKnown (processes doc) h (identity i j) → (call : Call) (b : Bool) → Around doc k i arriving coming (if b then expire_as doc k (identity i j) call (release_begun doc.settings.rules.release call.kind) h else h) w
-    by_late j known call true =
-        subst (λ g. Around doc k i arriving coming g w) (sym (expire_as-own doc s.rest.document.own k (identity i j) call h))
-        (around-own doc k i k 4 arriving coming (identity i j) (Expires call) h w refl refl (known-later (processes doc) (entry k 4 (identity i j) (Expires call)) h (identity i j) known) s)
-    by_late j known call false = s
-
-    by_call : (j : ℕ) → IsKnown (processes doc) h (identity i j) → (call : Option Call) → Around doc k i arriving coming (expire_call doc k (identity i j) call h) w
-    by_call j known None = s
-    by_call j known (Some call) = by_late j known call (is_late doc (identity i j) k call)
-
-    by_life : (up : Option ℕ) → alive i h ≡ up → Around doc k i arriving coming (if_up i (λ q T. expire_call doc k q (call_in q T) T) up h) w
-    by_life None is = s
-    by_life (Some j) is = by_call j (alive-known (processes doc) i j h s.rest.plain within is) (call_in (identity i j) h)
-
-around-finish : (doc : Doc) (k i : ℕ) (arriving : List Sent) (coming : List Back) (h : List Entry) (w : World) → i < processes doc → Around doc k i arriving coming h w → Around doc k i arriving coming (finish doc k i h) w
-around-finish doc k i arriving coming h w within s = by_life (alive i h) refl
-  where
-    by_time : (j : ℕ) → IsKnown (processes doc) h (identity i j) → (b : Bool) → Around doc k i arriving coming (if b then h else end_as doc.settings.rules.release doc k (identity i j) h) w
-    by_time j known true = s
-    by_time j known false =
-        subst (λ g. Around doc k i arriving coming g w) (sym (end_term-own doc s.rest.document.own k (identity i j) h))
-        (around-own doc k i k 4 arriving coming (identity i j) Ends h w refl refl (known-later (processes doc) (entry k 4 (identity i j) Ends) h (identity i j) known) s)
-
-    by_deadline : (j : ℕ) → IsKnown (processes doc) h (identity i j) → (at : Option ℕ) → Around doc k i arriving coming (end_term doc k (identity i j) at h) w
-    by_deadline j known None = s
-    by_deadline j known (Some at) = by_time j known (nat_lt (local doc i k) at)
-
-    by_life : (up : Option ℕ) → alive i h ≡ up → Around doc k i arriving coming (if_up i (λ q T. end_term doc k q (deadline doc q T) T) up h) w
-    by_life None is = s
-    by_life (Some j) is = by_deadline j (alive-known (processes doc) i j h s.rest.plain within is) (deadline doc (identity i j) h)
-
-around-settled : (doc : Doc) (k i : ℕ) (arriving : List Sent) (coming : List Back) (h : List Entry) (w : World) → i < processes doc → Around doc k i arriving coming h w → Around doc k i arriving coming (settled doc k i (restart doc k i h)) w
-around-settled doc k i arriving coming h w within s =
-    let r = restart doc k i h in
-    around-finish doc k i arriving coming (expire doc k i r) w within (around-expire doc k i arriving coming r w within (around-restart doc k i arriving coming h w within s))
-
--- through all of a turn that asks nothing, by the sort of the process
-pub around-before : (doc : Doc) (k i : ℕ) (arriving : List Sent) (coming : List Back) (h : List Entry) (w : World) → i < processes doc → Around doc k i arriving coming h w → Around doc k i arriving coming (before_asking doc k i h) w
-around-before doc k i arriving coming h w within s = by_sort (is_controller doc i)
-  where
-    by_sort : (b : Bool) → Around doc k i arriving coming (before_asking_as doc k i b h) w
-    by_sort true = around-settled doc k i arriving coming h w within s
-    by_sort false = around-expire doc k i arriving coming h w within s
+    by_sort : (b : Bool) → Around doc k i arriving coming (restarted_as doc k i b h) w
+    by_sort true = around-restart doc k i arriving coming h w within s
+    by_sort false = s

@@ -1,21 +1,23 @@
 -- Layer 4, the steps of a beat: what a process waits for, by what is kept of it and of its term.
-use Rattle.std.proofs.Common.{◌≡◌, ◌↔◌, ℕ, ◌≤◌, ◌<◌, ◌==◌, ◌&&◌, ◌||◌, nat_lt, min, Bool, true, false, List, Option, Some, None, IfSome, option_map, refl, sym, ap, ◌∙◌, subst, arith}
+use Rattle.std.proofs.Common.{◌≡◌, ◌↔◌, ℕ, ◌≤◌, ◌<◌, ◌==◌, ◌&&◌, ◌||◌, nat_lt, min, not, Bool, true, false, List, Option, Some, None, IfSome, option_map, refl, sym, ap, ◌∙◌, subst, arith}
 use Rattle.std.specs.Prelude.{is_some}
 use Rattle.std.specs.Option.{option_eq}
 use Rattle.std.proofs.lemmas.Bool.Decides.{nat_tests}
 use Rattle.kube_base.specs.declared.numbers.Beat.{Beat}
 use Rattle.kube_base.specs.declared.numbers.Local.{Local}
+use Rattle.kube_objects.specs.declared.rules.ReleaseRule.{ReleaseRule}
+use Rattle.kube_objects.specs.declared.rules.ReleaseRule.TheVariants as rules
 use Rattle.kube_objects.specs.Clocks.{local, wall}
 use Rattle.kube_objects.specs.Document.{Doc, end_beat, is_controller, is_up_first}
-use Rattle.kube_objects.specs.Elector.{in_term, deadline, is_before}
+use Rattle.kube_objects.specs.Elector.{in_term, deadline, is_before, acts_on, leads_on}
 use Rattle.kube_objects.specs.Entry.{Entry, Identity}
 use Rattle.kube_objects.specs.Identities.{identity}
 use Rattle.kube_objects.specs.Newest.{has, only_if}
-use Rattle.kube_objects.specs.Process.{alive, is_present}
+use Rattle.kube_objects.specs.Process.{alive, is_present, is_releasing}
 use Rattle.agenda_laws.specs.Ticking.{is_due_at_once, room_at, sync_at, synced_reading, term_reading, term_time}
-use Rattle.agenda_laws.specs.Times.{is_early, sooner, if_up, elector_reading, kubelet_reading}
+use Rattle.agenda_laws.specs.Times.{is_early, sooner, if_up, ends_at, elector_reading, kubelet_reading}
 use Rattle.agenda_laws.specs.Waking as waking
-use Rattle.agenda_laws.specs.Waking.{IsAsleep, acts_at_once, leads_at_once, wakes_as, wakes_of}
+use Rattle.agenda_laws.specs.Waking.{IsAsleep, acts_at_once, goes_on, leads_at_once, ticks_on, wakes_as, wakes_of}
 use Rattle.agenda_laws.proofs.Between.{early_same, sooner_both}
 use Rattle.agenda_laws.proofs.Times.{before_deadline}
 use Rattle.controller_core.specs.Working.{kept}
@@ -26,7 +28,7 @@ use Rattle.world_process.specs.Beats.{IsBeatOf, beat_in, own_reading, own_readin
 use Rattle.world_process.specs.Clocked.{ClockStands}
 use Rattle.world_process.specs.declared.process.Process.{Process}
 use Rattle.world_process.specs.declared.process.Process.TheVariants.{Controller, Kubelet}
-use Rattle.world_process.specs.Processes.{ProcessStands, in_term_now, in_term_if_up, clock_of, is_up_first_as}
+use Rattle.world_process.specs.Processes.{ProcessStands, leads_now, leads_if_up, clock_of, is_up_first_as}
 use Rattle.world_process.specs.Processes as processes
 use Rattle.world_process.proofs.Names.{eq-self, eq-isnt, le-from}
 use Rattle.world_process.proofs.Processes.{process-up_first}
@@ -34,7 +36,7 @@ use Rattle.world_process.proofs.Readings.{reading-local}
 use Rattle.world_process.proofs.Times.{kept-same}
 use Rattle.world_core.specs.declared.wakes.Wakes.{Wakes}
 use Rattle.world_core.specs.Waits.{IsTurnBeat, WakesStand, acting_reading, acting_room, acting_time, allowed_at, beat_of, kept_reading, local_of, reading_at, reading_of, room_of, starts_now, time_at}
-use Rattle.world_core.proofs.Ticking.{InTermAs}
+use Rattle.world_core.proofs.Ticking.{LeadsAs}
 
 -- ---- beats and readings as numbers
 
@@ -117,6 +119,9 @@ some-holds (Some x) P some holds = holds
 
 -- ---- who acts at beat k sleeps later as the history says
 
+abbrev leads_at : Doc → ℕ → List Entry → Identity → Bool
+leads_at doc k h q = leads_on doc.settings.rules.release doc q k h
+
 module _ (doc : Doc) (k j p : ℕ) (h : List Entry) (later : local doc p k ≤ local doc p j) where
   -- what an incarnation that is up waits for, where led says that its term counts
   abbrev with_term : ℕ → Bool → waking.Wakes
@@ -128,51 +133,74 @@ module _ (doc : Doc) (k j p : ℕ) (h : List Entry) (later : local doc p k ≤ l
         room = room_at doc (identity p i) h;
       }
 
-  -- it acts exactly where it leads, or its deadline is reached at beat j
-  data Reaches (i : ℕ) : Type 0 where
-    Alike : in_term doc (identity p i) k h ≡ has (deadline doc (identity p i) h) → Reaches i
-    Reached : is_early (local doc p j) (deadline doc (identity p i) h) ≡ false → Reaches i
+  -- it acts exactly where its term goes on, or that is over by beat j
+  data Reaches (acts goes : Bool) (over : Option ℕ) : Type 0 where
+    Alike : acts ≡ goes → Reaches acts goes over
+    Reached : is_early (local doc p j) over ≡ false → Reaches acts goes over
 
-  acts-before : (i : ℕ) → alive p h ≡ Some i → in_term doc (identity p i) k h ≡ is_before (local doc p k) (deadline doc (identity p i) h)
-  acts-before i up =
+  term-before : (i : ℕ) → alive p h ≡ Some i → in_term doc (identity p i) k h ≡ is_before (local doc p k) (deadline doc (identity p i) h)
+  term-before i up =
       ap (λ o. is_present o i && is_before (local doc p k) (deadline doc (identity p i) h)) up
       ∙ ap (λ b. b && is_before (local doc p k) (deadline doc (identity p i) h)) (eq-self i)
 
-  reaches : (i : ℕ) → alive p h ≡ Some i → Reaches i
-  reaches i up = by_deadline (deadline doc (identity p i) h) refl
+  term-reaches : (i : ℕ) → alive p h ≡ Some i → Reaches (in_term doc (identity p i) k h) (has (deadline doc (identity p i) h)) (deadline doc (identity p i) h)
+  term-reaches i up = by_deadline (deadline doc (identity p i) h) (term-before i up)
     where
-      by_time : (d : ℕ) → deadline doc (identity p i) h ≡ Some d → (b : Bool) → nat_lt (local doc p k) d ≡ b → Reaches i
-      by_time d is true before =
-          Alike (acts-before i up ∙ ap (is_before (local doc p k)) is ∙ before ∙ sym (ap (λ (o : Option ℕ). has o) is))
+      by_time : (d : ℕ) → in_term doc (identity p i) k h ≡ nat_lt (local doc p k) d → (b : Bool) → nat_lt (local doc p k) d ≡ b → Reaches (in_term doc (identity p i) k h) true (Some d)
+      by_time d is true before = Alike (is ∙ before)
       by_time d is false before =
           let least = le-from (local doc p k) d before in
           let past : nat_lt (local doc p j) d ≡ false = grind (arith, nat_tests) in
-          Reached (ap (is_early (local doc p j)) is ∙ past)
+          Reached past
 
-      by_deadline : (o : Option ℕ) → deadline doc (identity p i) h ≡ o → Reaches i
-      by_deadline None is = Alike (acts-before i up ∙ ap (is_before (local doc p k)) is ∙ sym (ap (λ (o : Option ℕ). has o) is))
+      by_deadline : (o : Option ℕ) → in_term doc (identity p i) k h ≡ is_before (local doc p k) o → Reaches (in_term doc (identity p i) k h) (has o) o
+      by_deadline None is = Alike is
       by_deadline (Some d) is = by_time d is (nat_lt (local doc p k) d) refl
 
-  ended : (i : ℕ) → alive p h ≡ Some i → is_early (local doc p j) (deadline doc (identity p i) h) ≡ false → (led : Bool) → IsAsleep doc j p (with_term i led) → ⊥
+  -- where its release runs, whoever acts does so until that is over
+  released-reaches : (i : ℕ) → alive p h ≡ Some i → (b : Bool)
+      → Reaches (acts_on doc (identity p i) h || in_term doc (identity p i) k h && not b) (acts_on doc (identity p i) h || has (deadline doc (identity p i) h) && not b)
+      (only_if (not b) (deadline doc (identity p i) h))
+  released-reaches i up true =
+      Alike (ap (λ x. acts_on doc (identity p i) h || x) (and-false (in_term doc (identity p i) k h) ∙ sym (and-false (has (deadline doc (identity p i) h)))))
+  released-reaches i up false = by_case (term-reaches i up)
+    where
+      by_case : Reaches (in_term doc (identity p i) k h) (has (deadline doc (identity p i) h)) (deadline doc (identity p i) h)
+          → Reaches (acts_on doc (identity p i) h || in_term doc (identity p i) k h && true) (acts_on doc (identity p i) h || has (deadline doc (identity p i) h) && true)
+          (deadline doc (identity p i) h)
+      by_case (Alike same) = Alike (ap (λ x. acts_on doc (identity p i) h || x && true) same)
+      by_case (Reached past) = Reached past
+
+  reaches : (rule : ReleaseRule) (i : ℕ) → alive p h ≡ Some i
+      → Reaches (leads_on rule doc (identity p i) k h) (ticks_on rule doc (identity p i) h) (ends_at rule (is_releasing (identity p i) h) (deadline doc (identity p i) h))
+  reaches rules.Stop i up = term-reaches i up
+  reaches rules.Own i up = released-reaches i up (is_releasing (identity p i) h)
+  reaches rules.Checked i up = released-reaches i up (is_releasing (identity p i) h)
+  reaches rules.Reread i up = released-reaches i up (is_releasing (identity p i) h)
+
+  abbrev ends : Identity → Option ℕ
+  ends q = ends_at doc.settings.rules.release (is_releasing q h) (deadline doc q h)
+
+  ended : (i : ℕ) → alive p h ≡ Some i → is_early (local doc p j) (ends (identity p i)) ≡ false → (led : Bool) → IsAsleep doc j p (with_term i led) → ⊥
   ended i up reached led s =
       let own = (sooner_both (local doc p j) (elector_reading doc p h) (only_if led (term_reading doc (identity p i) h)) s.local).0 in
-      let early : is_early (local doc p j) (deadline doc (identity p i) h) ≡ true = sym (ap (λ o. is_early (local doc p j) (if_up p (λ q. deadline doc q h) o)) up) ∙ before_deadline doc j p h own in
+      let early : is_early (local doc p j) (ends (identity p i)) ≡ true = sym (ap (λ o. is_early (local doc p j) (if_up p ends o)) up) ∙ before_deadline doc j p h own in
       cc
 
-  up-same : (i : ℕ) → alive p h ≡ Some i → IsAsleep doc j p (with_term i (in_term doc (identity p i) k h)) ↔ IsAsleep doc j p (with_term i (has (deadline doc (identity p i) h)))
-  up-same i up = by_case (reaches i up)
+  up-same : (i : ℕ) → alive p h ≡ Some i → IsAsleep doc j p (with_term i (leads_at doc k h (identity p i))) ↔ IsAsleep doc j p (with_term i (goes_on doc (identity p i) h))
+  up-same i up = by_case (reaches doc.settings.rules.release i up)
     where
-      by_case : Reaches i → IsAsleep doc j p (with_term i (in_term doc (identity p i) k h)) ↔ IsAsleep doc j p (with_term i (has (deadline doc (identity p i) h)))
+      by_case : Reaches (leads_at doc k h (identity p i)) (goes_on doc (identity p i) h) (ends (identity p i)) → IsAsleep doc j p (with_term i (leads_at doc k h (identity p i))) ↔ IsAsleep doc j p (with_term i (goes_on doc (identity p i) h))
       by_case (Alike same) = (λ s. subst (λ b. IsAsleep doc j p (with_term i b)) same s, λ s. subst (λ b. IsAsleep doc j p (with_term i b)) (sym same) s)
-      by_case (Reached reached) = (λ s. absurd (ended i up reached (in_term doc (identity p i) k h) s), λ s. absurd (ended i up reached (has (deadline doc (identity p i) h)) s))
+      by_case (Reached reached) = (λ s. absurd (ended i up reached (leads_at doc k h (identity p i)) s), λ s. absurd (ended i up reached (goes_on doc (identity p i) h) s))
 
   -- what is waited for at the next beat, by the sort of the process and the incarnation in which it is up
   abbrev acting_up : Option ℕ → waking.Wakes
   acting_up o =
       record {
         at_once = acts_at_once doc k p o h;
-        local = sooner (elector_reading doc p h) (if_up p (λ q. only_if (in_term doc q k h) (term_reading doc q h)) o);
-        wall = if_up p (λ q. only_if (in_term doc q k h) (term_time doc q h)) o;
+        local = sooner (elector_reading doc p h) (if_up p (λ q. only_if (leads_at doc k h q) (term_reading doc q h)) o);
+        wall = if_up p (λ q. only_if (leads_at doc k h q) (term_time doc q h)) o;
         room = if_up p (λ q. room_at doc q h) o;
       }
 
@@ -180,8 +208,8 @@ module _ (doc : Doc) (k j p : ℕ) (h : List Entry) (later : local doc p k ≤ l
   leading_up o =
       record {
         at_once = leads_at_once doc p o h;
-        local = sooner (elector_reading doc p h) (if_up p (λ q. only_if (has (deadline doc q h)) (term_reading doc q h)) o);
-        wall = if_up p (λ q. only_if (has (deadline doc q h)) (term_time doc q h)) o;
+        local = sooner (elector_reading doc p h) (if_up p (λ q. only_if (goes_on doc q h) (term_reading doc q h)) o);
+        wall = if_up p (λ q. only_if (goes_on doc q h) (term_time doc q h)) o;
         room = if_up p (λ q. room_at doc q h) o;
       }
 
@@ -191,7 +219,7 @@ module _ (doc : Doc) (k j p : ℕ) (h : List Entry) (later : local doc p k ≤ l
 
   -- the readings of its term as the history has them
   abbrev term_as : Bool → Option ℕ
-  term_as true = if_up p (λ q. only_if (in_term doc q k h) (term_reading doc q h)) (alive p h)
+  term_as true = if_up p (λ q. only_if (leads_at doc k h q) (term_reading doc q h)) (alive p h)
   term_as false = None
 
   abbrev room_as : Bool → Option ℕ
@@ -222,10 +250,10 @@ module _ (doc : Doc) (k j p : ℕ) (h : List Entry) (later : local doc p k ≤ l
       by_led i false = refl
 
       by_life : (o : Option ℕ)
-          → (is_early (wall doc p j) (if_up p (λ q. only_if (in_term doc q k h) (term_time doc q h)) o) || is_early (local doc p j) (if_up p (λ q. only_if (in_term doc q k h) (room_at doc q h)) o))
-          ≡ (is_early (wall doc p j) (if_up p (λ q. only_if (in_term doc q k h) (term_time doc q h)) o) || is_early (local doc p j) (if_up p (λ q. room_at doc q h) o))
+          → (is_early (wall doc p j) (if_up p (λ q. only_if (leads_at doc k h q) (term_time doc q h)) o) || is_early (local doc p j) (if_up p (λ q. only_if (leads_at doc k h q) (room_at doc q h)) o))
+          ≡ (is_early (wall doc p j) (if_up p (λ q. only_if (leads_at doc k h q) (term_time doc q h)) o) || is_early (local doc p j) (if_up p (λ q. room_at doc q h) o))
       by_life None = refl
-      by_life (Some i) = by_led i (in_term doc (identity p i) k h)
+      by_life (Some i) = by_led i (leads_at doc k h (identity p i))
 
       by_sort : (b : Bool) → (is_early (wall doc p j) (acting_time doc k p b h) || is_early (local doc p j) (acting_room doc k p b h)) ≡ (is_early (wall doc p j) (acting_time doc k p b h) || is_early (local doc p j) (room_as b))
       by_sort true = by_life (alive p h)
@@ -248,9 +276,9 @@ module _ (doc : Doc) (k j p : ℕ) (h : List Entry) (later : local doc p k ≤ l
         by_led i false = refl
 
         by_life : (o : Option ℕ)
-            → is_early (local doc p j) (if_up p (λ q. only_if (in_term doc q k h) (kept_reading doc q h)) o) ≡ is_early (local doc p j) (if_up p (λ q. only_if (in_term doc q k h) (term_reading doc q h)) o)
+            → is_early (local doc p j) (if_up p (λ q. only_if (leads_at doc k h q) (kept_reading doc q h)) o) ≡ is_early (local doc p j) (if_up p (λ q. only_if (leads_at doc k h q) (term_reading doc q h)) o)
         by_life None = refl
-        by_life (Some i) = by_led i (in_term doc (identity p i) k h)
+        by_life (Some i) = by_led i (leads_at doc k h (identity p i))
 
     pub reading-same : is_early (local doc p j) (reading_at doc k p h) ≡ is_early (local doc p j) (sooner (own_reading doc p h) (term_as (is_controller doc p)))
     reading-same =
@@ -303,7 +331,7 @@ pub record NoTerm (doc : Doc) (k p : ℕ) (h : List Entry) : Type 0 where
   pub time : time_at doc k p h ≡ None
   pub room : allowed_at doc k p h ≡ None
 
-pub no-term : (doc : Doc) (k p : ℕ) (h : List Entry) → in_term_now doc k p h ≡ false → NoTerm doc k p h
+pub no-term : (doc : Doc) (k p : ℕ) (h : List Entry) → leads_now doc k p h ≡ false → NoTerm doc k p h
 no-term doc k p h none =
     record {
       at_once = at-once (is_controller doc p) none;
@@ -312,42 +340,42 @@ no-term doc k p h none =
       room = no-room (is_controller doc p) none;
     }
   where
-    at-once : (b : Bool) → processes.in_term_as doc k p b h ≡ false → waking.acts_as doc k p b h ≡ false
+    at-once : (b : Bool) → processes.leads_as doc k p b h ≡ false → waking.acts_as doc k p b h ≡ false
     at-once false is = refl
     at-once true is = by_life (alive p h) is
       where
-        by_life : (o : Option ℕ) → in_term_if_up doc k p o h ≡ false → acts_at_once doc k p o h ≡ false
+        by_life : (o : Option ℕ) → leads_if_up doc k p o h ≡ false → acts_at_once doc k p o h ≡ false
         by_life None is = refl
         by_life (Some i) is = ap (λ b. b && is_due_at_once doc (identity p i) h) is
 
-    no-reading : (b : Bool) → processes.in_term_as doc k p b h ≡ false → acting_reading doc k p b h ≡ None
+    no-reading : (b : Bool) → processes.leads_as doc k p b h ≡ false → acting_reading doc k p b h ≡ None
     no-reading false is = refl
     no-reading true is = by_life (alive p h) is
       where
-        by_life : (o : Option ℕ) → in_term_if_up doc k p o h ≡ false → if_up p (λ q. only_if (in_term doc q k h) (kept_reading doc q h)) o ≡ None
+        by_life : (o : Option ℕ) → leads_if_up doc k p o h ≡ false → if_up p (λ q. only_if (leads_at doc k h q) (kept_reading doc q h)) o ≡ None
         by_life None is = refl
         by_life (Some i) is = ap (λ b. only_if b (kept_reading doc (identity p i) h)) is
 
-    no-time : (b : Bool) → processes.in_term_as doc k p b h ≡ false → acting_time doc k p b h ≡ None
+    no-time : (b : Bool) → processes.leads_as doc k p b h ≡ false → acting_time doc k p b h ≡ None
     no-time false is = refl
     no-time true is = by_life (alive p h) is
       where
-        by_life : (o : Option ℕ) → in_term_if_up doc k p o h ≡ false → if_up p (λ q. only_if (in_term doc q k h) (term_time doc q h)) o ≡ None
+        by_life : (o : Option ℕ) → leads_if_up doc k p o h ≡ false → if_up p (λ q. only_if (leads_at doc k h q) (term_time doc q h)) o ≡ None
         by_life None is = refl
         by_life (Some i) is = ap (λ b. only_if b (term_time doc (identity p i) h)) is
 
-    no-room : (b : Bool) → processes.in_term_as doc k p b h ≡ false → acting_room doc k p b h ≡ None
+    no-room : (b : Bool) → processes.leads_as doc k p b h ≡ false → acting_room doc k p b h ≡ None
     no-room false is = refl
     no-room true is = by_life (alive p h) is
       where
-        by_life : (o : Option ℕ) → in_term_if_up doc k p o h ≡ false → if_up p (λ q. only_if (in_term doc q k h) (room_at doc q h)) o ≡ None
+        by_life : (o : Option ℕ) → leads_if_up doc k p o h ≡ false → if_up p (λ q. only_if (leads_at doc k h q) (room_at doc q h)) o ≡ None
         by_life None is = refl
         by_life (Some i) is = ap (λ b. only_if b (room_at doc (identity p i) h)) is
 
 own-alone : (doc : Doc) (k p : ℕ) (h : List Entry) → NoTerm doc k p h → reading_at doc k p h ≡ own_reading doc p h
 own-alone doc k p h none = ap (sooner (own_reading doc p h)) none.reading ∙ sooner-alone (own_reading doc p h)
 
-pub idle-stands : (doc : Doc) (k p : ℕ) (h : List Entry) (c : Clocking) (wake : Option Local) → ClockStands doc p c → starts_now doc k p ≡ false → in_term_now doc k p h ≡ false → beats.reading_of wake ≡ own_reading doc p h
+pub idle-stands : (doc : Doc) (k p : ℕ) (h : List Entry) (c : Clocking) (wake : Option Local) → ClockStands doc p c → starts_now doc k p ≡ false → leads_now doc k p h ≡ false → beats.reading_of wake ≡ own_reading doc p h
     → WakesStand doc k p h (record { at_once = false; local = wake; wall = None; room = None })
 idle-stands doc k p h c wake clock starts none own =
     let nothing = no-term doc k p h none in
@@ -364,13 +392,13 @@ pub record ItsTerm (doc : Doc) (k p i : ℕ) (h : List Entry) : Type 0 where
   pub time : time_at doc k p h ≡ term_time doc (identity p i) h
   pub room : allowed_at doc k p h ≡ room_at doc (identity p i) h
 
-pub its-term : (doc : Doc) (k p i : ℕ) (h : List Entry) → alive p h ≡ Some i → InTermAs doc k p i h → ItsTerm doc k p i h
+pub its-term : (doc : Doc) (k p i : ℕ) (h : List Entry) → alive p h ≡ Some i → LeadsAs doc k p i h → ItsTerm doc k p i h
 its-term doc k p i h up s =
     record {
       at_once = ap (λ b. waking.acts_as doc k p b h) s.sort ∙ ap (λ o. acts_at_once doc k p o h) up ∙ ap (λ b. b && is_due_at_once doc (identity p i) h) s.term;
-      reading = ap (λ b. acting_reading doc k p b h) s.sort ∙ ap (if_up p (λ q. only_if (in_term doc q k h) (kept_reading doc q h))) up ∙ ap (λ b. only_if b (kept_reading doc (identity p i) h)) s.term;
-      time = ap (λ b. acting_time doc k p b h) s.sort ∙ ap (if_up p (λ q. only_if (in_term doc q k h) (term_time doc q h))) up ∙ ap (λ b. only_if b (term_time doc (identity p i) h)) s.term;
-      room = ap (λ b. acting_room doc k p b h) s.sort ∙ ap (if_up p (λ q. only_if (in_term doc q k h) (room_at doc q h))) up ∙ ap (λ b. only_if b (room_at doc (identity p i) h)) s.term;
+      reading = ap (λ b. acting_reading doc k p b h) s.sort ∙ ap (if_up p (λ q. only_if (leads_at doc k h q) (kept_reading doc q h))) up ∙ ap (λ b. only_if b (kept_reading doc (identity p i) h)) s.term;
+      time = ap (λ b. acting_time doc k p b h) s.sort ∙ ap (if_up p (λ q. only_if (leads_at doc k h q) (term_time doc q h))) up ∙ ap (λ b. only_if b (term_time doc (identity p i) h)) s.term;
+      room = ap (λ b. acting_room doc k p b h) s.sort ∙ ap (if_up p (λ q. only_if (leads_at doc k h q) (room_at doc q h))) up ∙ ap (λ b. only_if b (room_at doc (identity p i) h)) s.term;
     }
 
 -- what a term waits for is its sync and all else

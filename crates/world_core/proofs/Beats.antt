@@ -129,7 +129,7 @@ world-next doc k h w s placed unticked timely =
     record {
       within = record {
         rest = record {
-          document = record { at = ap (λ n. n + 1) d.at; restart = d.restart; count = d.count; epoch = d.epoch; micros = d.micros; events = d.events; controllers = d.controllers; stalls = d.stalls; own = d.own };
+          document = record { at = ap (λ n. n + 1) d.at; restart = d.restart; count = d.count; epoch = d.epoch; micros = d.micros; events = d.events; controllers = d.controllers; stalls = d.stalls };
           plain = s.rest.plain;
           store = s.rest.store;
           wire = wire-next-beat (processes doc) k h w.wire s.rest.wire;

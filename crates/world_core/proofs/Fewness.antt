@@ -1,5 +1,5 @@
 -- Layer 2, what a history keeps: what a history counts stays within its types up to the end of a document.
-use Rattle.std.proofs.Common.{◌≡◌, ℕ, suc, ◌+◌, ◌≤◌, ◌==◌, cond, List, [], ◌∷◌, length, refl, ap, arith}
+use Rattle.std.proofs.Common.{◌≡◌, ℕ, suc, ◌+◌, ◌≤◌, ◌==◌, cond, List, [], ◌∷◌, length, refl, arith}
 use Rattle.std.proofs.lemmas.List.Sums.{sum_by-cons}
 use Rattle.kube_objects.specs.declared.key.Key.{Key}
 use Rattle.kube_objects.specs.declared.key.Kind.{Kind}
@@ -7,7 +7,6 @@ use Rattle.kube_objects.specs.declared.key.Kind.TheVariants as kinds
 use Rattle.kube_objects.specs.declared.object.Object.{Object}
 use Rattle.kube_objects.specs.Document.{Doc}
 use Rattle.kube_objects.specs.Keys.{kind_rank}
-use Rattle.kube_objects.specs.Own.{IsOwn}
 use Rattle.history.specs.History.{history, beat}
 use Rattle.history_laws.specs.Calls.{CallsAreFew}
 use Rattle.history_laws.specs.Starts.{StartsAreFew}
@@ -37,10 +36,10 @@ objects-most items few =
     let pods : kind_count kinds.Pod items ≤ 450000 = few kinds.Pod in
     omega (arith, kinds-counted items, nodes, leases, pods)
 
-pub few-beat : (doc : Doc) → IsOwn doc → (k : ℕ) → CallsAreFew → StartsAreFew → NodesAreFew → k ≤ 604800000 → length doc.objects ≤ 495000 → length doc.events ≤ 1000000 → IsFew (beat doc (history doc k) k)
-few-beat doc own k calls starts nodes within objects events =
+pub few-beat : (doc : Doc) (k : ℕ) → CallsAreFew → StartsAreFew → NodesAreFew → k ≤ 604800000 → length doc.objects ≤ 495000 → length doc.events ≤ 1000000 → IsFew (beat doc (history doc k) k)
+few-beat doc k calls starts nodes within objects events =
     record {
-      calls = λ q. (let most = calls doc (ap (λ r. r.release) own.rules) q (suc k) in omega (arith, most, within));
+      calls = λ q. (let most = calls doc q (suc k) in omega (arith, most, within));
       starts = λ p. (let most = starts doc p (suc k) in omega (arith, most, within, events));
       nodes = (let most = nodes doc (suc k) in omega (arith, most, objects, events));
     }

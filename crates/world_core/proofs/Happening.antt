@@ -1,23 +1,25 @@
 -- Layer 4, the steps of a beat: the events of a beat, one after the other.
-use Rattle.std.proofs.Common.{◌≡◌, ℕ, ◌+◌, ◌<◌, ◌≤◌, not, cond, List, [], ◌∷◌, ◌++◌, Option, Some, None, slice_get, get_or, length, drop, refl, sym, ap, ◌∙◌, subst, arith}
+use Rattle.std.proofs.Common.{◌≡◌, ℕ, ◌+◌, ◌<◌, ◌≤◌, not, Bool, true, false, cond, List, [], ◌∷◌, ◌++◌, Option, Some, None, slice_get, get_or, length, drop, refl, sym, ap, ◌∙◌, subst, arith}
 use Rattle.std.proofs.lemmas.Option.{slice_get_read}
 use Rattle.kube_objects.specs.declared.call.Request.{Request}
 use Rattle.kube_objects.specs.declared.deed.Deed.{Deed}
+use Rattle.kube_objects.specs.declared.rules.ReleaseRule.{ReleaseRule}
+use Rattle.kube_objects.specs.declared.rules.ReleaseRule.TheVariants as rules
 use Rattle.kube_objects.specs.declared.script.Event.{Event}
 use Rattle.kube_objects.specs.declared.script.What.{What}
 use Rattle.kube_objects.specs.declared.script.What.TheVariants as what
+use Rattle.kube_objects.specs.Clocks.{wall}
 use Rattle.kube_objects.specs.Document.{Doc}
-use Rattle.kube_objects.specs.Elector.{release}
-use Rattle.kube_objects.specs.Entry.{Entry, Identity, Release, Stops, Event as Happened, entry, script_entry}
+use Rattle.kube_objects.specs.Elector.{acts_on, leads, release, release_from, shown}
+use Rattle.kube_objects.specs.Entry.{Entry, Identity, CallKind, Release, ReleaseBegins, ReleaseStops, Stops, Event as Happened, entry, script_entry}
 use Rattle.kube_objects.specs.Identities.{identity}
 use Rattle.kube_objects.specs.InFlight.{requests_due, replies_due}
 use Rattle.kube_objects.specs.Newest.{only_if}
-use Rattle.kube_objects.specs.Own.{IsOwn}
 use Rattle.kube_objects.specs.Pauses.{is_paused}
-use Rattle.kube_objects.specs.Process.{alive}
-use Rattle.kube_objects.specs.Wire.{Sent, Back, request_arrival, request_delay, loses_requests, next_call}
-use Rattle.history.specs.Steps.{start_if_down, crash, stall, released, stop, happens, happen_all}
-use Rattle.history.proofs.Own.{stop-own}
+use Rattle.kube_objects.specs.Process.{alive, is_releasing}
+use Rattle.kube_objects.specs.Releases.{and_end, begin_release, first_call, send_first}
+use Rattle.kube_objects.specs.Wire.{Sent, Back, request_arrival, request_delay, loses_requests, next_call, send}
+use Rattle.history.specs.Steps.{start_if_down, crash, stall, released, stop_releasing, stop_as, stop, happens, happen_all}
 use Rattle.script_reader.specs.Lawful.{IsLawfulWhat, AreLawfulFrom}
 use Rattle.world_core.specs.declared.world.World.{World}
 use Rattle.world_process.specs.Plain.{IsFew}
@@ -40,30 +42,54 @@ requests-stall : (j k p beats : ℕ) (up : Option ℕ) (h : List Entry) → requ
 requests-stall j k p beats None h = refl
 requests-stall j k p beats (Some i) h = refl
 
+requests-sent : (doc : Doc) (k : ℕ) (q : Identity) (kind : CallKind) (request : Request) (h : List Entry) → 1 ≤ request_delay q.process h → requests_due k (send doc k 1 q kind request h) ≡ requests_due k h
+requests-sent doc k q kind request h later =
+    ap (λ b. cond b (requests_due k h ++ record { who = q; call = next_call q k kind request h; arrives = request_arrival doc q.process k h } ∷ []) (requests_due k h)) (stalled_later doc k (loses_requests q.process h) (request_delay q.process h) later)
+
 requests-released : (doc : Doc) (k : ℕ) (q : Identity) (request : Option Request) (h : List Entry) → 1 ≤ request_delay q.process h → requests_due k (released doc k q request h) ≡ requests_due k h
 requests-released doc k q None h later = refl
-requests-released doc k q (Some request) h later =
-    ap (λ b. cond b (requests_due k h ++ record { who = q; call = next_call q k Release request h; arrives = request_arrival doc q.process k h } ∷ []) (requests_due k h)) (stalled_later doc k (loses_requests q.process h) (request_delay q.process h) later)
+requests-released doc k q (Some request) h later = requests-sent doc k q Release request h later
 
-requests-stop : (doc : Doc) → IsOwn doc → (k p : ℕ) (up : Option ℕ) (before h : List Entry) → 1 ≤ request_delay p h → requests_due k (stop doc k p up before h) ≡ requests_due k h
-requests-stop doc own k p None before h later = refl
-requests-stop doc own k p (Some i) before h later =
-    ap (requests_due k) (stop-own doc own k (identity p i) before h)
-    ∙ requests-released doc k (identity p i) (release doc (identity p i) k before) (entry k 1 (identity p i) Stops ∷ h) later
+requests-ended : (j k : ℕ) (q : Identity) (b : Bool) (h : List Entry) → requests_due j (and_end k 1 q b h) ≡ requests_due j h
+requests-ended j k q true h = refl
+requests-ended j k q false h = refl
 
-requests-happens : (doc : Doc) → IsOwn doc → (k : ℕ) (event : What) (h : List Entry) → ((p : ℕ) → 1 ≤ request_delay p h) → requests_due k (happens doc k event h) ≡ requests_due k h
-requests-happens doc own k (what.Rate id ppm) h later = refl
-requests-happens doc own k (what.Delay id requests replies) h later = refl
-requests-happens doc own k (what.Loss id requests replies) h later = refl
-requests-happens doc own k (what.Crash id) h later = requests-crash k k id.0 (alive id.0 h) (script_entry k 1 (Happened (what.Crash id) None) ∷ h)
-requests-happens doc own k (what.Start id) h later = requests-start k k id.0 (alive id.0 h) (script_entry k 1 (Happened (what.Start id) None) ∷ h)
-requests-happens doc own k (what.Stop id) h later = requests-stop doc own k id.0 (only_if (not (is_paused doc id.0 k)) (alive id.0 h)) h (script_entry k 1 (Happened (what.Stop id) None) ∷ h) (later id.0)
-requests-happens doc own k (what.Watch id on) h later = refl
-requests-happens doc own k (what.Ready id status) h later = refl
-requests-happens doc own k (what.Pause id beats) h later = requests-stall k k id.0 beats (alive id.0 h) (script_entry k 1 (Happened (what.Pause id beats) None) ∷ h)
-requests-happens doc own k (what.Stall beats) h later = refl
-requests-happens doc own k (what.Put key object) h later = refl
-requests-happens doc own k (what.Remove key) h later = refl
+requests-first : (doc : Doc) (k : ℕ) (q : Identity) (o : Option (CallKind × Request)) (h : List Entry) → 1 ≤ request_delay q.process h → requests_due k (send_first doc k 1 q o h) ≡ requests_due k h
+requests-first doc k q None h later = requests-ended k k q (acts_on doc q h) h
+requests-first doc k q (Some call) h later = requests-sent doc k q call.0 call.1 h later
+
+requests-begun : (doc : Doc) (k : ℕ) (q : Identity) (h : List Entry) → 1 ≤ request_delay q.process h → requests_due k (begin_release doc k 1 q false h) ≡ requests_due k h
+requests-begun doc k q h later =
+    requests-first doc k q (first_call doc.settings.rules.release k (release_from q (wall doc q.process k) (shown q h))) (entry k 1 q (ReleaseBegins false) ∷ h) later
+
+requests-halted : (doc : Doc) (k : ℕ) (q : Identity) (runs led : Bool) (h : List Entry) → 1 ≤ request_delay q.process h → requests_due k (stop_releasing doc k q runs led h) ≡ requests_due k h
+requests-halted doc k q true led h later = refl
+requests-halted doc k q false true h later = requests-begun doc k q (entry k 1 q ReleaseStops ∷ h) later
+requests-halted doc k q false false h later = refl
+
+requests-stop_as : (rule : ReleaseRule) (doc : Doc) (k : ℕ) (q : Identity) (before h : List Entry) → 1 ≤ request_delay q.process h → requests_due k (stop_as rule doc k q before h) ≡ requests_due k h
+requests-stop_as rules.Stop doc k q before h later = requests-released doc k q (release doc q k before) (entry k 1 q Stops ∷ h) later
+requests-stop_as rules.Own doc k q before h later = requests-halted doc k q (is_releasing q before) (leads q before) h later
+requests-stop_as rules.Checked doc k q before h later = requests-halted doc k q (is_releasing q before) (leads q before) h later
+requests-stop_as rules.Reread doc k q before h later = requests-halted doc k q (is_releasing q before) (leads q before) h later
+
+requests-stop : (doc : Doc) (k p : ℕ) (up : Option ℕ) (before h : List Entry) → 1 ≤ request_delay p h → requests_due k (stop doc k p up before h) ≡ requests_due k h
+requests-stop doc k p None before h later = refl
+requests-stop doc k p (Some i) before h later = requests-stop_as doc.settings.rules.release doc k (identity p i) before h later
+
+requests-happens : (doc : Doc) (k : ℕ) (event : What) (h : List Entry) → ((p : ℕ) → 1 ≤ request_delay p h) → requests_due k (happens doc k event h) ≡ requests_due k h
+requests-happens doc k (what.Rate id ppm) h later = refl
+requests-happens doc k (what.Delay id requests replies) h later = refl
+requests-happens doc k (what.Loss id requests replies) h later = refl
+requests-happens doc k (what.Crash id) h later = requests-crash k k id.0 (alive id.0 h) (script_entry k 1 (Happened (what.Crash id) None) ∷ h)
+requests-happens doc k (what.Start id) h later = requests-start k k id.0 (alive id.0 h) (script_entry k 1 (Happened (what.Start id) None) ∷ h)
+requests-happens doc k (what.Stop id) h later = requests-stop doc k id.0 (only_if (not (is_paused doc id.0 k)) (alive id.0 h)) h (script_entry k 1 (Happened (what.Stop id) None) ∷ h) (later id.0)
+requests-happens doc k (what.Watch id on) h later = refl
+requests-happens doc k (what.Ready id status) h later = refl
+requests-happens doc k (what.Pause id beats) h later = requests-stall k k id.0 beats (alive id.0 h) (script_entry k 1 (Happened (what.Pause id beats) None) ∷ h)
+requests-happens doc k (what.Stall beats) h later = refl
+requests-happens doc k (what.Put key object) h later = refl
+requests-happens doc k (what.Remove key) h later = refl
 
 replies-start : (j k p : ℕ) (up : Option ℕ) (h : List Entry) → replies_due j (start_if_down k 1 p up h) ≡ replies_due j h
 replies-start j k p None h = refl
@@ -81,25 +107,46 @@ replies-released : (doc : Doc) (j k : ℕ) (q : Identity) (request : Option Requ
 replies-released doc j k q None h = refl
 replies-released doc j k q (Some request) h = refl
 
-replies-stop : (doc : Doc) → IsOwn doc → (j k p : ℕ) (up : Option ℕ) (before h : List Entry) → replies_due j (stop doc k p up before h) ≡ replies_due j h
-replies-stop doc own j k p None before h = refl
-replies-stop doc own j k p (Some i) before h =
-    ap (replies_due j) (stop-own doc own k (identity p i) before h)
-    ∙ replies-released doc j k (identity p i) (release doc (identity p i) k before) (entry k 1 (identity p i) Stops ∷ h)
+replies-ended : (j k : ℕ) (q : Identity) (b : Bool) (h : List Entry) → replies_due j (and_end k 1 q b h) ≡ replies_due j h
+replies-ended j k q true h = refl
+replies-ended j k q false h = refl
 
-replies-happens : (doc : Doc) → IsOwn doc → (k : ℕ) (event : What) (h : List Entry) → replies_due k (happens doc k event h) ≡ replies_due k h
-replies-happens doc own k (what.Rate id ppm) h = refl
-replies-happens doc own k (what.Delay id requests replies) h = refl
-replies-happens doc own k (what.Loss id requests replies) h = refl
-replies-happens doc own k (what.Crash id) h = replies-crash k k id.0 (alive id.0 h) (script_entry k 1 (Happened (what.Crash id) None) ∷ h)
-replies-happens doc own k (what.Start id) h = replies-start k k id.0 (alive id.0 h) (script_entry k 1 (Happened (what.Start id) None) ∷ h)
-replies-happens doc own k (what.Stop id) h = replies-stop doc own k k id.0 (only_if (not (is_paused doc id.0 k)) (alive id.0 h)) h (script_entry k 1 (Happened (what.Stop id) None) ∷ h)
-replies-happens doc own k (what.Watch id on) h = refl
-replies-happens doc own k (what.Ready id status) h = refl
-replies-happens doc own k (what.Pause id beats) h = replies-stall k k id.0 beats (alive id.0 h) (script_entry k 1 (Happened (what.Pause id beats) None) ∷ h)
-replies-happens doc own k (what.Stall beats) h = refl
-replies-happens doc own k (what.Put key object) h = refl
-replies-happens doc own k (what.Remove key) h = refl
+replies-first : (doc : Doc) (j k : ℕ) (q : Identity) (o : Option (CallKind × Request)) (h : List Entry) → replies_due j (send_first doc k 1 q o h) ≡ replies_due j h
+replies-first doc j k q None h = replies-ended j k q (acts_on doc q h) h
+replies-first doc j k q (Some call) h = refl
+
+replies-begun : (doc : Doc) (j k : ℕ) (q : Identity) (h : List Entry) → replies_due j (begin_release doc k 1 q false h) ≡ replies_due j h
+replies-begun doc j k q h =
+    replies-first doc j k q (first_call doc.settings.rules.release k (release_from q (wall doc q.process k) (shown q h))) (entry k 1 q (ReleaseBegins false) ∷ h)
+
+replies-halted : (doc : Doc) (j k : ℕ) (q : Identity) (runs led : Bool) (h : List Entry) → replies_due j (stop_releasing doc k q runs led h) ≡ replies_due j h
+replies-halted doc j k q true led h = refl
+replies-halted doc j k q false true h = replies-begun doc j k q (entry k 1 q ReleaseStops ∷ h)
+replies-halted doc j k q false false h = refl
+
+replies-stop_as : (rule : ReleaseRule) (doc : Doc) (j k : ℕ) (q : Identity) (before h : List Entry) → replies_due j (stop_as rule doc k q before h) ≡ replies_due j h
+replies-stop_as rules.Stop doc j k q before h = replies-released doc j k q (release doc q k before) (entry k 1 q Stops ∷ h)
+replies-stop_as rules.Own doc j k q before h = replies-halted doc j k q (is_releasing q before) (leads q before) h
+replies-stop_as rules.Checked doc j k q before h = replies-halted doc j k q (is_releasing q before) (leads q before) h
+replies-stop_as rules.Reread doc j k q before h = replies-halted doc j k q (is_releasing q before) (leads q before) h
+
+replies-stop : (doc : Doc) (j k p : ℕ) (up : Option ℕ) (before h : List Entry) → replies_due j (stop doc k p up before h) ≡ replies_due j h
+replies-stop doc j k p None before h = refl
+replies-stop doc j k p (Some i) before h = replies-stop_as doc.settings.rules.release doc j k (identity p i) before h
+
+replies-happens : (doc : Doc) (k : ℕ) (event : What) (h : List Entry) → replies_due k (happens doc k event h) ≡ replies_due k h
+replies-happens doc k (what.Rate id ppm) h = refl
+replies-happens doc k (what.Delay id requests replies) h = refl
+replies-happens doc k (what.Loss id requests replies) h = refl
+replies-happens doc k (what.Crash id) h = replies-crash k k id.0 (alive id.0 h) (script_entry k 1 (Happened (what.Crash id) None) ∷ h)
+replies-happens doc k (what.Start id) h = replies-start k k id.0 (alive id.0 h) (script_entry k 1 (Happened (what.Start id) None) ∷ h)
+replies-happens doc k (what.Stop id) h = replies-stop doc k k id.0 (only_if (not (is_paused doc id.0 k)) (alive id.0 h)) h (script_entry k 1 (Happened (what.Stop id) None) ∷ h)
+replies-happens doc k (what.Watch id on) h = refl
+replies-happens doc k (what.Ready id status) h = refl
+replies-happens doc k (what.Pause id beats) h = replies-stall k k id.0 beats (alive id.0 h) (script_entry k 1 (Happened (what.Pause id beats) None) ∷ h)
+replies-happens doc k (what.Stall beats) h = refl
+replies-happens doc k (what.Put key object) h = refl
+replies-happens doc k (what.Remove key) h = refl
 
 -- ---- the loop over the events
 
@@ -145,8 +192,8 @@ happening-more doc k before deeds new arriving coming h w v e a here beat place 
       earlier = subst (λ n. (i : ℕ) (x : Event) → i < n → slice_get doc.events i ≡ Some x → x.beat.0 < k + 1) (sym place) (earlier-more (k + 1) w.place doc.events e here (omega (arith, beat)) a.earlier);
       later = subst (λ n. AreLawfulFrom doc k (drop n doc.events)) (sym place) (lawful-rest doc k e rest beat lawful);
       same = ap (λ n. happen_all doc k (drop n doc.events) next) place ∙ on;
-      requests = requests-happens doc a.running.world.rest.document.own k e.what a.now (λ p. (a.running.world.rest.wire.delays p).0.0) ∙ a.requests;
-      replies = replies-happens doc a.running.world.rest.document.own k e.what a.now ∙ a.replies;
+      requests = requests-happens doc k e.what a.now (λ p. (a.running.world.rest.wire.delays p).0.0) ∙ a.requests;
+      replies = replies-happens doc k e.what a.now ∙ a.replies;
     }
 
 scripted-all : (doc : Doc) (k : ℕ) (before deeds : List Deed) (arriving : List Sent) (coming : List Back) (h : List Entry) (w : World) → (a : Happening doc k before arriving coming h w deeds) → a.now ≡ happen_all doc k doc.events h → AreLawfulFrom doc (k + 1) (drop w.place doc.events) → Scripted doc k before arriving coming h w deeds

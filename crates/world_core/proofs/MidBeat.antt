@@ -1,6 +1,5 @@
 -- Layer 3, the world around one process: one process has moved, and the world stands again.
 use Rattle.std.proofs.Common.{All, Vec, Global, ◌≡◌, ℕ, ◌+◌, ◌<◌, ◌≤◌, ◌==◌, ◌++◌, Bool, true, false, List, ◌∷◌, Option, Some, None, slice_get, slice_set, length, refl, sym, ap, ◌∙◌, subst, append_assoc, vec_len, arith, if◌then◌else◌}
-use Rattle.std.proofs.lemmas.List.{append-nil}
 use Rattle.std.proofs.lemmas.Option.{slice_get_within}
 use Rattle.beat_tree.specs.declared.tree.BeatTree.{BeatTree}
 use Rattle.beat_tree.specs.Leaves.{leaf, room}
@@ -9,10 +8,10 @@ use Rattle.kube_objects.specs.declared.deed.Deed.{Deed}
 use Rattle.kube_objects.specs.Answers.{answer, written}
 use Rattle.kube_objects.specs.declared.deed.Act.TheVariants as act
 use Rattle.kube_objects.specs.Document.{Doc, processes, is_up_first}
-use Rattle.kube_objects.specs.Entry.{Entry, Identity, CallKind, Sends, Answers, Delivers, entry, actor_of}
+use Rattle.kube_objects.specs.Entry.{Entry, Identity, Sends, Answers, Delivers, entry, actor_of}
 use Rattle.kube_objects.specs.Identities.{identity}
 use Rattle.kube_objects.specs.Process.{starts}
-use Rattle.kube_objects.specs.Wire.{Sent, Back, send, next_call, request_arrival, reply_arrival}
+use Rattle.kube_objects.specs.Wire.{Sent, Back, next_call, request_arrival, reply_arrival}
 use Rattle.history.specs.Printed.{printed, deeds_of, answer_act}
 use Rattle.history.specs.Steps.{answered, delivered, start_first, start}
 use Rattle.object_store.specs.declared.store.Store.{Store}
@@ -25,12 +24,13 @@ use Rattle.world_process.specs.declared.process.Process.{Process}
 use Rattle.world_process.specs.declared.moves.Received.{Received}
 use Rattle.world_process.specs.declared.moves.Turn.{Turn}
 use Rattle.world_core.specs.declared.world.World.{World}
-use Rattle.world_process.specs.Processes.{IsKept, ProcessStands, SameProcess, AsksOn, Turned, Replied, incarnation_of, clock_of, is_up_first_as, waking_of}
+use Rattle.world_process.specs.Processes.{IsKept, ProcessStands, SameProcess, AsksIn, Turned, Replied, incarnation_of, clock_of, is_up_first_as, waking_of}
 use Rattle.world_process.specs.InForce.{InForceStands}
-use Rattle.world_process.specs.Moves.{AsksOnReply, before_asking, own_turn, started_deeds, ended_deeds, lead_deeds}
+use Rattle.world_process.specs.Moves as moves
+use Rattle.world_process.specs.Moves.{AsksOnReply, restarted, own_turn, started_deeds, ended_deeds, lead_deeds}
 use Rattle.world_process.specs.Plain.{IsKnown, with_facts}
 use Rattle.world_core.specs.Worlds.{AreKept, AreNoted, IsFit, IsReady, SameDocument, Keeps, DocStands, EachStands, OthersStand, WorldWithin, MidBeat, SendsAsked}
-use Rattle.world_core.proofs.Around.{Around, around-world, around-own, around-facts, around-before, around-started}
+use Rattle.world_core.proofs.Around.{Around, around-world, around-own, around-facts, around-restarted, around-started, starts-facts}
 use Rattle.world_process.proofs.Forces.{in_force-beside}
 use Rattle.world_process.proofs.Processes.{process-incarnation, process-others, process-answered, process-up_first}
 use Rattle.world_core.proofs.Lists.{slice_get-set_same, slice_get-set_other, length-set}
@@ -90,11 +90,14 @@ doc-same doc k w v same count s =
       events = same.events ∙ s.events;
       controllers = same.controllers ∙ s.controllers;
       stalls = subst (StallsStand doc) (sym same.stalls) s.stalls;
-      own = s.own;
     }
 
 doc-moved : (doc : Doc) (k i : ℕ) (c0 c1 : Process) (w v : World) → Moved i c0 c1 w v → DocStands doc k w → DocStands doc k v
 doc-moved doc k i c0 c1 w v m s = doc-same doc k w v m.same (ap length m.now ∙ length-set w.processes.items i c1) s
+
+-- next is the history with what a process asks; h is that before
+abbrev pub AsksOn : Doc → ℕ → ℕ → ℕ → List Entry → List Entry → Process → Option Ask → Type 0
+AsksOn doc k step p h next x ask = moves.AsksOn doc k step (identity p (incarnation_of x)) h next (λ g. ProcessStands doc p g x) ask
 
 -- nothing was sent
 pub within-moved : (doc : Doc) (k i : ℕ) (arriving : List Sent) (coming : List Back) (h : List Entry) (c0 c1 : Process) (w v : World) → Moved i c0 c1 w v → v.wire ≡ w.wire → Around doc k i arriving coming h w → ProcessStands doc i h c1 →
@@ -135,21 +138,29 @@ within-sent doc k step i arriving coming h next c0 c1 w v ask m sends a within a
           (each-set doc i (e ∷ h) w.processes.items c0 c1 m.was (λ p c other is. process-others doc p k step q d h c (λ same. other (sym same)) refl (a.others p c other is)) (asked.stands (request_arrival doc i k h)));
     })
 
--- what a process asks was sent, where it asks
-pub within-asked : (doc : Doc) (k step i : ℕ) (arriving : List Sent) (coming : List Back) (h next : List Entry) (c0 c1 : Process) (w v : World) (ask : Option Ask) → Moved i c0 c1 w v → SendsAsked k (identity i (incarnation_of c1)) ask w.stalls w.wire v.wire →
+within-on : (doc : Doc) (k step i : ℕ) (arriving : List Sent) (coming : List Back) (h next : List Entry) (c0 c1 : Process) (w v : World) (ask : Option Ask) → Moved i c0 c1 w v → SendsAsked k (identity i (incarnation_of c1)) ask w.stalls w.wire v.wire →
     Around doc k i arriving coming h w → i < processes doc → AsksOn doc k step i h next c1 ask → WorldWithin doc k arriving coming next v
-within-asked doc k step i arriving coming h next c0 c1 w v None m same a within asks =
+within-on doc k step i arriving coming h next c0 c1 w v None m same a within asks =
     subst (λ g. WorldWithin doc k arriving coming g v) (sym asks.0) (within-moved doc k i arriving coming h c0 c1 w v m same a asks.1)
-within-asked doc k step i arriving coming h next c0 c1 w v (Some ask) m sends a within asked =
+within-on doc k step i arriving coming h next c0 c1 w v (Some ask) m sends a within asked =
     within-sent doc k step i arriving coming h next c0 c1 w v ask m sends a within asked
 
-printed-sent : (doc : Doc) (k step : ℕ) (q : Identity) (kind : CallKind) (ask : Ask) (h next : List Entry) → next ≡ send doc k step q kind ask.request h → printed next ≡ printed h
-printed-sent doc k step q kind ask h next is = ap printed is ∙ append-nil (printed h)
+-- whoever asks is in the incarnation that was started last
+asking-incarnation : (doc : Doc) (k step i : ℕ) (h next : List Entry) (c : Process) (ask : Option Ask) → AsksOn doc k step i h next c ask → incarnation_of c ≡ starts i h
+asking-incarnation doc k step i h next c None asks = process-incarnation doc i h c asks.1
+asking-incarnation doc k step i h next c (Some ask) asked =
+    let q = identity i (incarnation_of c) in
+    process-incarnation doc i (entry k step q (Sends (next_call q k asked.kind ask.request h) None) ∷ h) c (asked.stands None)
 
--- what is asked isn't printed
-pub printed-asked : (doc : Doc) (k step i : ℕ) (h next : List Entry) (c : Process) (ask : Option Ask) → AsksOn doc k step i h next c ask → printed next ≡ printed h
-printed-asked doc k step i h next c None asks = ap printed asks.0
-printed-asked doc k step i h next c (Some ask) asked = printed-sent doc k step (identity i (incarnation_of c)) asked.kind ask h next asked.sent
+-- what a process asks was sent, where it asks, after some quiet entries of its own
+pub within-asked : (doc : Doc) (k step i : ℕ) (arriving : List Sent) (coming : List Back) (h next : List Entry) (c0 c1 : Process) (w v : World) (ask : Option Ask) → Moved i c0 c1 w v → SendsAsked k (identity i (incarnation_of c1)) ask w.stalls w.wire v.wire →
+    Around doc k i arriving coming h w → i < processes doc → AsksIn doc k step i h next c1 ask → WorldWithin doc k arriving coming next v
+within-asked doc k step i arriving coming h next c0 c1 w v ask m sends a within s =
+    let q = identity i (incarnation_of c1) in
+    let base = with_facts k step q s.facts h in
+    let last : incarnation_of c1 ≡ starts i h = asking-incarnation doc k step i base next c1 ask s.asks ∙ starts-facts i k step q s.facts h s.quiet in
+    let known : IsKnown (processes doc) h q = record { within = within; started = omega (arith, last) } in
+    within-on doc k step i arriving coming base next c0 c1 w v ask m sends (around-facts doc k i k step arriving coming q s.facts h w refl s.quiet known a) within s.asks
 
 pub told-more : (before deeds new more : List Deed) (h next : List Entry) → before ++ deeds ≡ printed h → new ≡ deeds ++ more → printed next ≡ printed h ++ more → before ++ new ≡ printed next
 told-more before deeds new more h next told new_is is = ap (λ ds. before ++ ds) new_is ∙ sym (append_assoc before deeds more) ∙ ap (λ ds. ds ++ more) told ∙ sym is
@@ -159,28 +170,26 @@ told-more before deeds new more h next told new_is is = ap (λ ds. before ++ ds)
 abbrev pub turn_told : ℕ → Identity → Turn → List Deed → List Deed
 turn_told k q t deeds = deeds ++ started_deeds k q t.started ++ ended_deeds k q t.ended
 
-told-turn : (doc : Doc) (k i : ℕ) (before deeds : List Deed) (h : List Entry) (c : Process) (t : Turn) → before ++ deeds ≡ printed h → Turned doc k i h c t →
-    before ++ turn_told k (identity i (incarnation_of c)) t deeds ≡ printed (before_asking doc k i h)
-told-turn doc k i before deeds h c t told turned =
-    let s = started_deeds k (identity i (incarnation_of c)) t.started in
-    let e = ended_deeds k (identity i (incarnation_of c)) t.ended in
-    sym (append_assoc before (deeds ++ s) e) ∙ ap (λ x. x ++ e) (sym (append_assoc before deeds s)) ∙ ap (λ x. x ++ s ++ e) told ∙ sym turned.told
+told-twice : (before deeds one other : List Deed) (h next : List Entry) → before ++ deeds ≡ printed h → printed next ≡ printed h ++ one ++ other → before ++ (deeds ++ one ++ other) ≡ printed next
+told-twice before deeds one other h next told is =
+    sym (append_assoc before (deeds ++ one) other) ∙ ap (λ x. x ++ other) (sym (append_assoc before deeds one)) ∙ ap (λ x. x ++ one ++ other) told ∙ sym is
 
 pub running-turned : (doc : Doc) (k i : ℕ) (before deeds new : List Deed) (arriving : List Sent) (coming : List Back) (h : List Entry) (c0 c1 : Process) (w v : World) (t : Turn) → MidBeat doc k before arriving coming h w deeds →
     i < processes doc → Moved i c0 c1 w v → SendsAsked k (identity i (incarnation_of c1)) t.ask w.stalls w.wire v.wire → Turned doc k i h c1 t → new ≡ turn_told k (identity i (incarnation_of c1)) t deeds →
     MidBeat doc k before arriving coming (own_turn doc k i h) v new
 running-turned doc k i before deeds new arriving coming h c0 c1 w v t r within m sends turned new_is =
-    let base = before_asking doc k i h in
-    let around = around-before doc k i arriving coming h w within (around-world doc k i arriving coming h w r.world) in
+    let q = identity i (incarnation_of c1) in
+    let base = restarted doc k i h in
+    let around = around-restarted doc k i arriving coming h w within (around-world doc k i arriving coming h w r.world) in
     record {
       world = within-asked doc k 4 i arriving coming base (own_turn doc k i h) c0 c1 w v t.ask m sends around within turned.asks;
-      told = ap (λ ds. before ++ ds) new_is ∙ told-turn doc k i before deeds h c1 t r.told turned ∙ sym (printed-asked doc k 4 i base (own_turn doc k i h) c1 t.ask turned.asks);
+      told = ap (λ ds. before ++ ds) new_is ∙ told-twice before deeds (started_deeds k q t.started) (ended_deeds k q t.ended) h (own_turn doc k i h) r.told turned.told;
     }
 
 -- ---- a reply
 
 abbrev pub reply_told : ℕ → Identity → Received → List Deed → List Deed
-reply_told k q r deeds = deeds ++ lead_deeds k q r.lead
+reply_told k q r deeds = deeds ++ lead_deeds k q r.lead ++ ended_deeds k q r.ended
 
 within-replied : (doc : Doc) (k i : ℕ) (arriving : List Sent) (coming : List Back) (b : Back) (h : List Entry) (c0 c1 : Process) (w v : World) (ask : Option Ask) → b.who.process ≡ i → i < processes doc → IsKnown (processes doc) h b.who →
     Moved i c0 c1 w v → SendsAsked k (identity i (incarnation_of c1)) ask w.stalls w.wire v.wire → Around doc k i arriving coming h w → AsksOnReply doc k (identity i (incarnation_of c1)) b h (λ g. ProcessStands doc i g c1) ask →
@@ -201,9 +210,10 @@ pub running-replied : (doc : Doc) (k i : ℕ) (before deeds new : List Deed) (ar
     b.who.process ≡ i → i < processes doc → IsKnown (processes doc) h b.who → Moved i c0 c1 w v → SendsAsked k (identity i (incarnation_of c1)) x.ask w.stalls w.wire v.wire → Replied doc k i b h c1 x → new ≡ reply_told k (identity i (incarnation_of c1)) x deeds →
     MidBeat doc k before arriving coming (delivered doc k b h) v new
 running-replied doc k i before deeds new arriving coming b h c0 c1 w v x r process within known m sends replied new_is =
+    let q = identity i (incarnation_of c1) in
     record {
       world = within-replied doc k i arriving coming b h c0 c1 w v x.ask process within known m sends (around-world doc k i arriving coming h w r.world) replied.asks;
-      told = told-more before deeds new (lead_deeds k (identity i (incarnation_of c1)) x.lead) h (delivered doc k b h) r.told new_is replied.told;
+      told = ap (λ ds. before ++ ds) new_is ∙ told-twice before deeds (lead_deeds k q x.lead) (ended_deeds k q x.ended) h (delivered doc k b h) r.told replied.told;
     }
 
 -- ---- what stays plain

@@ -1,10 +1,10 @@
 -- Layer 4, the steps of a beat: a process that has changed keeps the beat of its next turn; what it did it has still done.
-use Rattle.std.proofs.Common.{◌≡◌, ℕ, Bool, List, Option, Some, None, sym, subst}
+use Rattle.std.proofs.Common.{◌≡◌, ℕ, Bool, List, ◌∷◌, Option, Some, None, sym, subst}
 use Rattle.kube_base.specs.declared.numbers.ProcId.{ProcId}
 use Rattle.kube_objects.specs.declared.call.Ask.{Ask}
 use Rattle.kube_objects.specs.declared.script.What.TheVariants as what
 use Rattle.kube_objects.specs.Document.{Doc}
-use Rattle.kube_objects.specs.Entry.{Entry, Identity}
+use Rattle.kube_objects.specs.Entry.{Entry, Identity, Event, script_entry}
 use Rattle.kube_objects.specs.Identities.{identity}
 use Rattle.kube_objects.specs.Wire.{Back}
 use Rattle.history.specs.Steps.{happens}
@@ -14,7 +14,7 @@ use Rattle.world_process.specs.declared.process.Process.{Process}
 use Rattle.world_process.specs.Moves as moves
 use Rattle.world_process.specs.Processes.{Begun, Crashed, IsKept, IsTimed, ProcessStands, Replied, SameProcess, StoppedAs, incarnation_of, waking_of}
 use Rattle.world_process.proofs.Wakes.{timed-same}
-use Rattle.world_core.proofs.Turns.{asks-kept}
+use Rattle.world_core.proofs.Turns.{asks_in-kept}
 
 -- z stands for what y does
 abbrev pub StandsAs : Process → Process → Type 0
@@ -37,7 +37,7 @@ stopped-kept doc k id h y z t keeps same s =
     subst (λ i. moves.StoppedAs doc k id h i (λ g. ProcessStands doc id.0 g z) t) (sym same)
     (record {
       told = s.told;
-      asks = asks-kept doc k 1 (identity id.0 (incarnation_of y)) (moves.stopped doc k id h) (happens doc k (what.Stop id) h) (λ g. ProcessStands doc id.0 g y) (λ g. ProcessStands doc id.0 g z) (λ g. keeps doc id.0 g) t.ask s.asks;
+      asks = asks_in-kept doc k 1 (identity id.0 (incarnation_of y)) (script_entry k 1 (Event (what.Stop id) None) ∷ h) (happens doc k (what.Stop id) h) (λ g. ProcessStands doc id.0 g y) (λ g. ProcessStands doc id.0 g z) (λ g. keeps doc id.0 g) t.ask s.asks;
     })
 
 reply-kept : (doc : Doc) (k : ℕ) (q : Identity) (b : Back) (h : List Entry) (S T : List Entry → Type 0) → ((g : List Entry) → S g → T g) → (ask : Option Ask) → moves.AsksOnReply doc k q b h S ask → moves.AsksOnReply doc k q b h T ask

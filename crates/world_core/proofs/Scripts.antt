@@ -10,9 +10,9 @@ use Rattle.kube_objects.specs.declared.deed.Deed.{Deed}
 use Rattle.kube_objects.specs.declared.script.What.{What}
 use Rattle.kube_objects.specs.declared.script.What.TheVariants as what
 use Rattle.kube_objects.specs.Document.{Doc, processes, is_controller}
-use Rattle.kube_objects.specs.Entry.{Entry, Event, Crashes, Stops, Stalls, entry, script_entry, actor_of}
+use Rattle.kube_objects.specs.Entry.{Entry, Event, Crashes, Stalls, entry, script_entry, actor_of}
 use Rattle.kube_objects.specs.Identities.{identity}
-use Rattle.kube_objects.specs.Newest.{only_if, when}
+use Rattle.kube_objects.specs.Newest.{when}
 use Rattle.kube_objects.specs.Pauses.{is_paused}
 use Rattle.kube_objects.specs.Process.{alive, cancels}
 use Rattle.kube_objects.specs.Stored.{write_of}
@@ -25,9 +25,8 @@ use Rattle.wire_calls.specs.WireStands.{WireStands, is_of_wire}
 use Rattle.wire_calls.proofs.Frames.{wire-beside}
 use Rattle.world_process.specs.declared.process.Process.{Process}
 use Rattle.world_core.specs.declared.world.World.{World}
-use Rattle.world_process.specs.Processes.{ProcessStands, AsksOn, incarnation_of}
+use Rattle.world_process.specs.Processes.{ProcessStands, AsksIn, incarnation_of}
 use Rattle.world_process.specs.InForce.{InForceStands}
-use Rattle.world_process.specs.Moves.{stop_in, stopped}
 use Rattle.world_core.specs.Worlds.{EachStands, MidBeat, SendsAsked}
 use Rattle.world_core.proofs.Around.{Around, around-own, around-started, alive-known, rest-own}
 use Rattle.world_process.proofs.Forces.{sets_standing, in_force-beside}
@@ -35,7 +34,7 @@ use Rattle.world_process.proofs.Names.{lt-from, eq-isnt}
 use Rattle.world_process.proofs.Plainly.{known-later}
 use Rattle.world_process.proofs.Processes.{process-event, process-stalled}
 use Rattle.world_process.proofs.Scripted.{plain-script}
-use Rattle.world_core.proofs.MidBeat.{Moved, Unmoved, doc-same, within-asked, within-moved, printed-asked, told-more, unmoved}
+use Rattle.world_core.proofs.MidBeat.{Moved, Unmoved, doc-same, within-asked, within-moved, told-more, unmoved}
 
 pub controller-within : (doc : Doc) (p : ℕ) → is_controller doc p ≡ true → p < processes doc
 controller-within doc p is = let less = lt-from p (length doc.controllers) is in omega (arith, less, length-append doc.controllers doc.kubelets)
@@ -120,24 +119,9 @@ around-begin doc k id arriving coming h w within a = by_life (alive id.0 h)
     by_life None = around-started doc k id.0 k 1 arriving coming g w within base
     by_life (Some i) = base
 
-pub around-stop : (doc : Doc) (k : ℕ) (id : ProcId) (arriving : List Sent) (coming : List Back) (h : List Entry) (w : World) → id.0 < processes doc → Around doc k id.0 arriving coming h w → Around doc k id.0 arriving coming (stopped doc k id h) w
-around-stop doc k id arriving coming h w within a = by_pause (not (is_paused doc id.0 k))
-  where
-    g : List Entry
-    g = scripted k (what.Stop id) None h
-
-    base : Around doc k id.0 arriving coming g w
-    base = around-event doc k id.0 arriving coming (what.Stop id) h w refl refl refl (λ p other. ap (λ b. b && not (is_paused doc p k)) (eq-isnt id.0 p (apart id.0 p other))) a
-
-    by_life : (up : Option ℕ) → alive id.0 h ≡ up → Around doc k id.0 arriving coming (stop_in k id.0 up g) w
-    by_life None is = base
-    by_life (Some i) is =
-        let known = known-later (processes doc) (script_entry k 1 (Event (what.Stop id) None)) h (identity id.0 i) (alive-known (processes doc) id.0 i h a.rest.plain within is) in
-        around-own doc k id.0 k 1 arriving coming (identity id.0 i) Stops g w refl refl (known-later (processes doc) (entry k 1 (identity id.0 i) Stops) g (identity id.0 i) known) base
-
-    by_pause : (b : Bool) → Around doc k id.0 arriving coming (stop_in k id.0 (only_if b (alive id.0 h)) g) w
-    by_pause true = by_life (alive id.0 h) refl
-    by_pause false = base
+pub around-stop : (doc : Doc) (k : ℕ) (id : ProcId) (arriving : List Sent) (coming : List Back) (h : List Entry) (w : World) → Around doc k id.0 arriving coming h w → Around doc k id.0 arriving coming (scripted k (what.Stop id) None h) w
+around-stop doc k id arriving coming h w a =
+    around-event doc k id.0 arriving coming (what.Stop id) h w refl refl refl (λ p other. ap (λ b. b && not (is_paused doc p k)) (eq-isnt id.0 p (apart id.0 p other))) a
 
 -- ---- pauses
 
@@ -175,10 +159,10 @@ running-moved doc k i before deeds new more arriving coming h next c0 c1 w v r m
 
 -- what it asks was sent, where it asks
 pub running-asked : (doc : Doc) (k i : ℕ) (before deeds new more : List Deed) (arriving : List Sent) (coming : List Back) (h base next : List Entry) (c0 c1 : Process) (w v : World) (ask : Option Ask) → MidBeat doc k before arriving coming h w deeds →
-    i < processes doc → Moved i c0 c1 w v → SendsAsked k (identity i (incarnation_of c1)) ask w.stalls w.wire v.wire → Around doc k i arriving coming base w → AsksOn doc k 1 i base next c1 ask → printed base ≡ printed h ++ more → new ≡ deeds ++ more →
+    i < processes doc → Moved i c0 c1 w v → SendsAsked k (identity i (incarnation_of c1)) ask w.stalls w.wire v.wire → Around doc k i arriving coming base w → AsksIn doc k 1 i base next c1 ask → printed next ≡ printed h ++ more → new ≡ deeds ++ more →
     MidBeat doc k before arriving coming next v new
 running-asked doc k i before deeds new more arriving coming h base next c0 c1 w v ask r within m sends around asks printed_is new_is =
     record {
       world = within-asked doc k 1 i arriving coming base next c0 c1 w v ask m sends around within asks;
-      told = told-more before deeds new more h base r.told new_is printed_is ∙ sym (printed-asked doc k 1 i base next c1 ask asks);
+      told = told-more before deeds new more h next r.told new_is printed_is;
     }

@@ -126,7 +126,7 @@ world-skips doc k at h w most quiet s =
     record {
       within = record {
         rest = record {
-          document = record { at = refl; restart = d.restart; count = d.count; epoch = d.epoch; micros = d.micros; events = d.events; controllers = d.controllers; stalls = d.stalls; own = d.own };
+          document = record { at = refl; restart = d.restart; count = d.count; epoch = d.epoch; micros = d.micros; events = d.events; controllers = d.controllers; stalls = d.stalls };
           plain = r.plain;
           store = r.store;
           wire = wire-skips (processes doc) k at.0 h w.wire most (silent-quiet doc k at.0 h quiet) r.wire;

@@ -3,7 +3,7 @@ use Rattle.std.proofs.Common.{◌≡◌, ℕ, ◌<◌, not, Bool, true, false, L
 use Rattle.std.specs.Prelude.{if◌then◌else◌}
 use Rattle.kube_objects.specs.declared.deed.Deed.{Deed}
 use Rattle.kube_objects.specs.Document.{Doc, is_controller, processes}
-use Rattle.kube_objects.specs.Elector.{in_term, acts}
+use Rattle.kube_objects.specs.Elector.{leads_on, acts}
 use Rattle.kube_objects.specs.Entry.{Entry, Identity, Tick, Ticks, entry}
 use Rattle.kube_objects.specs.Identities.{identity}
 use Rattle.kube_objects.specs.Modes.{nodes}
@@ -26,7 +26,7 @@ use Rattle.world_process.specs.declared.process.Process.{Process}
 use Rattle.world_process.specs.Moves.{own_ticks, own_ticks_as, own_turn_as}
 use Rattle.world_process.specs.OwnTerm.{CanTick}
 use Rattle.world_process.specs.Plain.{IsFew, IsKnown, IsPlain}
-use Rattle.world_process.specs.Processes.{ProcessStands, Ticked, in_term_as, in_term_if_up, in_term_now}
+use Rattle.world_process.specs.Processes.{ProcessStands, Ticked, leads_as, leads_if_up, leads_now}
 use Rattle.world_process.proofs.Forces.{in_force-beside}
 use Rattle.world_process.proofs.Grows.{Grows, few-before, grows-same, grows-ticks}
 use Rattle.world_process.proofs.Plainly.{known-later, plain-entry}
@@ -40,16 +40,16 @@ use Rattle.world_core.proofs.MidBeat.{Moved, within-moved}
 
 -- ---- whose tick it is
 
--- whoever is in its term is a controller, in the incarnation in which it is up
-pub record InTermAs (doc : Doc) (k p i : ℕ) (h : List Entry) : Type 0 where
+-- whoever leads on is a controller, in the incarnation in which it is up
+pub record LeadsAs (doc : Doc) (k p i : ℕ) (h : List Entry) : Type 0 where
   pub sort : is_controller doc p ≡ true
-  pub term : in_term doc (identity p i) k h ≡ true
+  pub term : leads_on doc.settings.rules.release doc (identity p i) k h ≡ true
 
-pub term-is : (doc : Doc) (k p i : ℕ) (h : List Entry) → alive p h ≡ Some i → in_term_now doc k p h ≡ true → InTermAs doc k p i h
+pub term-is : (doc : Doc) (k p i : ℕ) (h : List Entry) → alive p h ≡ Some i → leads_now doc k p h ≡ true → LeadsAs doc k p i h
 term-is doc k p i h up acts = by_sort (is_controller doc p) refl acts
   where
-    by_sort : (b : Bool) → is_controller doc p ≡ b → in_term_as doc k p b h ≡ true → InTermAs doc k p i h
-    by_sort true sort is = record { sort = sort; term = sym (ap (λ o. in_term_if_up doc k p o h) up) ∙ is }
+    by_sort : (b : Bool) → is_controller doc p ≡ b → leads_as doc k p b h ≡ true → LeadsAs doc k p i h
+    by_sort true sort is = record { sort = sort; term = sym (ap (λ o. leads_if_up doc k p o h) up) ∙ is }
     by_sort false sort is = cc
 
 -- ---- what a tick finds
@@ -130,7 +130,7 @@ around-ticks doc k p arriving coming h w s within r store =
     let b = beside-ticks doc k p arriving coming w h within (record { plain = r.rest.plain; wire = r.rest.wire; in_force = r.rest.in_force; others = λ o x other is. r.processes o x is }) in
     record {
       rest = record {
-        document = record { at = d.at; restart = d.restart; count = d.count; epoch = d.epoch; micros = d.micros; events = d.events; controllers = d.controllers; stalls = d.stalls; own = d.own };
+        document = record { at = d.at; restart = d.restart; count = d.count; epoch = d.epoch; micros = d.micros; events = d.events; controllers = d.controllers; stalls = d.stalls };
         plain = b.plain;
         store = store;
         wire = b.wire;
@@ -161,9 +161,9 @@ keeps-stored w v s keeps r =
     }
 
 -- no tick
-pub running-unticked : (doc : Doc) (k p : ℕ) (before deeds : List Deed) (arriving : List Sent) (coming : List Back) (h : List Entry) (w : World) → in_term_now doc k p h ≡ false
+pub running-unticked : (doc : Doc) (k p : ℕ) (before deeds : List Deed) (arriving : List Sent) (coming : List Back) (h : List Entry) (w : World) → leads_now doc k p h ≡ false
     → MidBeat doc k before arriving coming h w deeds → MidBeat doc k before arriving coming (own_ticks doc k p h) w deeds
-running-unticked doc k p before deeds arriving coming h w none r = subst (λ g. MidBeat doc k before arriving coming g w deeds) (sym (ticks-none doc r.world.rest.document.own k p h none)) r
+running-unticked doc k p before deeds arriving coming h w none r = subst (λ g. MidBeat doc k before arriving coming g w deeds) (sym (ticks-none doc k p h none)) r
 
 -- nor while the store stands still
 pub running-stalled : (doc : Doc) (k p : ℕ) (before deeds : List Deed) (arriving : List Sent) (coming : List Back) (h : List Entry) (w : World) → is_stalled doc k ≡ true

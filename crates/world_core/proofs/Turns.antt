@@ -11,20 +11,25 @@ use Rattle.world_process.specs.declared.moves.Turn.{Turn}
 use Rattle.world_process.specs.declared.process.Process.{Process}
 use Rattle.world_process.specs.Moves as moves
 use Rattle.world_process.specs.Moves.{own_turn}
-use Rattle.world_process.specs.Processes.{AsksOn, ProcessStands, SameProcess, Turned, incarnation_of}
+use Rattle.world_process.specs.Processes.{ProcessStands, SameProcess, Turned, incarnation_of}
+use Rattle.world_process.specs.Plain.{with_facts}
 use Rattle.world_process.proofs.Processes.{process-incarnation}
 use Rattle.world_core.specs.declared.world.World.{World}
 use Rattle.world_core.specs.Worlds.{MidBeat}
 use Rattle.world_core.specs.Waits.{awake_turn, turn_if}
 use Rattle.world_core.proofs.Around.{around-world}
-use Rattle.world_core.proofs.MidBeat.{Moved, within-moved}
+use Rattle.world_core.proofs.MidBeat.{AsksOn, Moved, within-moved}
 
 pub same-twice : (x y z : Process) → SameProcess x y → SameProcess y z → SameProcess x z
 same-twice x y z a b = record { me = b.me ∙ a.me; clock = b.clock ∙ a.clock }
 
-pub asks-kept : (doc : Doc) (k step : ℕ) (q : Identity) (h next : List Entry) (S T : List Entry → Type 0) → ((g : List Entry) → S g → T g) → (ask : Option Ask) → moves.AsksOn doc k step q h next S ask → moves.AsksOn doc k step q h next T ask
+asks-kept : (doc : Doc) (k step : ℕ) (q : Identity) (h next : List Entry) (S T : List Entry → Type 0) → ((g : List Entry) → S g → T g) → (ask : Option Ask) → moves.AsksOn doc k step q h next S ask → moves.AsksOn doc k step q h next T ask
 asks-kept doc k step q h next S T keeps None s = (s.0, keeps h s.1)
 asks-kept doc k step q h next S T keeps (Some ask) s = record { kind = s.kind; sent = s.sent; number = s.number; stands = λ arrives. keeps _ (s.stands arrives) }
+
+pub asks_in-kept : (doc : Doc) (k step : ℕ) (q : Identity) (h next : List Entry) (S T : List Entry → Type 0) → ((g : List Entry) → S g → T g) → (ask : Option Ask) → moves.AsksIn doc k step q h next S ask → moves.AsksIn doc k step q h next T ask
+asks_in-kept doc k step q h next S T keeps ask s =
+    record { facts = s.facts; quiet = s.quiet; asks = asks-kept doc k step q (with_facts k step q s.facts h) next S T keeps ask s.asks }
 
 -- a history for which it stands
 stands-for : (doc : Doc) (k step p : ℕ) (h next : List Entry) (x : Process) (ask : Option Ask) → AsksOn doc k step p h next x ask → (g : List Entry) × ProcessStands doc p g x
@@ -37,11 +42,12 @@ same-incarnation doc p x y keeps t = process-incarnation doc p t.0 x t.1 ∙ sym
 pub turned-kept : (doc : Doc) (k p : ℕ) (h : List Entry) (x y : Process) (t : Turn) → ((g : List Entry) → ProcessStands doc p g x → ProcessStands doc p g y) → Turned doc k p h x t → Turned doc k p h y t
 turned-kept doc k p h x y t keeps turned =
     let sort = is_controller doc p in
-    let base = moves.before_asking_as doc k p sort h in
+    let base = moves.restarted_as doc k p sort h in
     let next = moves.own_turn_as doc k p sort h in
-    let same = same-incarnation doc p x y keeps (stands-for doc k 4 p base next x t.ask turned.asks) in
+    let q = identity p (incarnation_of x) in
+    let same = same-incarnation doc p x y keeps (stands-for doc k 4 p (with_facts k 4 q turned.asks.facts base) next x t.ask turned.asks.asks) in
     subst (λ i. moves.TurnedAs doc k p sort h i (λ g. ProcessStands doc p g y) t) same
-    (record { told = turned.told; asks = asks-kept doc k 4 (identity p (incarnation_of x)) base next (λ g. ProcessStands doc p g x) (λ g. ProcessStands doc p g y) keeps t.ask turned.asks })
+    (record { told = turned.told; asks = asks_in-kept doc k 4 q base next (λ g. ProcessStands doc p g x) (λ g. ProcessStands doc p g y) keeps t.ask turned.asks })
 
 -- ---- the world with a process that did nothing but to keep that beat
 

@@ -26,7 +26,6 @@ use Rattle.naming_laws.proofs.Naming.{deeds_writable, items_writable}
 use Rattle.naming_laws.proofs.Readings.{item_timely}
 use Rattle.object_store.specs.StoreAnswers.{object_of}
 use Rattle.script_reader.specs.Lawful.{IsLawfulDoc, IsWellNamed}
-use Rattle.script_reader.proofs.OwnDocuments.{own-document}
 use Rattle.world_core.proofs.Fewness.{few-beat, objects-most}
 use Rattle.world_core.proofs.Ranges.{end-most}
 use Rattle.world_core.specs.Worlds.{AreWritable}
@@ -40,7 +39,7 @@ all-after P (x ∷ xs) ys all = all-after P xs ys all.1
 pub lawful-few : (doc : Doc) (k : ℕ) → IsLawfulDoc doc → k ≤ end_beat doc → IsFew (beat doc (history doc k) k)
 lawful-few doc k lawful within =
     let least : end_beat doc ≤ 604800000 = end-most (end_beat doc) doc.settings.beat_millis lawful.settings.beat_least lawful.settings.end in
-    few-beat doc (own-document doc lawful) k calls_are_few starts_are_few nodes_are_few (omega (arith, least, within)) (objects-most doc.objects lawful.few_objects) lawful.few_events
+    few-beat doc k calls_are_few starts_are_few nodes_are_few (omega (arith, least, within)) (objects-most doc.objects lawful.few_objects) lawful.few_events
 
 pub beat-writable : (names : List (List ℕ)) (doc : Doc) (k : ℕ) (deeds : List Deed) → AreNames names → IsLawfulDoc doc → IsWellNamed names doc → k ≤ end_beat doc
     → printed (history doc k) ++ deeds ≡ printed (beat doc (history doc k) k) → AllByRecursion (IsWritable names (processes doc)) deeds

@@ -5,7 +5,7 @@ use Rattle.kube_base.specs.declared.numbers.Local.{Local}
 use Rattle.kube_base.specs.declared.numbers.ProcId.{ProcId}
 use Rattle.kube_objects.specs.Clocks.{local, wall}
 use Rattle.kube_objects.specs.Document.{Doc, end_beat, is_controller, is_up_first, processes}
-use Rattle.kube_objects.specs.Elector.{in_term}
+use Rattle.kube_objects.specs.Elector.{leads_on}
 use Rattle.kube_objects.specs.Entry.{Entry, Identity}
 use Rattle.kube_objects.specs.Newest.{only_if}
 use Rattle.kube_objects.specs.Pauses.{is_paused}
@@ -48,22 +48,22 @@ pub record IsAsleepBy (doc : Doc) (j p : ℕ) (w : Wakes) : Type 0 where
   pub wall : (is_early (wall doc p j) w.wall || is_early (local doc p j) (room_of w)) ≡ true
   pub local : is_early (local doc p j) (reading_of w) ≡ true
 
--- ---- k is the next beat: a controller whose term isn't over at it waits for its term too
+-- ---- k is the next beat: a controller whose term isn't over at it, or that acts in its release, waits for its term too
 
 -- a reading that no clock comes to is kept as the greatest u64
 abbrev pub kept_reading : Doc → Identity → List Entry → Option ℕ
 kept_reading doc q h = sooner (sync_at doc q h) (option_map kept (synced_reading doc q h))
 
 abbrev pub acting_reading : Doc → ℕ → ℕ → Bool → List Entry → Option ℕ
-acting_reading doc k p true h = if_up p (λ q. only_if (in_term doc q k h) (kept_reading doc q h)) (alive p h)
+acting_reading doc k p true h = if_up p (λ q. only_if (leads_on doc.settings.rules.release doc q k h) (kept_reading doc q h)) (alive p h)
 acting_reading doc k p false h = None
 
 abbrev pub acting_time : Doc → ℕ → ℕ → Bool → List Entry → Option ℕ
-acting_time doc k p true h = if_up p (λ q. only_if (in_term doc q k h) (term_time doc q h)) (alive p h)
+acting_time doc k p true h = if_up p (λ q. only_if (leads_on doc.settings.rules.release doc q k h) (term_time doc q h)) (alive p h)
 acting_time doc k p false h = None
 
 abbrev pub acting_room : Doc → ℕ → ℕ → Bool → List Entry → Option ℕ
-acting_room doc k p true h = if_up p (λ q. only_if (in_term doc q k h) (room_at doc q h)) (alive p h)
+acting_room doc k p true h = if_up p (λ q. only_if (leads_on doc.settings.rules.release doc q k h) (room_at doc q h)) (alive p h)
 acting_room doc k p false h = None
 
 -- the least reading from which on the turn adds an entry for another cause than a sync that is due at once, an untaint, a swap or a delete

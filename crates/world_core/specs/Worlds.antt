@@ -16,7 +16,6 @@ use Rattle.kube_objects.specs.Document.{Doc, processes, restart_delay, beat_micr
 use Rattle.kube_objects.specs.Entry.{Entry, Identity, Call, Answers, Sends, entry}
 use Rattle.kube_objects.specs.InFlight.{requests_due, replies_due}
 use Rattle.kube_objects.specs.Kinds.{IsOfKind}
-use Rattle.kube_objects.specs.Own.{IsOwn}
 use Rattle.kube_objects.specs.Wire.{Sent, Back, request_arrival, reply_arrival}
 use Rattle.history.specs.History.{beat}
 use Rattle.history.specs.Printed.{printed}
@@ -113,7 +112,7 @@ pub record Keeps (old new : World) : Type 0 where
 
 -- ---- the relation
 
--- what the world keeps of a document, which goes by the project's own rules but for those of elections
+-- what the world keeps of a document
 pub record DocStands (doc : Doc) (k : ℕ) (w : World) : Type 0 where
   pub at : w.beat.0 ≡ k
   pub restart : w.restart ≡ restart_delay doc
@@ -123,7 +122,6 @@ pub record DocStands (doc : Doc) (k : ℕ) (w : World) : Type 0 where
   pub events : w.events ≡ doc.events
   pub controllers : w.controllers ≡ length doc.controllers
   pub stalls : StallsStand doc w.stalls
-  pub own : IsOwn doc
 
 -- the events before a place were of earlier beats, and those from it on are of this beat or later
 pub record IsPlaced (doc : Doc) (k place : ℕ) : Type 0 where
@@ -145,14 +143,13 @@ EachStands doc h xs = (p : ℕ) (x : Process) → slice_get xs p ≡ Some x → 
 abbrev pub OthersStand : Doc → ℕ → List Entry → List Process → Type 0
 OthersStand doc q h xs = (p : ℕ) (x : Process) → ¬ (p ≡ q) → slice_get xs p ≡ Some x → ProcessStands doc p h x
 
--- what processes are made of is what the document has, which goes by the project's own rules but for those of elections
+-- what processes are made of is what the document has
 pub record AreMadeOf (doc : Doc) (s : Settings) (cs ks : List Proc) (ws : List (List ℕ)) (es : List Event) : Type 0 where
   pub settings : doc.settings ≡ s
   pub controllers : doc.controllers ≡ cs
   pub kubelets : doc.kubelets ≡ ks
   pub waits : doc.waits ≡ ws
   pub events : doc.events ≡ es
-  pub own : IsOwn doc
 
 pub record WorldWithin (doc : Doc) (k : ℕ) (arriving : List Sent) (coming : List Back) (h : List Entry) (w : World) : Type 0 where
   pub rest : RestStands doc k arriving coming h w

@@ -7,7 +7,7 @@ use Rattle.kube_objects.specs.Document.{own_waits_each}
 use Rattle.manifest_json.specs.declared.scale.Scale.TheVariants as scales
 use Rattle.manifest_laws.specs.Laws.{FittingAreApart}
 use Rattle.script_reader.specs.Lawful.{IsLawful, IsLawfulDoc, AreWaits}
-use Rattle.script_reader.proofs.OwnDocuments.{own-waits}
+use Rattle.script_reader.proofs.OwnWaits.{own-waits}
 use Rattle.world_gen.specs.Draws.{start, crashes}
 use Rattle.world_gen.specs.Generated.{controllers, event, kubelets, by_beat, middle, generated}
 use Rattle.world_gen.proofs.Ranges.{Fits, settings-lawful, controllers-lawful, controllers-apart, kubelets-lawful, kubelets-apart, kubelets-count, crashes-all-fit, in_order, events-few, crashes-pause_nobody, crashes-stall_nothing}

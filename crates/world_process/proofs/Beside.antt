@@ -7,7 +7,7 @@ use Rattle.kube_objects.specs.Entry.{Entry, Identity, Call, Fact, Answers, Stall
 use Rattle.kube_objects.specs.Identities.{identity, is_by}
 use Rattle.kube_objects.specs.Process.{alive, ended, starts}
 use Rattle.leader_elector.specs.Moves.{is_of_elector}
-use Rattle.leader_elector.proofs.Frames.{candidate-foreign, leading-foreign, candidate-quiet, leading-quiet}
+use Rattle.leader_elector.proofs.Frames.{candidate-foreign, leading-foreign, releasing-foreign, candidate-quiet, leading-quiet, releasing-quiet}
 use Rattle.world_process.specs.declared.controller.Controller.{Controller}
 use Rattle.world_process.specs.declared.controller.Role.{Role}
 use Rattle.world_process.specs.declared.controller.Role.TheVariants as role
@@ -17,12 +17,14 @@ use Rattle.world_process.proofs.Lives.{is_event, alive-others, ended-others, sta
 use Rattle.world_process.proofs.Names.{of_process-other, is_same-apart, is_same-other}
 use Rattle.world_process.proofs.OwnTerm.{keeps-beside, keeps-others}
 use Rattle.world_process.proofs.Standing.{stands-role}
+use Rattle.world_process.proofs.Terms.{leads-kept}
 
 -- an entry that leaves the life as it is, and is by another identity
 role-beside : (doc : Doc) (p i : ℕ) (e : Entry) (h : List Entry) (r : Role) → alive p (e ∷ h) ≡ alive p h → ended doc p (e ∷ h) ≡ ended doc p h → is_by (identity p i) e.actor ≡ false → RoleStands doc p i h r → RoleStands doc p i (e ∷ h) r
 role-beside doc p i e h (role.Down at) lives ends other s = (lives ∙ s.0, s.1 ∙ ap (restart_reading doc p) (sym ends))
 role-beside doc p i e h (role.Candidate x) lives ends other s = (lives ∙ s.0, candidate-foreign doc (identity p i) e h x other s.1)
 role-beside doc p i e h (role.Leading x) lives ends other s = (lives ∙ s.0, leading-foreign doc (identity p i) e h x other s.1)
+role-beside doc p i e h (role.Releasing x) lives ends other s = (lives ∙ s.0, releasing-foreign doc (identity p i) e h x other s.1, leads-kept (identity p i) e h s.2)
 
 -- another process's entry
 pub controller-others : (doc : Doc) (p k step : ℕ) (q : Identity) (d : Fact) (h : List Entry) (c : Controller) → ¬ (q.process ≡ p) → is_event d ≡ false → ControllerStands doc p h c → ControllerStands doc p (entry k step q d ∷ h) c
@@ -43,6 +45,7 @@ pub role-quiet : (doc : Doc) (p i : ℕ) (e : Entry) (h : List Entry) (r : Role)
 role-quiet doc p i e h (role.Down at) lives ends quiet s = (lives ∙ s.0, s.1 ∙ ap (restart_reading doc p) (sym ends))
 role-quiet doc p i e h (role.Candidate x) lives ends quiet s = (lives ∙ s.0, candidate-quiet doc (identity p i) e h x quiet s.1)
 role-quiet doc p i e h (role.Leading x) lives ends quiet s = (lives ∙ s.0, leading-quiet doc (identity p i) e h x quiet s.1)
+role-quiet doc p i e h (role.Releasing x) lives ends quiet s = (lives ∙ s.0, releasing-quiet doc (identity p i) e h x quiet s.1, leads-kept (identity p i) e h s.2)
 
 pub controller-quiet : (doc : Doc) (p : ℕ) (e : Entry) (h : List Entry) (c : Controller) → alive p (e ∷ h) ≡ alive p h → ended doc p (e ∷ h) ≡ ended doc p h → starts p (e ∷ h) ≡ starts p h → is_beside e.fact ≡ true → is_of_elector e.fact ≡ false →
     ControllerStands doc p h c → ControllerStands doc p (e ∷ h) c

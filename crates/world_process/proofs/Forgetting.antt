@@ -7,6 +7,7 @@ use Rattle.kube_objects.specs.Document.{Doc}
 use Rattle.kube_objects.specs.Elector.{leads}
 use Rattle.kube_objects.specs.Entry.{Entry, Identity}
 use Rattle.kube_objects.specs.Identities.{identity}
+use Rattle.kube_objects.specs.Wire.{Back}
 use Rattle.history.specs.Printed.{printed}
 use Rattle.history.specs.Steps.{attempts}
 use Rattle.history_laws.proofs.Plainly.{none_is}
@@ -15,7 +16,7 @@ use Rattle.controller_core.specs.TermStands.{TermStands}
 use Rattle.watch_cache.specs.Stands.{ticks}
 use Rattle.world_process.specs.declared.controller.Controller.{Controller}
 use Rattle.world_process.specs.declared.moves.Stopped.{Stopped}
-use Rattle.world_process.specs.Controllers.{ControllerStands, Crashed, StoppedAs, Timed, is_up_as}
+use Rattle.world_process.specs.Controllers.{ControllerStands, Crashed, Replied, StoppedAs, Timed, is_up_as}
 use Rattle.world_process.specs.Moves as moves
 use Rattle.world_process.specs.Moves.{ended_deeds, settled}
 use Rattle.world_process.proofs.Scripted.{down-is}
@@ -27,6 +28,9 @@ asks-forgets : (doc : Doc) (k step : ℕ) (q : Identity) (h next : List Entry) (
 asks-forgets doc k step q h next Old New None on a = (a.0, on h a.1)
 asks-forgets doc k step q h next Old New (Some ask) on a = record { kind = a.kind; sent = a.sent; number = a.number; stands = λ arrives. on _ (a.stands arrives) }
 
+asks-in-forgets : (doc : Doc) (k step : ℕ) (q : Identity) (h next : List Entry) (Old New : List Entry → Type 0) (ask : Option Ask) → ((g : List Entry) → Old g → New g) → moves.AsksIn doc k step q h next Old ask → moves.AsksIn doc k step q h next New ask
+asks-in-forgets doc k step q h next Old New ask on a = record { facts = a.facts; quiet = a.quiet; asks = asks-forgets doc k step q _ next Old New ask on a.asks }
+
 pub crashed-forgets : (doc : Doc) (k : ℕ) (id : ProcId) (h : List Entry) (old new : Controller) (b : Bool) → new.incarnation ≡ old.incarnation → StandsOn doc id.0 old new → Crashed doc k id h old b → Crashed doc k id h new b
 crashed-forgets doc k id h old new b same on x =
     subst (λ i. moves.Crashed doc k id h i (λ g. ControllerStands doc id.0 g new) b) (sym same) (record { stands = on _ x.stands; told = x.told })
@@ -34,14 +38,21 @@ crashed-forgets doc k id h old new b same on x =
 pub stopped-forgets : (doc : Doc) (k : ℕ) (id : ProcId) (h : List Entry) (old new : Controller) (s : Stopped) → new.incarnation ≡ old.incarnation → StandsOn doc id.0 old new → StoppedAs doc k id h old s → StoppedAs doc k id h new s
 stopped-forgets doc k id h old new s same on x =
     subst (λ i. moves.StoppedAs doc k id h i (λ g. ControllerStands doc id.0 g new) s) (sym same)
-    (record { told = x.told; asks = asks-forgets doc _ _ _ _ _ (λ g. ControllerStands doc id.0 g old) (λ g. ControllerStands doc id.0 g new) s.ask on x.asks })
+    (record { told = x.told; asks = asks-in-forgets doc _ _ _ _ _ (λ g. ControllerStands doc id.0 g old) (λ g. ControllerStands doc id.0 g new) s.ask on x.asks })
 
 pub timed-forgets : (doc : Doc) (k p : ℕ) (h : List Entry) (old new : Controller) (ended : Bool) (ask : Option Ask) → new.incarnation ≡ old.incarnation → StandsOn doc p old new → Timed doc k p h old ended ask → Timed doc k p h new ended ask
 timed-forgets doc k p h old new ended ask same on x = record {
-  told = subst (λ i. printed (settled doc k p h) ≡ printed h ++ ended_deeds k (identity p i) ended) (sym same) x.told;
-  asks = subst (λ i. moves.AsksOn doc k 4 (identity p i) (settled doc k p h) (attempts doc k p (settled doc k p h)) (λ g. ControllerStands doc p g new) ask) (sym same)
-      (asks-forgets doc _ _ _ _ _ (λ g. ControllerStands doc p g old) (λ g. ControllerStands doc p g new) ask on x.asks);
+  told = subst (λ i. printed (attempts doc k p (settled doc k p h)) ≡ printed h ++ ended_deeds k (identity p i) ended) (sym same) x.told;
+  asks = subst (λ i. moves.AsksIn doc k 4 (identity p i) h (attempts doc k p (settled doc k p h)) (λ g. ControllerStands doc p g new) ask) (sym same)
+      (asks-in-forgets doc _ _ _ _ _ (λ g. ControllerStands doc p g old) (λ g. ControllerStands doc p g new) ask on x.asks);
 }
+
+-- a reply that ends a release asks nothing
+pub replied-forgets : (doc : Doc) (k p : ℕ) (b : Back) (h : List Entry) (old new : Controller) (ended : Bool) → new.incarnation ≡ old.incarnation → StandsOn doc p old new → Replied doc k p b h old (record { lead = None; ended = ended; ask = None }) →
+    Replied doc k p b h new (record { lead = None; ended = ended; ask = None })
+replied-forgets doc k p b h old new ended same on x =
+    subst (λ i. moves.Replied doc k (identity p i) b h (λ g. ControllerStands doc p g new) (record { lead = None; ended = ended; ask = None })) (sym same)
+    (record { told = x.told; asks = record { facts = x.asks.facts; quiet = x.asks.quiet; adds = x.asks.adds; stands = on _ x.asks.stands } })
 
 -- of one that is down only the settings of its term are known
 pub stands-forgets : (doc : Doc) (p : ℕ) (h : List Entry) (c : Controller) (t : Term) → is_up_as c.role ≡ false → ControllerStands doc p h c → ((q : Identity) (g : List Entry) → ticks q g ≡ 0 → leads q g ≡ false → TermStands doc q g t) →

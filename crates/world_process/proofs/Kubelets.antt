@@ -45,7 +45,6 @@ stands-rounds doc p h g b r s same stands =
       rounds = stands;
       pauses = s.pauses;
       waking = s.waking;
-      own = s.own;
     }
 
 pub rounds-at : (doc : Doc) (p : ℕ) (h : List Entry) (b : Kubelet) (r : Option rounds.Kubelet) → KubeletStands doc p h b → b.rounds ≡ r → RoundsStand doc p b.incarnation h r
@@ -109,7 +108,6 @@ kubelet-started doc k step p i h b x s is stands =
       rounds = (alive-start k step (identity p (starts p h + 1)) h ∙ ap (λ (n : ℕ). Some n) (sym is), subst (λ n. AreRounds doc (identity p n) (start k step p h) x) (sym is) stands);
       pauses = s.pauses;
       waking = s.waking;
-      own = s.own;
     }
 
 pub kubelet-down : (doc : Doc) (p : ℕ) (h : List Entry) (b : Kubelet) → is_some b.rounds ≡ false → KubeletStands doc p h b → alive p h ≡ None

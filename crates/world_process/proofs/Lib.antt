@@ -15,13 +15,17 @@ pub mod Begun
 pub mod Times
 pub mod OwnTerm
 -- ---- a controller beside entries of others, and through its own
+pub mod Terms
+pub mod Quiet
+pub mod Releases
 pub mod Standing
 pub mod Beside
 pub mod Turning
 pub mod Restarts
 pub mod Scripted
-pub mod Terms
+pub mod Stopping
 pub mod Timers
+pub mod Ending
 pub mod Answering
 pub mod Acting
 pub mod Forgetting

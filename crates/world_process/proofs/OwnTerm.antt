@@ -86,6 +86,15 @@ keeps-beside doc p e h is = keeps-entry doc p e h (λ i up. was-up p i e h is up
 pub keeps-both : (doc : Doc) (p : ℕ) (e f : Entry) (h : List Entry) → is_beside e.fact ≡ true → is_beside f.fact ≡ true → KeepsTerm doc p h (e ∷ f ∷ h)
 keeps-both doc p e f h upper lower t s = keeps-beside doc p e (f ∷ h) upper t (keeps-beside doc p f h lower t s)
 
+-- the end of a leader that acts in its release
+pub keeps-and-end : (doc : Doc) (p k step : ℕ) (q : Identity) (b : Bool) (h : List Entry) → KeepsTerm doc p h (and_end k step q b h)
+keeps-and-end doc p k step q true h = keeps-beside doc p (entry k step q StepsDown) h refl
+keeps-and-end doc p k step q false h = λ t s. s
+
+-- where the process goes down, whatever is added
+pub keeps-down : (doc : Doc) (p : ℕ) (h g : List Entry) → alive p g ≡ None → KeepsTerm doc p h g
+keeps-down doc p h g down t s = record { settings = s.settings; each = λ i up. absurd (none_is i (sym down ∙ up)) }
+
 -- an expiry, where there is one
 pub keeps-expired : (doc : Doc) (k p : ℕ) (q : Identity) (h : List Entry) → KeepsTerm doc p h (expired doc k q h)
 keeps-expired doc k p q h = by_call (call_in q h)

@@ -42,6 +42,7 @@ pub role-up : (doc : Doc) (p i : ℕ) (h : List Entry) (r : Role) → RoleStands
 role-up doc p i h (role.Down at) s = s.0
 role-up doc p i h (role.Candidate x) s = s.0
 role-up doc p i h (role.Leading x) s = s.0
+role-up doc p i h (role.Releasing x) s = s.0
 
 pub rounds-up : (doc : Doc) (p i : ℕ) (h : List Entry) (r : Option rounds.Kubelet) → RoundsStand doc p i h r → alive p h ≡ when (is_some r) i
 rounds-up doc p i h None s = s

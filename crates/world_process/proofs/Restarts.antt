@@ -46,6 +46,7 @@ pub down-at : (doc : Doc) (p i : ℕ) (h : List Entry) (r : Role) (at : Local) �
 down-at doc p i h (role.Down o) at s is = (s.0, ap reading_of (sym is) ∙ s.1)
 down-at doc p i h (role.Candidate x) at s is = cc
 down-at doc p i h (role.Leading x) at s is = cc
+down-at doc p i h (role.Releasing x) at s is = cc
 
 -- where it isn't due yet
 pub restart-waits : (doc : Doc) (k p : ℕ) (h : List Entry) (c : Controller) (at : Local) → ControllerStands doc p h c → waiting_of c.role ≡ Some at → local doc p k < at.0 → restart doc k p h ≡ h
@@ -64,6 +65,7 @@ restart-never doc k p h c s is = by_role c.role s.role is
     by_role (role.Down o) down none = restart-down doc k p h false down.0 (due-never doc p k (ended doc p h) (ap reading_of (sym none) ∙ down.1))
     by_role (role.Candidate x) up none = restart-up doc k p c.incarnation h up.0
     by_role (role.Leading x) up none = restart-up doc k p c.incarnation h up.0
+    by_role (role.Releasing x) up none = restart-up doc k p c.incarnation h up.0
 
 pub restarted-never : (doc : Doc) (k p : ℕ) (h : List Entry) (c : Controller) → ControllerStands doc p h c → waiting_of c.role ≡ None → Restarted doc k p h c false
 restarted-never doc k p h c s is = restarted-not doc k p h c s (restart-never doc k p h c s is)

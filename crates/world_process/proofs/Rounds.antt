@@ -3,11 +3,12 @@ use Rattle.std.proofs.Common.{◌≡◌, ℕ, ◌++◌, true, false, List, [], �
 use Rattle.std.proofs.lemmas.List.{append-nil}
 use Rattle.kube_objects.specs.declared.call.Ask.{Ask}
 use Rattle.kube_objects.specs.declared.call.Reply.{Reply}
+use Rattle.kube_objects.specs.CallSlots.{release_of}
 use Rattle.kube_objects.specs.Document.{Doc, is_controller}
 use Rattle.kube_objects.specs.Entry.{Entry, Identity, Call, Plain, Delivers, Sends, entry}
 use Rattle.kube_objects.specs.Identities.{identity}
 use Rattle.kube_objects.specs.Kubelet.{round}
-use Rattle.kube_objects.specs.Process.{alive, counted, is_present}
+use Rattle.kube_objects.specs.Process.{alive, call_in, counted, is_present}
 use Rattle.kube_objects.specs.Wire.{Back, next_call}
 use Rattle.kube_objects.specs.Turns.{expired, with_reply}
 use Rattle.history.specs.Printed.{printed}
@@ -22,7 +23,8 @@ use Rattle.world_process.specs.Moves.{AsksOn}
 use Rattle.world_process.proofs.Answering.{IsBack, absent-uncounted, delivered-is, down-absent, other-absent, replied-none, uncounted-is}
 use Rattle.world_process.proofs.Kubelets.{rounds-foreign, stands-rounds}
 use Rattle.world_process.proofs.Names.{is_same-other}
-use Rattle.world_process.proofs.Turning.{alive-expired, expire-down, expire-up, printed-expired, starts-expired}
+use Rattle.world_process.proofs.Quiet.{Adds, adds-expired, adds-none, alive-expired, starts-expired}
+use Rattle.world_process.proofs.Turning.{expire-down, expire-up}
 
 -- ---- a turn
 
@@ -31,15 +33,22 @@ rounds-down doc k p h down =
     let still : alive p (expire doc k p h) ≡ None = ap (alive p) (expire-down doc k p h down) ∙ down in
     ap (λ o. if_up p (round doc k) o (expire doc k p h)) still
 
-pub kubelet-still : (doc : Doc) (k p : ℕ) (h : List Entry) (b : Kubelet) → KubeletStands doc p h b → alive p h ≡ None → Turned doc k p h b (record { started = false; ended = false; ask = None })
-kubelet-still doc k p h b s down =
-    let next = expire-down doc k p h down in
+-- after quiet entries, which print nothing
+turn-adds : (doc : Doc) (k p : ℕ) (h g : List Entry) (b : Kubelet) (ask : Option Ask) → Adds k 4 (identity p b.incarnation) h g [] → printed (kubelet_turn doc k p h) ≡ printed g → AsksOn doc k 4 (identity p b.incarnation) g (kubelet_turn doc k p h) (λ x. KubeletStands doc p x b) ask
+    → Turned doc k p h b (record { started = false; ended = false; ask = ask })
+turn-adds doc k p h g b ask a told asks =
+    let q = identity p b.incarnation in
     record {
-      told = ap printed next ∙ sym (append-nil (printed h ++ []) ∙ append-nil (printed h));
-      asks = (rounds-down doc k p h down, subst (λ g. KubeletStands doc p g b) (sym next) s);
+      told = told ∙ a.told ∙ sym (append-nil (printed h ++ []));
+      asks = record { facts = a.facts; quiet = a.quiet; asks = subst (λ x. AsksOn doc k 4 q x (kubelet_turn doc k p h) (λ y. KubeletStands doc p y b) ask) a.is asks };
     }
 
-module _ (doc : Doc) (k p : ℕ) (h : List Entry) (b : Kubelet) (s : KubeletStands doc p h b) (up : alive p h ≡ Some b.incarnation) where
+pub kubelet-still : (doc : Doc) (k p : ℕ) (h : List Entry) (b : Kubelet) → KubeletStands doc p h b → alive p h ≡ None → Turned doc k p h b (record { started = false; ended = false; ask = None })
+kubelet-still doc k p h b s down =
+    let same : kubelet_turn doc k p h ≡ h = rounds-down doc k p h down ∙ expire-down doc k p h down in
+    turn-adds doc k p h h b None (adds-none k 4 (identity p b.incarnation) h) (ap printed same) (same, s)
+
+module _ (doc : Doc) (k p : ℕ) (h : List Entry) (b : Kubelet) (s : KubeletStands doc p h b) (up : alive p h ≡ Some b.incarnation) (plain : release_of doc (call_in (identity p b.incarnation) h) ≡ None) where
   abbrev q : Identity
   q = identity p b.incarnation
 
@@ -47,30 +56,25 @@ module _ (doc : Doc) (k p : ℕ) (h : List Entry) (b : Kubelet) (s : KubeletStan
   e = expired doc k q h
 
   up-after : alive p e ≡ Some b.incarnation
-  up-after = alive-expired doc s.own k p q h ∙ up
+  up-after = alive-expired doc k p q h plain ∙ up
 
   turn-is : kubelet_turn doc k p h ≡ turned doc k q h
   turn-is = ap (λ g. if_up p (round doc k) (alive p g) g) (expire-up doc k p b.incarnation h up) ∙ ap (λ o. if_up p (round doc k) o e) up-after
 
-  asks-after : (x : rounds.Kubelet) (ask : Option Ask) → Moved doc k 4 q e (turned doc k q h) (λ g. AreRounds doc q g x) ask → AsksOn doc k 4 q e (kubelet_turn doc k p h) (λ g. KubeletStands doc p g (record b { rounds = Some x })) ask
-  asks-after x None m = (turn-is ∙ m.0, stands-rounds doc p h e b (Some x) s (starts-expired doc s.own k p q h) (up-after, m.1))
-  asks-after x (Some ask) m =
-      record {
+  pub kubelet-turned : (x : rounds.Kubelet) (ask : Option Ask) → Moved doc k 4 q e (turned doc k q h) (λ g. AreRounds doc q g x) ask → Turned doc k p h (record b { rounds = Some x }) (record { started = false; ended = false; ask = ask })
+  kubelet-turned x None m =
+      turn-adds doc k p h e (record b { rounds = Some x }) None (adds-expired doc k q h plain) (ap printed (turn-is ∙ m.0))
+      (turn-is ∙ m.0, stands-rounds doc p h e b (Some x) s (starts-expired doc k p q h plain) (up-after, m.1))
+  kubelet-turned x (Some ask) m =
+      turn-adds doc k p h e (record b { rounds = Some x }) (Some ask) (adds-expired doc k q h plain) (ap printed (turn-is ∙ m.sent) ∙ append-nil (printed e))
+      (record {
         kind = Plain;
         sent = turn-is ∙ m.sent;
         number = m.number;
         stands = λ arrives.
             let g = entry k 4 q (Sends (next_call q k Plain ask.request e) arrives) ∷ e in
-            stands-rounds doc p h g b (Some x) s (starts-expired doc s.own k p q h) (up-after, m.stands arrives);
-      }
-
-  pub kubelet-turned : (x : rounds.Kubelet) (ask : Option Ask) → Moved doc k 4 q e (turned doc k q h) (λ g. AreRounds doc q g x) ask → Turned doc k p h (record b { rounds = Some x }) (record { started = false; ended = false; ask = ask })
-  kubelet-turned x ask m =
-      let next = expire-up doc k p b.incarnation h up in
-      record {
-        told = ap printed next ∙ printed-expired doc s.own k q h ∙ sym (append-nil (printed h ++ []) ∙ append-nil (printed h));
-        asks = subst (λ g. AsksOn doc k 4 q g (kubelet_turn doc k p h) (λ x'. KubeletStands doc p x' (record b { rounds = Some x })) ask) (sym next) (asks-after x ask m);
-      }
+            stands-rounds doc p h g b (Some x) s (starts-expired doc k p q h plain) (up-after, m.stands arrives);
+      })
 
 -- ---- a reply
 
@@ -83,19 +87,18 @@ followed-is doc k b q number reply waiting h is sort some =
 
 -- it changes nothing but the history
 uncounted-stays : (doc : Doc) (k p i : ℕ) (b : Back) (n : ℕ) (reply : Reply) (h : List Entry) (x : Kubelet) (r : Option rounds.Kubelet) → KubeletStands doc p h x → IsBack b (identity p i) n reply → counted doc (identity p i) k n h ≡ None →
-    RoundsStand doc p x.incarnation (entry k 3 (identity p i) (Delivers b.call reply false) ∷ h) r → Replied doc k p b h (record x { rounds = r }) (record { lead = None; ask = None })
+    RoundsStand doc p x.incarnation (entry k 3 (identity p i) (Delivers b.call reply false) ∷ h) r → Replied doc k p b h (record x { rounds = r }) (record { lead = None; ended = false; ask = None })
 uncounted-stays doc k p i b n reply h x r s is none stands =
     let q = identity p i in
     let y = record x { rounds = r } in
     let next = entry k 3 q (Delivers b.call reply false) ∷ h in
     let same = ap (λ w. entry k 3 w (Delivers b.call reply false) ∷ h) (sym is.who) in
-    replied-none doc k (identity p x.incarnation) b h (Delivers b.call reply false ∷ []) (λ g. KubeletStands doc p g y) (refl, tt)
-    (uncounted-is doc k b q n reply h is none ∙ same) (append-nil (printed h))
+    replied-none doc k (identity p x.incarnation) b b.call reply false h (λ g. KubeletStands doc p g y) (uncounted-is doc k b q n reply h is none ∙ same)
     (subst (λ g. KubeletStands doc p g y) same (stands-rounds doc p h next x r s refl stands))
 
 -- to another incarnation
 pub kubelet-replied-other : (doc : Doc) (k p i : ℕ) (b : Back) (n : ℕ) (reply : Reply) (h : List Entry) (x : Kubelet) → KubeletStands doc p h x → IsBack b (identity p i) n reply → ¬ (i ≡ x.incarnation) →
-    Replied doc k p b h x (record { lead = None; ask = None })
+    Replied doc k p b h x (record { lead = None; ended = false; ask = None })
 kubelet-replied-other doc k p i b n reply h x s is other =
     uncounted-stays doc k p i b n reply h x x.rounds s is (absent-uncounted doc k (identity p i) n h (absent x.rounds s.rounds))
     (rounds-foreign doc p x.incarnation (entry k 3 (identity p i) (Delivers b.call reply false)) h x.rounds refl (is_same-other p i x.incarnation other) s.rounds)
@@ -106,7 +109,7 @@ kubelet-replied-other doc k p i b n reply h x s is other =
 
 -- while it is down
 pub kubelet-replied-down : (doc : Doc) (k p : ℕ) (b : Back) (n : ℕ) (reply : Reply) (h : List Entry) (x : Kubelet) → KubeletStands doc p h x → RoundsStand doc p x.incarnation h None → IsBack b (identity p x.incarnation) n reply →
-    Replied doc k p b h (record x { rounds = None }) (record { lead = None; ask = None })
+    Replied doc k p b h (record x { rounds = None }) (record { lead = None; ended = false; ask = None })
 kubelet-replied-down doc k p b n reply h x s down is =
     uncounted-stays doc k p x.incarnation b n reply h x None s is (absent-uncounted doc k (identity p x.incarnation) n h (down-absent p x.incarnation h down)) down
 
@@ -117,18 +120,17 @@ module _ (doc : Doc) (k p : ℕ) (b : Back) (n : ℕ) (reply : Reply) (h : List 
   abbrev z : Kubelet
   z = record x { rounds = Some y }
 
-  counts-for : (call : Call) (ask : Option Ask) → counted doc w k n h ≡ Some call → Moved doc k 3 w (with_reply k w call reply h) (followed doc k w call reply h) (λ g. AreRounds doc w g y) ask → Replied doc k p b h z (record { lead = None; ask = ask })
+  counts-for : (call : Call) (ask : Option Ask) → counted doc w k n h ≡ Some call → Moved doc k 3 w (with_reply k w call reply h) (followed doc k w call reply h) (λ g. AreRounds doc w g y) ask → Replied doc k p b h z (record { lead = None; ended = false; ask = ask })
   counts-for call None some m =
       let g = with_reply k w call reply h in
       let same = ap (λ v. entry k 3 v (Delivers call reply true) ∷ h) (sym is.who) in
-      replied-none doc k w b h (Delivers call reply true ∷ []) (λ f. KubeletStands doc p f z) (refl, tt)
-      (followed-is doc k b w n reply call h is s.sort some ∙ m.0 ∙ same) (append-nil (printed h))
+      replied-none doc k w b call reply true h (λ f. KubeletStands doc p f z) (followed-is doc k b w n reply call h is s.sort some ∙ m.0 ∙ same)
       (subst (λ f. KubeletStands doc p f z) same (stands-rounds doc p h g x (Some y) s refl (up, m.1)))
   counts-for call (Some ask) some m =
       let g = with_reply k w call reply h in
       let next = followed-is doc k b w n reply call h is s.sort some in
       record {
-        told = ap printed (next ∙ m.sent) ∙ append-nil (printed g);
+        told = ap printed (next ∙ m.sent);
         asks = record {
           call = call;
           who = is.who;
@@ -148,11 +150,11 @@ module _ (doc : Doc) (k p : ℕ) (b : Back) (n : ℕ) (reply : Reply) (h : List 
 
   pub kubelet-answers : (ask : Option Ask) → (counted doc w k n h ≡ None → (call : Call) → (ask ≡ None) × AreRounds doc w (entry k 3 w (Delivers call reply false) ∷ h) y) →
       ((call : Call) → counted doc w k n h ≡ Some call → Moved doc k 3 w (with_reply k w call reply h) (followed doc k w call reply h) (λ g. AreRounds doc w g y) ask) →
-      Replied doc k p b h z (record { lead = None; ask = ask })
+      Replied doc k p b h z (record { lead = None; ended = false; ask = ask })
   kubelet-answers ask uncounted counts = by_counted (counted doc w k n h) refl
     where
-      by_counted : (o : Option Call) → counted doc w k n h ≡ o → Replied doc k p b h z (record { lead = None; ask = ask })
+      by_counted : (o : Option Call) → counted doc w k n h ≡ o → Replied doc k p b h z (record { lead = None; ended = false; ask = ask })
       by_counted None none =
           let t = uncounted none b.call in
-          subst (λ a. Replied doc k p b h z (record { lead = None; ask = a })) (sym t.0) (uncounted-stays doc k p x.incarnation b n reply h x (Some y) s is none (up, t.1))
+          subst (λ a. Replied doc k p b h z (record { lead = None; ended = false; ask = a })) (sym t.0) (uncounted-stays doc k p x.incarnation b n reply h x (Some y) s is none (up, t.1))
       by_counted (Some call) some = counts-for call ask some (counts call some)

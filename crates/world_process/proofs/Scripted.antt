@@ -1,46 +1,38 @@
 -- A controller through the script's entries: those on others, and those on itself.
-use Rattle.std.proofs.Common.{◌≡◌, ℕ, ◌+◌, ◌<◌, ◌^◌, ◌++◌, ◌==◌, ◌&&◌, not, true, false, List, [], ◌∷◌, Option, Some, None, refl, sym, ap, ◌∙◌, subst}
+use Rattle.std.proofs.Common.{◌≡◌, ℕ, ◌+◌, ◌<◌, ◌^◌, ◌++◌, true, false, List, [], ◌∷◌, Option, Some, None, refl, sym, ap, ◌∙◌, subst}
 use Rattle.std.proofs.lemmas.List.{append-nil}
 use Rattle.kube_base.specs.declared.numbers.ProcId.{ProcId}
 use Rattle.kube_base.specs.declared.numbers.Version.{Version}
-use Rattle.kube_objects.specs.declared.call.Ask.{Ask}
-use Rattle.kube_objects.specs.declared.call.Request.{Request}
 use Rattle.kube_objects.specs.declared.deed.Act.TheVariants as act
 use Rattle.kube_objects.specs.declared.key.Key.{Key}
 use Rattle.kube_objects.specs.declared.object.Object.{Object}
 use Rattle.kube_objects.specs.declared.script.What.{What}
 use Rattle.kube_objects.specs.declared.script.What.TheVariants as what
-use Rattle.kube_objects.specs.Clocks.{store_wall, wall, whole_second}
+use Rattle.kube_objects.specs.Clocks.{store_wall, whole_second}
 use Rattle.kube_objects.specs.Document.{Doc}
-use Rattle.kube_objects.specs.Elector.{release, release_from, shown}
-use Rattle.kube_objects.specs.Entry.{Entry, Identity, Fact, First, Event, Crashes, Stops, Sends, Release, entry, script_entry, actor_of}
+use Rattle.kube_objects.specs.Entry.{Entry, Identity, Fact, First, Event, Crashes, entry, script_entry, actor_of}
 use Rattle.kube_objects.specs.Identities.{identity, is_by}
-use Rattle.kube_objects.specs.Newest.{added, newest, when, only_if, join}
-use Rattle.kube_objects.specs.Pauses.{is_paused}
+use Rattle.kube_objects.specs.Newest.{added, newest, when, join}
 use Rattle.kube_objects.specs.Process.{alive, gone, life, cancels, ended, is_start, restart_says, starts}
 use Rattle.kube_objects.specs.Stamps.{stamped}
-use Rattle.kube_objects.specs.Wire.{next_call, send}
 use Rattle.history.specs.History.{put_all}
 use Rattle.history.specs.Printed.{printed, deeds_of}
-use Rattle.history.specs.Steps.{crash, happens, released, start, start_if_down, stop}
-use Rattle.history.proofs.Own.{stop-own}
+use Rattle.history.specs.Steps.{crash, happens, start, start_if_down}
 use Rattle.history_laws.proofs.Plainly.{false_is}
-use Rattle.leader_elector.specs.declared.candidate.Candidate.{Candidate}
-use Rattle.leader_elector.proofs.Frames.{candidate-foreign, leading-foreign}
-use Rattle.leader_elector.specs.Moves.{Releases}
+use Rattle.leader_elector.proofs.Frames.{candidate-foreign, leading-foreign, releasing-foreign}
 use Rattle.world_process.specs.declared.controller.Controller.{Controller}
 use Rattle.world_process.specs.declared.controller.Role.{Role}
 use Rattle.world_process.specs.declared.controller.Role.TheVariants as role
-use Rattle.world_process.specs.Controllers.{AsksOn, Begun, ControllerStands, Crashed, RoleStands, StoppedAs, is_up_as, restart_reading}
+use Rattle.world_process.specs.Controllers.{Begun, ControllerStands, Crashed, RoleStands, is_up_as, restart_reading}
 use Rattle.world_process.specs.Moves as moves
-use Rattle.world_process.specs.Moves.{stop_in, stopped}
 use Rattle.world_process.specs.Plain.{IsFew, IsPlain}
 use Rattle.world_process.proofs.Beside.{controller-quiet}
 use Rattle.world_process.proofs.Names.{eq-self, of_process-own}
-use Rattle.world_process.proofs.OwnTerm.{KeepsTerm, keeps-beside, keeps-both}
+use Rattle.world_process.proofs.OwnTerm.{keeps-beside, keeps-both}
 use Rattle.world_process.proofs.Plainly.{starts-start}
 use Rattle.world_process.proofs.Restarts.{starts-few}
 use Rattle.world_process.proofs.Standing.{stands-role}
+use Rattle.world_process.proofs.Terms.{leads-kept}
 use Rattle.world_process.proofs.Unheard.{and-false}
 
 -- ---- entries of the script that aren't on the process
@@ -80,6 +72,7 @@ pub down-is : (doc : Doc) (p i : ℕ) (h : List Entry) (r : Role) → is_up_as r
 down-is doc p i h (role.Down at) down s = s.0
 down-is doc p i h (role.Candidate x) down s = cc
 down-is doc p i h (role.Leading x) down s = cc
+down-is doc p i h (role.Releasing x) down s = cc
 
 -- a controller that is down, as it stands after an event on it
 pub down-event : (doc : Doc) (p k step : ℕ) (event : What) (version : Option Version) (h : List Entry) (c : Controller) → cancels doc p k event ≡ true → is_up_as c.role ≡ false → ControllerStands doc p h c →
@@ -116,6 +109,7 @@ role-up-event : (doc : Doc) (p i : ℕ) (e : Entry) (h : List Entry) (r : Role) 
 role-up-event doc p i e h (role.Down at) up lives other s = absurd (false_is up)
 role-up-event doc p i e h (role.Candidate x) up lives other s = (s.0, (lives ∙ s.0, candidate-foreign doc (identity p i) e h x other s.1))
 role-up-event doc p i e h (role.Leading x) up lives other s = (s.0, (lives ∙ s.0, leading-foreign doc (identity p i) e h x other s.1))
+role-up-event doc p i e h (role.Releasing x) up lives other s = (s.0, (lives ∙ s.0, releasing-foreign doc (identity p i) e h x other s.1, leads-kept (identity p i) e h s.2))
 
 pub begun-up : (doc : Doc) (k : ℕ) (id : ProcId) (h : List Entry) (c : Controller) → is_up_as c.role ≡ true → ControllerStands doc id.0 h c → Begun doc k id h c false
 begun-up doc k id h c up s =
@@ -168,123 +162,4 @@ controller-crashed doc k id h c s = by_role c.role s.role
     by_role (role.Down at) down = rests down.0
     by_role (role.Candidate x) up = falls up.0
     by_role (role.Leading x) up = falls up.0
-
--- ---- a leader is stopped
-
-alive-stop : (k step : ℕ) (q : Identity) (h : List Entry) → alive q.process (entry k step q Stops ∷ h) ≡ None
-alive-stop k step q h = ap (λ o. join (elim (gone o) as (λ x. Option (Option ℕ)) [ None ↦ life q.process h | Some y ↦ Some y ])) (of_process-own q)
-
-pub stopped-leading : (doc : Doc) (k : ℕ) (id : ProcId) (h : List Entry) (c : Controller) (ask : Option Ask) → is_paused doc id.0 k ≡ false → ControllerStands doc id.0 h c → alive id.0 h ≡ Some c.incarnation →
-    Releases (identity id.0 c.incarnation) h (release doc (identity id.0 c.incarnation) k h) ask → StoppedAs doc k id h (record c { role = role.Down None }) (record { stopped = true; ask = ask })
-stopped-leading doc k id h c ask awake s up r =
-    record {
-      told = ap printed base ∙ ap (λ ds. ds ++ deeds_of k (actor_of q) (Some act.Stop)) (append-nil (printed h));
-      asks = subst (λ x. AsksOn doc k 1 p x (happens doc k (what.Stop id) h) c' ask) (sym base) (subst (λ x. AsksOn doc k 1 p g x c' ask) (sym next) (by_release (release doc q k h) ask r));
-    }
-  where
-    p : ℕ
-    p = id.0
-
-    q : Identity
-    q = identity id.0 c.incarnation
-
-    c' : Controller
-    c' = record c { role = role.Down None }
-
-    e : Entry
-    e = script_entry k 1 (Event (what.Stop id) None)
-
-    g : List Entry
-    g = entry k 1 q Stops ∷ e ∷ h
-
-    keeps : KeepsTerm doc p h g
-    keeps = keeps-both doc p (entry k 1 q Stops) e h refl refl
-
-    base : stopped doc k id h ≡ g
-    base = ap (λ b. stop_in k p (only_if (not b) (alive p h)) (e ∷ h)) awake ∙ ap (λ x. stop_in k p x (e ∷ h)) up
-
-    next : happens doc k (what.Stop id) h ≡ released doc k q (release doc q k h) g
-    next =
-        ap (λ b. stop doc k p (only_if (not b) (alive p h)) h (e ∷ h)) awake
-        ∙ ap (λ x. stop doc k p x h (e ∷ h)) up
-        ∙ stop-own doc s.timing.own k q h (e ∷ h)
-
-    down : RoleStands doc p c.incarnation g (role.Down None)
-    down = (alive-stop k 1 q (e ∷ h), ap (restart_reading doc p) (sym (cancelled doc p k 1 (what.Stop id) None h (ap (λ a. a && not (is_paused doc p k)) (eq-self p) ∙ ap not awake))))
-
-    by_release : (o : Option Request) (ask : Option Ask) → Releases q h o ask → AsksOn doc k 1 p g (released doc k q o g) c' ask
-    by_release None None r = (refl, stands-role doc p h g c (role.Down None) s refl keeps down)
-    by_release None (Some ask) r = absurd r
-    by_release (Some request) None r = absurd r
-    by_release (Some request) (Some ask) r =
-        record {
-          kind = Release;
-          sent = ap (λ x. send doc k 1 q Release x g) (sym r.0);
-          number = r.1;
-          stands = λ arrives.
-              let f = entry k 1 q (Sends (next_call q k Release ask.request g) arrives) in
-              stands-role doc p h (f ∷ g) c (role.Down None) s refl (λ t s. keeps-beside doc p f g refl t (keeps t s)) down;
-        }
-
--- ---- a controller that doesn't lead is stopped
-
--- one that is down goes on in that
-pub stopped-down : (doc : Doc) (k : ℕ) (id : ProcId) (h : List Entry) (c : Controller) → is_paused doc id.0 k ≡ false → ControllerStands doc id.0 h c → is_up_as c.role ≡ false →
-    StoppedAs doc k id h (record c { role = role.Down None }) (record { stopped = false; ask = None })
-stopped-down doc k id h c awake s down =
-    record {
-      told = ap printed base;
-      asks = (next ∙ sym base, subst (λ g. ControllerStands doc p g (record c { role = role.Down None })) (sym base) (down-event doc p k 1 (what.Stop id) None h c own down s));
-    }
-  where
-    p : ℕ
-    p = id.0
-
-    e : Entry
-    e = script_entry k 1 (Event (what.Stop id) None)
-
-    own : cancels doc p k (what.Stop id) ≡ true
-    own = ap (λ a. a && not (is_paused doc p k)) (eq-self p) ∙ ap not awake
-
-    base : stopped doc k id h ≡ e ∷ h
-    base = ap (λ b. stop_in k p (only_if (not b) (alive p h)) (e ∷ h)) awake ∙ ap (λ x. stop_in k p x (e ∷ h)) (down-is doc p c.incarnation h c.role down s.role)
-
-    next : happens doc k (what.Stop id) h ≡ e ∷ h
-    next =
-        ap (λ b. stop doc k p (only_if (not b) (alive p h)) h (e ∷ h)) awake
-        ∙ ap (λ x. stop doc k p x h (e ∷ h)) (down-is doc p c.incarnation h c.role down s.role)
-
--- a candidate asks no release
-pub stopped-candidate : (doc : Doc) (k : ℕ) (id : ProcId) (h : List Entry) (c : Controller) (x : Candidate) → is_paused doc id.0 k ≡ false → ControllerStands doc id.0 h c → c.role ≡ role.Candidate x →
-    StoppedAs doc k id h (record c { role = role.Down None }) (record { stopped = true; ask = None })
-stopped-candidate doc k id h c x awake s is = stopped-leading doc k id h c None awake s was.0 (subst (λ o. Releases q h o None) (sym none) tt)
-  where
-    q : Identity
-    q = identity id.0 c.incarnation
-
-    was : RoleStands doc id.0 c.incarnation h (role.Candidate x)
-    was = subst (RoleStands doc id.0 c.incarnation h) is s.role
-
-    none : release doc q k h ≡ None
-    none = ap (λ b. only_if b (release_from q (wall doc q.process k) (shown q h))) was.1.leads
-
--- ---- a controller that is paused isn't stopped
-
-pub stopped-paused : (doc : Doc) (k : ℕ) (id : ProcId) (h : List Entry) (c : Controller) → is_paused doc id.0 k ≡ true → ControllerStands doc id.0 h c → StoppedAs doc k id h c (record { stopped = false; ask = None })
-stopped-paused doc k id h c paused s =
-    record {
-      told = ap printed base;
-      asks = (next ∙ sym base, subst (λ g. ControllerStands doc p g c) (sym base) (controller-event doc p k 1 (what.Stop id) None h c (ap (λ b. (p == p) && not b) paused ∙ and-false (p == p)) s));
-    }
-  where
-    p : ℕ
-    p = id.0
-
-    e : Entry
-    e = script_entry k 1 (Event (what.Stop id) None)
-
-    base : stopped doc k id h ≡ e ∷ h
-    base = ap (λ b. stop_in k p (only_if (not b) (alive p h)) (e ∷ h)) paused
-
-    next : happens doc k (what.Stop id) h ≡ e ∷ h
-    next = ap (λ b. stop doc k p (only_if (not b) (alive p h)) h (e ∷ h)) paused
+    by_role (role.Releasing x) up = falls up.0

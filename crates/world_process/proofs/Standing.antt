@@ -4,7 +4,7 @@ use Rattle.std.specs.Box.{with_value}
 use Rattle.kube_objects.specs.Document.{Doc}
 use Rattle.kube_objects.specs.Entry.{Entry, Identity}
 use Rattle.kube_objects.specs.Identities.{identity}
-use Rattle.kube_objects.specs.Process.{starts}
+use Rattle.kube_objects.specs.Process.{alive, starts}
 use Rattle.history.specs.Steps.{start}
 use Rattle.controller_core.specs.declared.term.Term.{Term}
 use Rattle.leader_elector.specs.declared.candidate.Candidate.{Candidate}
@@ -29,6 +29,10 @@ pub stands-with : (doc : Doc) (p : ℕ) (h g : List Entry) (c : Controller) (r :
     → ControllerStands doc p g (record c { role = r; term = with_value c.term t })
 stands-with doc p h g c r t s same owns stands =
     record { sort = s.sort; me = s.me; incarnation = s.incarnation ∙ sym same; timing = s.timing; waits = s.waits; clock = s.clock; up_first = s.up_first; pauses = s.pauses; waking = s.waking; term = owns; role = stands }
+
+-- a state's relation makes a role's, where the process is up
+abbrev pub Makes : Doc → ℕ → ℕ → (List Entry → Type 0) → Role → Type 0
+Makes doc p i Stands r = (g : List Entry) → alive p g ≡ Some i → Stands g → RoleStands doc p i g r
 
 pub role-at : (doc : Doc) (p : ℕ) (h : List Entry) (c : Controller) (r : Role) → ControllerStands doc p h c → c.role ≡ r → RoleStands doc p c.incarnation h r
 role-at doc p h c r s is = subst (λ x. RoleStands doc p c.incarnation h x) is s.role

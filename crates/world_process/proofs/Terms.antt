@@ -25,6 +25,14 @@ leads-top q e h = by_case (lead_says q e.actor e.fact)
     by_case None = refl
     by_case (Some y) = refl
 
+-- who has led leads through every entry
+pub leads-kept : (q : Identity) (e : Entry) (h : List Entry) → leads q h ≡ true → leads q (e ∷ h) ≡ true
+leads-kept q e h led = leads-top q e h ∙ by_case (lead_says q e.actor e.fact)
+  where
+    by_case : (x : Option Version) → led_after x (leads q h) ≡ true
+    by_case None = led
+    by_case (Some version) = refl
+
 -- before the top entry nobody led, and it is no lead
 before : (x : Option Version) (b : Bool) → led_after x b ≡ false → (x ≡ None) × (b ≡ false)
 before None b unled = (refl, unled)

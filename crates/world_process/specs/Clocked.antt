@@ -6,7 +6,6 @@ use Rattle.kube_objects.specs.declared.script.Proc.{Proc}
 use Rattle.kube_objects.specs.declared.settings.Settings.{Settings}
 use Rattle.kube_objects.specs.Clocks.{rate, moved}
 use Rattle.kube_objects.specs.Document.{Doc, beat_micros, end_beat, offset_millis, process_at}
-use Rattle.kube_objects.specs.Own.{IsOwn}
 use Rattle.script_reader.specs.Lawful.{AreLawfulFrom}
 use Rattle.skew_clock.specs.Clocking.{Clocking, rate_at, reading, moved as moved_micros}
 
@@ -30,10 +29,9 @@ pub record SameSpan (old new : Clocking) : Type 0 where
   pub beat_micros : new.beat_micros ≡ old.beat_micros
   pub end : new.end ≡ old.end
 
--- what a process is made of is that of process p of the document, which goes by the project's own rules but for those of elections
+-- what a process is made of is that of process p of the document
 pub record IsMadeOf (doc : Doc) (p id : ℕ) (s : Settings) (x : Proc) (es : List Event) : Type 0 where
   pub me : id ≡ p
   pub settings : doc.settings ≡ s
   pub process : process_at doc p ≡ Some x
   pub events : doc.events ≡ es
-  pub own : IsOwn doc

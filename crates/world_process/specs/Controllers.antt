@@ -6,18 +6,19 @@ use Rattle.kube_objects.specs.declared.call.Ask.{Ask}
 use Rattle.kube_objects.specs.declared.deed.Deed.{Deed}
 use Rattle.kube_objects.specs.Clocks.{local}
 use Rattle.kube_objects.specs.Document.{Doc, is_controller, is_up_first, restart_delay}
+use Rattle.kube_objects.specs.Elector.{leads}
 use Rattle.kube_objects.specs.Entry.{Entry}
 use Rattle.kube_objects.specs.Identities.{identity}
 use Rattle.kube_objects.specs.Process.{alive, starts, ended}
 use Rattle.kube_objects.specs.Wire.{Back}
 use Rattle.history.specs.Printed.{printed}
 use Rattle.history.specs.Steps.{restart, attempts}
-use Rattle.leader_elector.specs.Stands.{AreWaitsOf, IsTimingOf, CandidateStands, LeadingStands}
+use Rattle.leader_elector.specs.Stands.{AreWaitsOf, IsTimingOf, CandidateStands, LeadingStands, ReleasingStands}
 use Rattle.object_store.specs.declared.store.Store.{Store}
 use Rattle.pause_times.specs.Owned.{PausesStand}
 use Rattle.world_process.specs.declared.controller.Controller.{Controller}
 use Rattle.world_process.specs.declared.controller.Role.{Role}
-use Rattle.world_process.specs.declared.controller.Role.TheVariants.{Down, Candidate, Leading}
+use Rattle.world_process.specs.declared.controller.Role.TheVariants.{Down, Candidate, Leading, Releasing}
 use Rattle.world_process.specs.declared.moves.Received.{Received}
 use Rattle.world_process.specs.declared.moves.Stopped.{Stopped}
 use Rattle.world_process.specs.declared.moves.Turn.{Turn}
@@ -37,17 +38,20 @@ abbrev pub waiting_of : Role → Option Local
 waiting_of (Down at) = at
 waiting_of (Candidate c) = None
 waiting_of (Leading l) = None
+waiting_of (Releasing r) = None
 
 abbrev pub is_up_as : Role → Bool
 is_up_as (Down at) = false
 is_up_as (Candidate c) = true
 is_up_as (Leading l) = true
+is_up_as (Releasing r) = true
 
 -- the role is that of a process in an incarnation
 abbrev pub RoleStands : Doc → ℕ → ℕ → List Entry → Role → Type 0
 RoleStands doc p i h (Down at) = (alive p h ≡ None) × (reading_of at ≡ restart_reading doc p (ended doc p h))
 RoleStands doc p i h (Candidate c) = (alive p h ≡ Some i) × CandidateStands doc (identity p i) h c
 RoleStands doc p i h (Leading l) = (alive p h ≡ Some i) × LeadingStands doc (identity p i) h l
+RoleStands doc p i h (Releasing r) = (alive p h ≡ Some i) × ReleasingStands doc (identity p i) h r × (leads (identity p i) h ≡ true)
 
 pub record ControllerStands (doc : Doc) (p : ℕ) (h : List Entry) (c : Controller) : Type 0 where
   pub sort : is_controller doc p ≡ true
@@ -73,8 +77,8 @@ pub record SameController (old new : Controller) : Type 0 where
 
 -- ---- what it did, in the words of every process
 
-abbrev pub AsksOn : Doc → ℕ → ℕ → ℕ → List Entry → List Entry → Controller → Option Ask → Type 0
-AsksOn doc k step p h next c ask = moves.AsksOn doc k step (identity p c.incarnation) h next (λ x. ControllerStands doc p x c) ask
+abbrev pub AsksIn : Doc → ℕ → ℕ → ℕ → List Entry → List Entry → Controller → Option Ask → Type 0
+AsksIn doc k step p h next c ask = moves.AsksIn doc k step (identity p c.incarnation) h next (λ x. ControllerStands doc p x c) ask
 
 abbrev pub Crashed : Doc → ℕ → ProcId → List Entry → Controller → Bool → Type 0
 Crashed doc k id h c crashed = moves.Crashed doc k id h c.incarnation (λ x. ControllerStands doc id.0 x c) crashed
@@ -97,8 +101,8 @@ pub record Restarted (doc : Doc) (k p : ℕ) (h : List Entry) (c : Controller) (
 
 -- a controller has done the rest of its turn; h is the history after the restart
 pub record Timed (doc : Doc) (k p : ℕ) (h : List Entry) (c : Controller) (ended : Bool) (ask : Option Ask) : Type 0 where
-  pub told : printed (settled doc k p h) ≡ printed h ++ ended_deeds k (identity p c.incarnation) ended
-  pub asks : AsksOn doc k 4 p (settled doc k p h) (attempts doc k p (settled doc k p h)) c ask
+  pub told : printed (attempts doc k p (settled doc k p h)) ≡ printed h ++ ended_deeds k (identity p c.incarnation) ended
+  pub asks : AsksIn doc k 4 p h (attempts doc k p (settled doc k p h)) c ask
 
 abbrev pub Turned : Doc → ℕ → ℕ → List Entry → Controller → Turn → Type 0
 Turned doc k p h c t = moves.TurnedAs doc k p true h c.incarnation (λ x. ControllerStands doc p x c) t

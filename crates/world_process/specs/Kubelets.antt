@@ -5,7 +5,6 @@ use Rattle.kube_objects.specs.Document.{Doc, call_timeout, is_controller, is_up_
 use Rattle.kube_objects.specs.Entry.{Entry}
 use Rattle.kube_objects.specs.Identities.{identity}
 use Rattle.kube_objects.specs.Kubelet.{node_of}
-use Rattle.kube_objects.specs.Own.{IsOwn}
 use Rattle.kube_objects.specs.Process.{alive, starts}
 use Rattle.kube_objects.specs.Wire.{Back}
 use Rattle.kubelet_node.specs.declared.kubelet.Kubelet as rounds
@@ -35,7 +34,6 @@ pub record KubeletStands (doc : Doc) (p : ℕ) (h : List Entry) (b : Kubelet) : 
   pub up_first : b.up_first ≡ is_up_first doc p
   pub rounds : RoundsStand doc p b.incarnation h b.rounds
   pub waking : IsBeatOf b.clock b.waking.until b.waking.below
-  pub own : IsOwn doc
 
 -- the plain facts that a kubelet keeps
 pub record SameKubelet (old new : Kubelet) : Type 0 where

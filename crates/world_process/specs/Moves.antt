@@ -7,11 +7,9 @@ use Rattle.kube_objects.specs.declared.deed.Act.TheVariants as act
 use Rattle.kube_objects.specs.declared.deed.Deed.{Deed}
 use Rattle.kube_objects.specs.declared.script.What.TheVariants as what
 use Rattle.kube_objects.specs.Document.{Doc, is_controller}
-use Rattle.kube_objects.specs.Entry.{Entry, Identity, Call, Fact, Event as Happens, Stops, Delivers, entry, script_entry, actor_of}
+use Rattle.kube_objects.specs.Entry.{Entry, Identity, Call, Fact, Event as Happens, Delivers, entry, script_entry, actor_of}
 use Rattle.kube_objects.specs.Identities.{identity}
-use Rattle.kube_objects.specs.Newest.{when, only_if}
-use Rattle.kube_objects.specs.Pauses.{is_paused}
-use Rattle.kube_objects.specs.Process.{alive}
+use Rattle.kube_objects.specs.Newest.{when}
 use Rattle.kube_objects.specs.Wire.{Back}
 use Rattle.history.specs.Printed.{printed, deeds_of}
 use Rattle.history.specs.Steps.{happens, restart, expire, finish, delivered, elector_turn, kubelet_turn, ticks}
@@ -27,6 +25,12 @@ use Rattle.world_process.specs.Plain.{AreQuiet, with_facts}
 abbrev pub AsksOn : Doc → ℕ → ℕ → Identity → List Entry → List Entry → (List Entry → Type 0) → Option Ask → Type 0
 AsksOn doc k step q h next Stands None = (next ≡ h) × Stands h
 AsksOn doc k step q h next Stands (Some ask) = Asked doc k step q h next Stands ask
+
+-- before it asks, some quiet entries are added
+pub record AsksIn (doc : Doc) (k step : ℕ) (q : Identity) (h next : List Entry) (Stands : List Entry → Type 0) (ask : Option Ask) : Type 0 where
+  pub facts : List Fact
+  pub quiet : AreQuiet facts
+  pub asks : AsksOn doc k step q (with_facts k step q facts h) next Stands ask
 
 -- ---- the script's events on a process
 
@@ -49,19 +53,10 @@ pub record Begun (doc : Doc) (k : ℕ) (id : ProcId) (h : List Entry) (i : ℕ) 
   pub stands : Stands (happens doc k (what.Start id) h)
   pub told : printed (happens doc k (what.Start id) h) ≡ printed h ++ started_deeds k (identity id.0 i) started
 
--- up says in which incarnation the process is up before
-abbrev pub stop_in : ℕ → ℕ → Option ℕ → List Entry → List Entry
-stop_in k p None h = h
-stop_in k p (Some i) h = entry k 1 (identity p i) Stops ∷ h
-
--- the history with a stop's event and the stop, before the release; a process that is paused isn't stopped
-abbrev pub stopped : Doc → ℕ → ProcId → List Entry → List Entry
-stopped doc k id h = stop_in k id.0 (only_if (not (is_paused doc id.0 k)) (alive id.0 h)) (script_entry k 1 (Happens (what.Stop id) None) ∷ h)
-
--- a process was stopped, where it was up, and asks its release
+-- a process was stopped, where it was up, and may ask what releases its Lease
 pub record StoppedAs (doc : Doc) (k : ℕ) (id : ProcId) (h : List Entry) (i : ℕ) (Stands : List Entry → Type 0) (s : Stopped) : Type 0 where
-  pub told : printed (stopped doc k id h) ≡ printed h ++ stopped_deeds k (identity id.0 i) s.stopped
-  pub asks : AsksOn doc k 1 (identity id.0 i) (stopped doc k id h) (happens doc k (what.Stop id) h) Stands s.ask
+  pub told : printed (happens doc k (what.Stop id) h) ≡ printed h ++ stopped_deeds k (identity id.0 i) s.stopped
+  pub asks : AsksIn doc k 1 (identity id.0 i) (script_entry k 1 (Happens (what.Stop id) None) ∷ h) (happens doc k (what.Stop id) h) Stands s.ask
 
 -- ---- a turn
 
@@ -69,13 +64,13 @@ pub record StoppedAs (doc : Doc) (k : ℕ) (id : ProcId) (h : List Entry) (i : �
 abbrev pub settled : Doc → ℕ → ℕ → List Entry → List Entry
 settled doc k p h = finish doc k p (expire doc k p h)
 
--- the history after all of a turn that asks nothing, by the sort of the process
-abbrev pub before_asking_as : Doc → ℕ → ℕ → Bool → List Entry → List Entry
-before_asking_as doc k p true h = settled doc k p (restart doc k p h)
-before_asking_as doc k p false h = expire doc k p h
+-- the history after the restart, by the sort of the process; a kubelet has none
+abbrev pub restarted_as : Doc → ℕ → ℕ → Bool → List Entry → List Entry
+restarted_as doc k p true h = restart doc k p h
+restarted_as doc k p false h = h
 
-abbrev pub before_asking : Doc → ℕ → ℕ → List Entry → List Entry
-before_asking doc k p h = before_asking_as doc k p (is_controller doc p) h
+abbrev pub restarted : Doc → ℕ → ℕ → List Entry → List Entry
+restarted doc k p h = restarted_as doc k p (is_controller doc p) h
 
 -- a turn but for its tick, by the sort of the process
 abbrev pub own_turn_as : Doc → ℕ → ℕ → Bool → List Entry → List Entry
@@ -90,9 +85,9 @@ ended_deeds k q b = deeds_of k (actor_of q) (when b act.End)
 
 -- a process of this sort has done its turn, but for its tick
 pub record TurnedAs (doc : Doc) (k p : ℕ) (sort : Bool) (h : List Entry) (i : ℕ) (Stands : List Entry → Type 0) (t : Turn) : Type 0 where
-  pub told : printed (before_asking_as doc k p sort h)
+  pub told : printed (own_turn_as doc k p sort h)
       ≡ printed h ++ started_deeds k (identity p i) t.started ++ ended_deeds k (identity p i) t.ended
-  pub asks : AsksOn doc k 4 (identity p i) (before_asking_as doc k p sort h) (own_turn_as doc k p sort h) Stands t.ask
+  pub asks : AsksIn doc k 4 (identity p i) (restarted_as doc k p sort h) (own_turn_as doc k p sort h) Stands t.ask
 
 abbrev pub Turned : Doc → ℕ → ℕ → List Entry → ℕ → (List Entry → Type 0) → Turn → Type 0
 Turned doc k p h i Stands t = TurnedAs doc k p (is_controller doc p) h i Stands t
@@ -139,5 +134,5 @@ AsksOnReply doc k q b h Stands (Some ask) = AsksAfter doc k q b h Stands ask
 -- q is the identity of the process after it
 pub record Replied (doc : Doc) (k : ℕ) (q : Identity) (b : Back) (h : List Entry) (Stands : List Entry → Type 0)
     (r : Received) : Type 0 where
-  pub told : printed (delivered doc k b h) ≡ printed h ++ lead_deeds k q r.lead
+  pub told : printed (delivered doc k b h) ≡ printed h ++ lead_deeds k q r.lead ++ ended_deeds k q r.ended
   pub asks : AsksOnReply doc k q b h Stands r.ask

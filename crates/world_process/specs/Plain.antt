@@ -1,6 +1,6 @@
 -- What holds of every history, at any point of a beat, that the world keeps in mind.
 use Rattle.std.specs.Prelude.{◌≡◌, Bool, ℕ, ◌+◌, ◌<◌, ◌≤◌, ◌^◌, true, false, List, [], ◌∷◌, length, IfSome}
-use Rattle.kube_objects.specs.Entry.{Entry, Identity, Fact, Starts, Crashes, Stops, Stalls, Ends, Delivers, Expires, Leads, entry}
+use Rattle.kube_objects.specs.Entry.{Entry, Identity, Fact, Crashes, Stops, Stalls, Ends, ReleaseBegins, ReleaseEnds, StepsDown, ReleaseStops, Delivers, Expires, Leads, entry}
 use Rattle.kube_objects.specs.Identities.{identity, is_by, identity_of}
 use Rattle.kube_objects.specs.Process.{starts, begun}
 use Rattle.kube_objects.specs.Seen.{node_names}
@@ -41,9 +41,8 @@ pub record IsFew (h : List Entry) : Type 0 where
   pub starts : (p : ℕ) → starts p h < 2 ^ 32
   pub nodes : length (node_names h) < 2 ^ 32
 
--- facts of a process that write nothing, send nothing and change nothing in force
+-- facts of a process that write nothing, send nothing, start nothing and change nothing in force
 abbrev pub is_quiet : Fact → Bool
-is_quiet Starts = true
 is_quiet Crashes = true
 is_quiet (Stalls beats) = true
 is_quiet Stops = true
@@ -51,6 +50,10 @@ is_quiet Ends = true
 is_quiet (Delivers call reply counted) = true
 is_quiet (Expires call) = true
 is_quiet (Leads version) = true
+is_quiet (ReleaseBegins at_deadline) = true
+is_quiet ReleaseEnds = true
+is_quiet StepsDown = true
+is_quiet ReleaseStops = true
 is_quiet _ = false
 
 abbrev pub AreQuiet : List Fact → Type 0

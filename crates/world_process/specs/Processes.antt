@@ -5,7 +5,7 @@ use Rattle.kube_base.specs.declared.numbers.ProcId.{ProcId}
 use Rattle.kube_objects.specs.declared.call.Ask.{Ask}
 use Rattle.kube_objects.specs.declared.deed.Deed.{Deed}
 use Rattle.kube_objects.specs.Document.{Doc, is_controller}
-use Rattle.kube_objects.specs.Elector.{in_term}
+use Rattle.kube_objects.specs.Elector.{leads_on}
 use Rattle.kube_objects.specs.Entry.{Entry}
 use Rattle.kube_objects.specs.Identities.{identity}
 use Rattle.kube_objects.specs.Process.{alive}
@@ -66,20 +66,20 @@ pub record IsKept (x : Process) : Type 0 where
   pub first : (doc : Doc) (p : ℕ) (h : List Entry) (at : Option Local) → ProcessStands doc p h x → reading_of at ≡ own_reading doc p h
       → IsBeatOf (clock_of x) (waking_of x).until at
 
--- ---- whether it is in its term
+-- ---- whether it leads on
 
--- where it is up in an incarnation whose term isn't over
-abbrev pub in_term_if_up : Doc → ℕ → ℕ → Option ℕ → List Entry → Bool
-in_term_if_up doc k p None h = false
-in_term_if_up doc k p (Some i) h = in_term doc (identity p i) k h
+-- where it is up in an incarnation whose term isn't over, or that acts in its release
+abbrev pub leads_if_up : Doc → ℕ → ℕ → Option ℕ → List Entry → Bool
+leads_if_up doc k p None h = false
+leads_if_up doc k p (Some i) h = leads_on doc.settings.rules.release doc (identity p i) k h
 
 -- a kubelet never is
-abbrev pub in_term_as : Doc → ℕ → ℕ → Bool → List Entry → Bool
-in_term_as doc k p true h = in_term_if_up doc k p (alive p h) h
-in_term_as doc k p false h = false
+abbrev pub leads_as : Doc → ℕ → ℕ → Bool → List Entry → Bool
+leads_as doc k p true h = leads_if_up doc k p (alive p h) h
+leads_as doc k p false h = false
 
-abbrev pub in_term_now : Doc → ℕ → ℕ → List Entry → Bool
-in_term_now doc k p h = in_term_as doc k p (is_controller doc p) h
+abbrev pub leads_now : Doc → ℕ → ℕ → List Entry → Bool
+leads_now doc k p h = leads_as doc k p (is_controller doc p) h
 
 -- ---- what it did
 
@@ -102,5 +102,5 @@ abbrev pub Replied : Doc → ℕ → ℕ → Back → List Entry → Process →
 Replied doc k p b h x r = moves.Replied doc k (identity p (incarnation_of x)) b h (λ g. ProcessStands doc p g x) r
 
 -- next is the history with what is asked; h is that before
-abbrev pub AsksOn : Doc → ℕ → ℕ → ℕ → List Entry → List Entry → Process → Option Ask → Type 0
-AsksOn doc k step p h next x ask = moves.AsksOn doc k step (identity p (incarnation_of x)) h next (λ g. ProcessStands doc p g x) ask
+abbrev pub AsksIn : Doc → ℕ → ℕ → ℕ → List Entry → List Entry → Process → Option Ask → Type 0
+AsksIn doc k step p h next x ask = moves.AsksIn doc k step (identity p (incarnation_of x)) h next (λ g. ProcessStands doc p g x) ask

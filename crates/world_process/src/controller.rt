@@ -8,12 +8,15 @@ ghost use Rattle.kube_objects.specs.Clocks.{local, wall as wall_in};
 ghost use Rattle.kube_objects.specs.Document.{Doc, is_controller, restart_delay, waits_of};
 ghost use Rattle.kube_objects.specs.Entry.{Entry};
 ghost use Rattle.kube_objects.specs.Identities.{identity};
+ghost use Rattle.kube_objects.specs.Newest.{when};
+ghost use Rattle.kube_objects.specs.Pauses.{is_paused};
 ghost use Rattle.kube_objects.specs.Process.{alive, starts};
 ghost use Rattle.kube_objects.specs.Wire.{Back};
 ghost use Rattle.history.specs.Sound.{AreApart};
 ghost use Rattle.history.specs.Steps.{happens, start, restart};
 ghost use Rattle.agenda_laws.specs.Times.{elector_reading};
 ghost use Rattle.leader_elector.specs.declared.leading.Leading.{Leading};
+ghost use Rattle.leader_elector.specs.declared.releasing.Releasing.{Releasing};
 ghost use Rattle.leader_elector.specs.Stands.{acting_identity};
 ghost use Rattle.script_reader.specs.Lawful.{AreLawful, AreWaits, IsLawful};
 ghost use Rattle.world_process.specs.declared.controller.Role.TheVariants as role;
@@ -22,36 +25,44 @@ ghost use Rattle.world_process.specs.Clocked.{AreEventsFrom, ClockStands, IsMade
 ghost use Rattle.world_process.specs.Controllers.{ControllerStands, RoleStands, SameController, is_up_as, waiting_of};
 ghost use Rattle.world_process.specs.Controllers.{Crashed, Begun, StoppedAs, Restarted, Timed, Turned, Replied};
 ghost use Rattle.world_process.specs.Plain.{IsPlain, IsFew};
-ghost use Rattle.world_process.specs.Processes.{in_term_as};
+ghost use Rattle.world_process.specs.Processes.{leads_as};
+ghost use Rattle.world_process.specs.declared.controller.Controller.{Controller};
 
 use crate::clocks::{picoseconds, times_for};
-use crate::moves::{Received, Stopped, Turn, asks, final_turn, leads, stays, stop_with, turn_with};
+use crate::moves::{
+    Received, Stopped, Turn, asks, begins_release, ends, ends_with, leads, stays, stop_with,
+    turn_with,
+};
 use crate::settings::tick_settings;
 use crate::waits::Waits;
 use crate::waking::Waking;
 use controller_core::Term;
 use kube_base::{Beat, Local, NoMemory, ProcId, Wall};
 use kube_objects::{Event, NumberList, Proc, Reply, Settings};
-use leader_elector::{Acting, Candidate, Heard, Leading, LeadingNext, Timing};
+use leader_elector::{
+    Acting, Candidate, Heard, Leading, LeadingNext, ReleaseEnd, Released, Releasing, ReleasingNext,
+    Timing,
+};
 use pause_times::Pauses;
 use skew_clock::Clock;
 use std::alloc::Global;
 use std::mem;
 
-/// What a controller is. Where it is down it may have a reading at which it starts again.
+/// What a controller is. Where it is down it may have a reading at which it starts again; it is up until the release of its Lease is over.
 #[derive(Drop)]
 pub enum Role {
     Down(Option<Local>),
     Candidate(Candidate),
     Leading(Leading),
+    Releasing(Releasing),
 }
 
 impl Role {
-    /// The leadership at a beat, in a term that isn't over; None where there is none.
+    /// The leadership at a beat, in a term that isn't over or in a release that acts; None where there is none.
     pub fn acting(&self, clock: &Clock, beat: Beat) -> Option<Acting<'_>>
         requires { beat.0 ≤ clock.now.end }
-        ensures in_term { (doc : Doc) (k p i : ℕ) (h : List Entry) → RoleStands doc p i h self.now → ClockStands doc p clock.now
-            → beat.0 ≡ k → is_some result ≡ in_term_as doc k p true h }
+        ensures leads { (doc : Doc) (k p i : ℕ) (h : List Entry) → RoleStands doc p i h self.now → ClockStands doc p clock.now
+            → beat.0 ≡ k → is_some result ≡ leads_as doc k p true h }
         ensures identity { (doc : Doc) (p i : ℕ) (h : List Entry) → RoleStands doc p i h self.now
             → IfSome result (λ a. acting_identity a ≡ identity p i) }
         ensures up { (doc : Doc) (p i : ℕ) (h : List Entry) → RoleStands doc p i h self.now
@@ -61,6 +72,7 @@ impl Role {
             Role::Down(_) => None,
             Role::Candidate(_) => None,
             Role::Leading(leading) => leading.acting(clock.local(beat)),
+            Role::Releasing(releasing) => releasing.acting(),
         }
     }
 }
@@ -108,6 +120,8 @@ impl Controller {
             fast: settings.fast_renew,
             retries: settings.rules.retries,
             respect: settings.rules.respect,
+            release: settings.rules.release,
+            in_release: settings.rules.in_release,
         };
         let waits = Waits {
             each: waits.copy()?,
@@ -173,8 +187,8 @@ impl Controller {
         true
     }
 
-    /// Goes down in order where it is up, without a restart: a leader whose last shown holder is itself asks its release. A
-    /// restart that waits is cancelled. Where it is paused it stays as it is.
+    /// Goes down in order where it is up, without a restart: a leader by a release, which goes on where it runs. A restart that waits is
+    /// cancelled. Where it is paused it stays as it is.
     pub fn stop(&mut self, beat: Beat) -> Stopped
         requires { beat.0 ≤ self.old.clock.end }
         ensures same { SameController self.old self.new }
@@ -188,11 +202,34 @@ impl Controller {
         match mem::replace(&mut self.role, Role::Down(None)) {
             Role::Down(_) => stop_with(false, None),
             Role::Candidate(_) => stop_with(true, None),
-            Role::Leading(leading) => {
-                let now = self.clock.local(beat);
-                let wall = self.clock.wall_at(now);
+            Role::Leading(leading) => self.give_up(leading, beat),
+            Role::Releasing(releasing) => {
+                self.role = Role::Releasing(releasing.stop());
+                stop_with(true, None)
+            }
+        }
+    }
+
+    // A leader that is stopped gives up its Lease.
+    fn give_up(&mut self, leading: Leading, beat: Beat) -> Stopped
+        requires { beat.0 ≤ self.old.clock.end }
+        ensures same { SameController self.old self.new }
+        ensures incarnation { self.new.incarnation ≡ self.old.incarnation }
+        ensures stands { (doc : Doc) (k : ℕ) (id : ProcId) (h : List Entry)
+            → ControllerStands doc id.0 h (record self.old { role = role.Leading leading }) → beat.0 ≡ k
+            → is_paused doc id.0 k ≡ false → IsFew h → StoppedAs doc k id h self.new result }
+    {
+        let now = self.clock.local(beat);
+        let wall = self.clock.wall_at(now);
+        match leading.release(now, wall) {
+            Released::AtOnce(_, ask) => {
+                self.role = Role::Down(None);
                 self.forget_term();
-                stop_with(true, leading.release(now, wall).ask)
+                stop_with(true, ask)
+            }
+            Released::Begins(releasing, ask) => {
+                self.role = Role::Releasing(releasing);
+                stop_with(true, Some(ask))
             }
         }
     }
@@ -203,7 +240,7 @@ impl Controller {
     {
         match &self.role {
             Role::Down(_) => false,
-            Role::Candidate(_) | Role::Leading(_) => true,
+            Role::Candidate(_) | Role::Leading(_) | Role::Releasing(_) => true,
         }
     }
 
@@ -231,14 +268,15 @@ impl Controller {
             Role::Down(at) => *at,
             Role::Candidate(candidate) => Some(candidate.wake()),
             Role::Leading(leading) => Some(leading.wake()),
+            Role::Releasing(releasing) => Some(releasing.wake()),
         }
     }
 
-    /// The leadership that it has at a beat, in a term that isn't over; None where it has none.
+    /// The leadership that it has at a beat, in a term that isn't over or in a release that acts; None where it has none.
     pub fn leadership(&self, beat: Beat) -> Option<Acting<'_>>
         requires { beat.0 ≤ self.now.clock.end }
-        ensures in_term { (doc : Doc) (k p : ℕ) (h : List Entry) → ControllerStands doc p h self.now → beat.0 ≡ k
-            → is_some result ≡ in_term_as doc k p true h }
+        ensures leads { (doc : Doc) (k p : ℕ) (h : List Entry) → ControllerStands doc p h self.now → beat.0 ≡ k
+            → is_some result ≡ leads_as doc k p true h }
         ensures identity { (doc : Doc) (p : ℕ) (h : List Entry) → ControllerStands doc p h self.now
             → IfSome result (λ a. acting_identity a ≡ identity p self.now.incarnation) }
         ensures up { (doc : Doc) (p : ℕ) (h : List Entry) → ControllerStands doc p h self.now
@@ -284,6 +322,7 @@ impl Controller {
                 wall,
             )),
             Role::Leading(_) => self.lead_on(now, wall, delay),
+            Role::Releasing(_) => self.release_on(now, delay),
         }
     }
 
@@ -312,19 +351,62 @@ impl Controller {
             LeadingNext::End(_) => {
                 self.role = Role::Down(Some(Local(now.0 + delay)));
                 self.forget_term();
-                final_turn()
+                ends_with(true)
+            }
+            LeadingNext::Release(releasing, ask) => {
+                let ended = !releasing.acts();
+                self.role = Role::Releasing(releasing);
+                begins_release(ended, ask)
+            }
+        }
+    }
+
+    // The same where it releases its Lease.
+    fn release_on(&mut self, now: Local, delay: u64) -> Turn
+        requires now { now.0 ≤ most_local }
+        requires delay { delay ≤ 86400000000000000 }
+        ensures same { SameController self.old self.new }
+        ensures incarnation { self.new.incarnation ≡ self.old.incarnation }
+        ensures stands { (doc : Doc) (k p : ℕ) (h : List Entry) (r : Releasing) → ControllerStands doc p h self.old
+            → self.old.role ≡ role.Releasing r → now.0 ≡ local doc p k → delay ≡ restart_delay doc → IsFew h
+            → Timed doc k p h self.new result.ended result.ask }
+    {
+        let Role::Releasing(releasing) = mem::replace(&mut self.role, Role::Down(None)) else {
+            return turn_with(None);
+        };
+        match releasing.on_timer(now) {
+            ReleasingNext::Stay(releasing) => {
+                self.role = Role::Releasing(releasing);
+                turn_with(None)
+            }
+            ReleasingNext::Ask(releasing, ask) => {
+                self.role = Role::Releasing(releasing);
+                turn_with(Some(ask))
+            }
+            ReleasingNext::Over(end) => {
+                self.role = Role::Down(restart_after(&end, now, delay));
+                self.forget_term();
+                ends_with(end.acted)
             }
         }
     }
 
     /// A reply that comes to an incarnation of the controller.
-    pub fn receive(&mut self, incarnation: u32, number: u64, reply: &Reply, beat: Beat) -> Received
-        requires { beat.0 ≤ self.old.clock.end }
+    pub fn receive(
+        &mut self,
+        incarnation: u32,
+        number: u64,
+        reply: &Reply,
+        beat: Beat,
+        delay: u64,
+    ) -> Received
+        requires within { beat.0 ≤ self.old.clock.end }
+        requires delay { delay ≤ 86400000000000000 }
         ensures same { SameController self.old self.new }
         ensures incarnation { self.new.incarnation ≡ self.old.incarnation }
         ensures stands { (doc : Doc) (k p : ℕ) (b : Back) (h : List Entry) → ControllerStands doc p h self.old → beat.0 ≡ k
             → b.who ≡ identity p incarnation → b.call.number ≡ number → b.reply ≡ reply.now
-            → IsFew h → Replied doc k p b h self.new result }
+            → delay ≡ restart_delay doc → IsFew h → Replied doc k p b h self.new result }
     {
         if incarnation != self.incarnation {
             return stays();
@@ -346,6 +428,7 @@ impl Controller {
                 }
             }
             Role::Leading(_) => self.hear(number, *reply, now, wall),
+            Role::Releasing(_) => self.hear_in_release(number, *reply, now, wall, delay),
         }
     }
 
@@ -373,6 +456,44 @@ impl Controller {
                 asks(ask)
             }
             LeadingNext::End(_) => stays(),
+            LeadingNext::Release(..) => stays(),
+        }
+    }
+
+    // A reply that comes in its release.
+    fn hear_in_release(
+        &mut self,
+        number: u64,
+        reply: Reply,
+        now: Local,
+        wall: Wall,
+        delay: u64,
+    ) -> Received
+        requires now { now.0 ≤ most_local }
+        requires delay { delay ≤ 86400000000000000 }
+        ensures same { SameController self.old self.new }
+        ensures incarnation { self.new.incarnation ≡ self.old.incarnation }
+        ensures stands { (doc : Doc) (k p : ℕ) (b : Back) (h : List Entry) (r : Releasing) → ControllerStands doc p h self.old
+            → self.old.role ≡ role.Releasing r → now.0 ≡ local doc p k → wall.0 ≡ wall_in doc p k → b.who ≡ identity p self.old.incarnation
+            → b.call.number ≡ number → b.reply ≡ reply → delay ≡ restart_delay doc → IsFew h → Replied doc k p b h self.new result }
+    {
+        let Role::Releasing(releasing) = mem::replace(&mut self.role, Role::Down(None)) else {
+            return stays();
+        };
+        match releasing.on_reply(number, reply, now, wall) {
+            ReleasingNext::Stay(releasing) => {
+                self.role = Role::Releasing(releasing);
+                stays()
+            }
+            ReleasingNext::Ask(releasing, ask) => {
+                self.role = Role::Releasing(releasing);
+                asks(ask)
+            }
+            ReleasingNext::Over(end) => {
+                self.role = Role::Down(restart_after(&end, now, delay));
+                self.forget_term();
+                ends(end.acted)
+            }
         }
     }
 }
@@ -385,4 +506,14 @@ fn restart_of(role: &Role) -> Option<Local>
         Role::Down(at) => *at,
         _ => None,
     }
+}
+
+// The reading at which a process starts again whose release is over: where that began at its deadline and no stop came.
+fn restart_after(end: &ReleaseEnd, now: Local, delay: u64) -> Option<Local>
+    requires now { now.0 ≤ most_local }
+    requires delay { delay ≤ 86400000000000000 }
+    ensures { result ≡ when end.now.restarts (record { 0 = now.0 + delay }) }
+{
+    let at = Local(now.0 + delay);
+    if end.restarts { Some(at) } else { None }
 }

@@ -6,7 +6,7 @@ ghost use Rattle.kube_objects.specs.declared.call.Reply.TheVariants as Reply;
 use kube_base::Version;
 use kube_objects::{Ask, Reply};
 
-/// What a process did in its turn.
+/// What a process did in its turn: started, no longer acts as a leader, asked.
 #[derive(Clone, Copy, Debug)]
 pub struct Turn {
     pub started: bool,
@@ -21,10 +21,11 @@ pub struct Stopped {
     pub ask: Option<Ask>,
 }
 
-/// What a reply to a process caused.
+/// What a reply to a process caused: a lead, or that a leader no longer acts, and a request.
 #[derive(Clone, Copy, Debug)]
 pub struct Received {
     pub lead: Option<Version>,
+    pub ended: bool,
     pub ask: Option<Ask>,
 }
 
@@ -46,48 +47,77 @@ pub fn turn_with(ask: Option<Ask>) -> Turn
     }
 }
 
-/// A turn that ends a term.
-pub fn final_turn() -> Turn
-    ensures { result ≡ record { started = false; ended = true; ask = None } }
+/// A turn that ends a term or a release, by whether one that acts until then no longer acts.
+pub fn ends_with(ended: bool) -> Turn
+    ensures { result ≡ record { started = false; ended = ended; ask = None } }
 {
     Turn {
         started: false,
-        ended: true,
+        ended,
         ask: None,
+    }
+}
+
+/// A turn that begins a release, by whether its leader no longer acts.
+pub fn begins_release(ended: bool, ask: Ask) -> Turn
+    ensures { result ≡ record { started = false; ended = ended; ask = Some ask } }
+{
+    Turn {
+        started: false,
+        ended,
+        ask: Some(ask),
     }
 }
 
 /// A reply that causes nothing.
 pub fn stays() -> Received
-    ensures { result ≡ record { lead = None; ask = None } }
+    ensures { result ≡ record { lead = None; ended = false; ask = None } }
 {
     Received {
         lead: None,
+        ended: false,
+        ask: None,
+    }
+}
+
+/// A reply that ends a release, by whether its leader acted until then.
+pub fn ends(ended: bool) -> Received
+    ensures { result ≡ record { lead = None; ended = ended; ask = None } }
+{
+    Received {
+        lead: None,
+        ended,
         ask: None,
     }
 }
 
 /// A reply that causes a request.
 pub fn asks(ask: Ask) -> Received
-    ensures { result ≡ record { lead = None; ask = Some ask } }
+    ensures { result ≡ record { lead = None; ended = false; ask = Some ask } }
 {
     effect_with(Some(ask))
 }
 
 /// A reply that causes this.
 pub fn effect_with(ask: Option<Ask>) -> Received
-    ensures { result ≡ record { lead = None; ask = ask } }
+    ensures { result ≡ record { lead = None; ended = false; ask = ask } }
 {
-    Received { lead: None, ask }
+    Received {
+        lead: None,
+        ended: false,
+        ask,
+    }
 }
 
 /// A reply after which a controller leads.
 pub fn leads(reply: &Reply) -> Received
     ensures none { result.ask ≡ None }
+    ensures goes_on { result.ended ≡ false }
     ensures lead { (version : Version) → reply.now ≡ Reply.Done version → result.lead ≡ Some version }
 {
     Received {
         lead: version_of(reply),
+        ended: false,
         ask: None,
     }
 }

@@ -27,7 +27,7 @@ ghost use Rattle.world_process.specs.Moves.{own_turn};
 ghost use Rattle.world_process.specs.OwnTerm.{CanTick, IsUpAs};
 ghost use Rattle.world_process.specs.Plain.{IsPlain, IsFew};
 ghost use Rattle.world_process.specs.Processes.{IsKept, IsTimed, ProcessStands, SameProcess, Crashed, Begun, StoppedAs, Turned, Ticked, Replied};
-ghost use Rattle.world_process.specs.Processes.{in_term_now, me_of, incarnation_of, clock_of, waking_of, is_up_first_as};
+ghost use Rattle.world_process.specs.Processes.{leads_now, me_of, incarnation_of, clock_of, waking_of, is_up_first_as};
 
 use crate::controller::Controller;
 use crate::kubelet::Kubelet;
@@ -343,11 +343,12 @@ impl Process {
         }
     }
 
-    /// The leadership that it has at a beat, in a term that isn't over; None where it has none, as a kubelet never has.
+    /// The leadership that it has at a beat, in a term that isn't over or in a release that acts; None where it has none, as a kubelet never
+    /// has.
     pub fn leadership(&self, beat: Beat) -> Option<Acting<'_>>
         requires { beat.0 ≤ (clock_of self.now).end }
-        ensures in_term { (doc : Doc) (k p : ℕ) (h : List Entry) → ProcessStands doc p h self.now → beat.0 ≡ k
-            → is_some result ≡ in_term_now doc k p h }
+        ensures leads { (doc : Doc) (k p : ℕ) (h : List Entry) → ProcessStands doc p h self.now → beat.0 ≡ k
+            → is_some result ≡ leads_now doc k p h }
         ensures identity { (doc : Doc) (p : ℕ) (h : List Entry) → ProcessStands doc p h self.now
             → IfSome result (λ a. acting_identity a ≡ identity p (incarnation_of self.now)) }
         ensures up { (doc : Doc) (p : ℕ) (h : List Entry) → ProcessStands doc p h self.now
@@ -359,17 +360,28 @@ impl Process {
         }
     }
 
-    /// A reply that comes to an incarnation of the process.
-    pub fn receive(&mut self, incarnation: u32, number: u64, reply: &Reply, beat: Beat) -> Received
-        requires { beat.0 ≤ (clock_of self.old).end }
+    /// A reply that comes to an incarnation of the process. The delay of a restart is in units of 10^-12 s.
+    pub fn receive(
+        &mut self,
+        incarnation: u32,
+        number: u64,
+        reply: &Reply,
+        beat: Beat,
+        delay: u64,
+    ) -> Received
+        requires within { beat.0 ≤ (clock_of self.old).end }
+        requires delay { delay ≤ 86400000000000000 }
         ensures same { SameProcess self.old self.new }
         ensures waking { waking_of self.new ≡ waking_of self.old }
         ensures stands { (doc : Doc) (k p : ℕ) (b : Back) (h : List Entry) → ProcessStands doc p h self.old
-            → beat.0 ≡ k → b.who ≡ identity p incarnation → b.call.number ≡ number → b.reply ≡ reply.now → IsFew h
+            → beat.0 ≡ k → b.who ≡ identity p incarnation → b.call.number ≡ number → b.reply ≡ reply.now
+            → delay ≡ restart_delay doc → IsFew h
             → Replied doc k p b h self.new result }
     {
         match self {
-            Process::Controller(controller) => controller.receive(incarnation, number, reply, beat),
+            Process::Controller(controller) => {
+                controller.receive(incarnation, number, reply, beat, delay)
+            }
             Process::Kubelet(kubelet) => kubelet.receive(incarnation, number, reply, beat),
         }
     }

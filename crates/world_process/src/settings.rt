@@ -1,14 +1,13 @@
 // The settings of a tick.
 ghost use Rattle.std.specs.Prelude.{◌≡◌};
 ghost use Rattle.kube_objects.specs.Document.{Doc};
-ghost use Rattle.kube_objects.specs.Own.{IsOwn};
 ghost use Rattle.zone_counts.specs.Settings.{AreSettings};
 
 use kube_objects::{Settings, TickSettings};
 
 /// Those of a document's settings that a tick reads.
 pub(crate) fn tick_settings(settings: &Settings) -> TickSettings
-    ensures stands { (doc : Doc) → IsOwn doc → doc.settings ≡ settings.now → AreSettings doc result }
+    ensures stands { (doc : Doc) → doc.settings ≡ settings.now → AreSettings doc result }
     ensures primary { result.primary_rate ≡ settings.now.primary_rate }
     ensures secondary { result.secondary_rate ≡ settings.now.secondary_rate }
 {

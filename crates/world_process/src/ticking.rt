@@ -24,7 +24,7 @@ use term_state::View;
 use zone_state::Policies;
 
 impl Controller {
-    /// Its tick, where it acts as the leader: in a term that isn't over, and not in a pause. It is told whether its watch is on and
+    /// Its tick, where it acts as the leader: in a term that isn't over or in a release, and not in a pause. It is told whether its watch is on and
     /// whether its requests pass. What is printed of the tick is added to the deeds.
     pub fn tick(
         &mut self,

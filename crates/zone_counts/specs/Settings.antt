@@ -1,8 +1,7 @@
--- The settings of a tick are the document's, which goes by the project's own rules in all else: a tick knows no others.
+-- The settings of a tick are the document's.
 use Rattle.std.specs.Prelude.{◌≡◌}
 use Rattle.kube_objects.specs.declared.settings.TickSettings.{TickSettings}
 use Rattle.kube_objects.specs.Document.{Doc}
-use Rattle.kube_objects.specs.Own.{IsOwn}
 
 pub record AreSettings (doc : Doc) (s : TickSettings) : Type 0 where
   pub first_sync : s.first_sync_millis ≡ doc.settings.rules.first_sync_millis
@@ -24,4 +23,3 @@ pub record AreSettings (doc : Doc) (s : TickSettings) : Type 0 where
   pub evict_rate : s.evict_rate ≡ doc.settings.rules.evict_rate
   pub ready_millis : s.ready_millis ≡ doc.settings.rules.ready_millis
   pub ready_burst : s.ready_burst ≡ doc.settings.rules.ready_burst
-  pub own : IsOwn doc

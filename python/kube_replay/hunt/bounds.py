@@ -68,6 +68,7 @@ class Bounds:
     clocks: tuple[Clock, ...]
     allowances: tuple[Allowance, ...]
     waits: tuple[Waits, ...] = ()
+    settings: tuple[Mapping[str, Any], ...] = ()
 
 
 RATES = Range(500_000, 2_000_000)
@@ -88,13 +89,20 @@ KINDS: dict[str, Kind] = {
 
 def read_bounds(given: Any, document: Mapping[str, Any]) -> Bounds:
     """The bounds that a JSON value says, for a document. Raises `WrongBounds`."""
-    fields = _object(given, '', {'clocks', 'waits', *KINDS})
+    fields = _object(given, '', {'clocks', 'waits', 'settings', *KINDS})
     processes = _processes_of(document)
     end = int(document['settings']['endBeat'])
     clocks = tuple(_clock(each, path, processes) for each, path in _each(fields, 'clocks'))
     allowances = tuple(_allowance(KINDS[name], each, path, processes, end) for name in KINDS for each, path in _each(fields, name))
     waits = tuple(_waits(each, path, processes) for each, path in _each(fields, 'waits'))
-    return Bounds(clocks, allowances, waits)
+    return Bounds(clocks, allowances, waits, tuple(_settings(each, path) for each, path in _each(fields, 'settings')))
+
+
+def _settings(value: Any, path: str) -> Mapping[str, Any]:
+    """Keys of settings that stand together in one of the documents that are tried."""
+    if not isinstance(value, dict) or not value:
+        raise WrongBounds(f'{path}: not an object with keys of settings')
+    return value
 
 
 def _processes_of(document: Mapping[str, Any]) -> list[str]:

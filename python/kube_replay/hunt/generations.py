@@ -177,5 +177,5 @@ class Generations:
 
 def size_of(script: Script) -> tuple[int, int, str]:
     """By what the smaller of two scripts is told: fewer events, and then the shorter text."""
-    text = json.dumps([script.clocks, script.events, script.waits])
+    text = json.dumps([script.clocks, script.events, script.waits, script.settings])
     return len(script.events), len(text), text

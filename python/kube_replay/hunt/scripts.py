@@ -16,11 +16,12 @@ TRUE_RATE = 1_000_000
 
 @dataclass(frozen=True)
 class Script:
-    """What is added to a document: the keys of clocks, by process, events in the order of their beats, and waits, by controller."""
+    """What is added to a document: the keys of clocks, by process, events in the order of their beats, waits, by controller, and keys of settings."""
 
     clocks: Mapping[str, Mapping[str, int]]
     events: tuple[Event, ...]
     waits: Mapping[str, tuple[int, ...]] = field(default_factory=dict)
+    settings: Mapping[str, Any] = field(default_factory=dict)
 
     def keys_of(self, process: str) -> dict[str, Any]:
         """The keys of a process that the script says."""
@@ -70,19 +71,24 @@ def events_allowed(allowance: Allowance) -> list[SearchStrategy[Event | None]]:
 
 @strategies.composite
 def scripts_of(
-    draw: DrawFn, clocks: list[tuple[str, str, Number]], events: list[SearchStrategy[Event | None]], waits: list[tuple[str, int, Number]]
+    draw: DrawFn,
+    clocks: list[tuple[str, str, Number]],
+    events: list[SearchStrategy[Event | None]],
+    waits: list[tuple[str, int, Number]],
+    settings: SearchStrategy[Mapping[str, Any]],
 ) -> Script:
-    """Scripts with these keys of clocks, each by its process and its name, with these events, and with so many waits of each controller."""
+    """Scripts with these keys of clocks, each by its process and its name, with these events, with so many waits of each controller, and with one of these
+    settings."""
     keys: dict[str, dict[str, int]] = {}
     for process, name, number in clocks:
         keys.setdefault(process, {})[name] = number.draw(draw)
     drawn = [draw(event) for event in events]
     lists = {process: tuple(number.draw(draw) for _ in range(count)) for process, count, number in waits}
-    return Script(keys, tuple(sorted((event for event in drawn if event is not None), key=beat_of)), lists)
+    return Script(keys, tuple(sorted((event for event in drawn if event is not None), key=beat_of)), lists, draw(settings))
 
 
 def scripts_in(bounds: Bounds) -> SearchStrategy[Script]:
-    """Scripts within bounds; the simplest one has no events, clocks that go right where they may, and the shortest waits."""
+    """Scripts within bounds; the simplest one has no events, clocks that go right where they may, the shortest waits, and the first settings."""
     clocks = [
         (process, name, number_of(allowed, name))
         for clock in bounds.clocks
@@ -90,7 +96,8 @@ def scripts_in(bounds: Bounds) -> SearchStrategy[Script]:
         for name, allowed in clock.numbers.items()
     ]
     waits = [(process, each.most, number_of(each.thousandths, 'waits')) for each in bounds.waits for process in each.processes]
-    return scripts_of(clocks, [event for allowance in bounds.allowances for event in events_allowed(allowance)], waits)
+    events = [event for allowance in bounds.allowances for event in events_allowed(allowance)]
+    return scripts_of(clocks, events, waits, strategies.sampled_from(bounds.settings or ({},)))
 
 
 def beat_of(event: Event) -> int:
@@ -99,7 +106,7 @@ def beat_of(event: Event) -> int:
 
 
 def document_of(script: Script, document: Mapping[str, Any]) -> dict[str, Any]:
-    """The document with a script added: its own events first within a beat. Pauses make it one of version 3, and waits one of version 4."""
+    """The document with a script added: its own events first within a beat. Pauses make it one of version 3, waits and settings one of version 4."""
     added = dict(document)
     if script.clocks or script.waits:
         added['controllers'] = [{**each, **script.keys_of(each['name'])} for each in document['controllers']]
@@ -108,8 +115,10 @@ def document_of(script: Script, document: Mapping[str, Any]) -> dict[str, Any]:
     if any(event['type'] == 'pause' for event in events):
         added['version'] = max(3, document['version'])
         events = without_pauses_in_pauses(events)
-    if script.waits:
+    if script.waits or script.settings:
         added['version'] = max(4, document['version'])
+    if script.settings:
+        added['settings'] = {**document['settings'], **script.settings}
     added['events'] = events
     return added
 

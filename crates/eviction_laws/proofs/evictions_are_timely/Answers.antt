@@ -9,13 +9,13 @@ pub returns-clause-never_early : goal.returns-clause-never_early
 returns-clause-never_early c doc k = early.never_early doc k
 
 pub returns-clause-always_prompt : goal.returns-clause-always_prompt
-returns-clause-always_prompt c doc own q k = turns.prompt doc own q k
+returns-clause-always_prompt c doc q k = turns.prompt doc q k
 
 pub returns-clause-not_early : goal.returns-clause-not_early
 returns-clause-not_early c doc = early.never_early doc (suc (end_beat doc))
 
 pub returns-clause-prompt : goal.returns-clause-prompt
-returns-clause-prompt c doc own q k end = turns.prompt doc own q k
+returns-clause-prompt c doc q k end = turns.prompt doc q k
 
 pub returns-clause-limited : goal.returns-clause-limited
 returns-clause-limited c doc = limit.limit doc

@@ -3,6 +3,7 @@ ghost use Rattle.std.specs.Prelude.{◌≡◌, ◌≤◌};
 ghost use Rattle.lens_room.specs.Flags as spec;
 
 use crate::by_flags::flag::Flag;
+use kube_objects::{ReleaseActing, ReleaseRule};
 
 /// The settings of every controller, and how they are told. What no flag gives is as kube-controller-manager has it.
 #[derive(Clone, Copy)]
@@ -15,6 +16,10 @@ pub struct Flags {
     /// How far a clock's rate may be off, in parts per million.
     pub skew_ppm: u32,
     pub beat_millis: u32,
+    /// How a leader gives up its Lease.
+    pub release: ReleaseRule,
+    /// Whether a leader whose deadline has come acts until its release has ended.
+    pub in_release: ReleaseActing,
     /// What they come to is told as one JSON object.
     pub as_json: bool,
 }
@@ -31,6 +36,8 @@ impl Flags {
             timeout_millis: None,
             skew_ppm: 0,
             beat_millis: 100,
+            release: ReleaseRule::Stop,
+            in_release: ReleaseActing::Still,
             as_json: false,
         }
     }

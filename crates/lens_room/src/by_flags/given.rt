@@ -3,9 +3,11 @@ ghost use Rattle.std.specs.Prelude.{◌≡◌, Ok, None, IfOk, map, string_bytes
 ghost use Rattle.lens_room.specs.Flags as spec;
 ghost use Rattle.lens_room.specs.Ranges.{AreInRange};
 
-use crate::by_flags::flag::{Flag, flag_by, is, value_of};
+use crate::by_flags::flag::is;
 use crate::by_flags::flags::Flags;
+use crate::by_flags::setting::{Setting, set, setting_by};
 use crate::by_flags::wrong::Wrong;
+use script_reader::has_release;
 use trace_lines::cut;
 
 /// What words gave up to a place.
@@ -13,7 +15,7 @@ use trace_lines::cut;
 pub struct Given {
     pub flags: Flags,
     /// The flag whose value is the next word.
-    pub waiting: Option<Flag>,
+    pub waiting: Option<Setting>,
 }
 
 /// The settings that the words behind the command give. Takes no memory.
@@ -25,7 +27,7 @@ pub fn read_flags(words: &[String]) -> Result<Flags, Wrong>
     let given = read_words(words)?;
     match given.waiting {
         None => rule(given.flags),
-        Some(flag) => Err(Wrong::Alone(flag)),
+        Some(setting) => Err(Wrong::Alone(setting)),
     }
 }
 
@@ -53,7 +55,7 @@ fn with_word(place: usize, given: Given, word: &[u8]) -> Result<Given, Wrong>
 {
     let flags = given.flags;
     match given.waiting {
-        Some(flag) => valued(place, flags, flag, word),
+        Some(setting) => valued(place, flags, setting, word),
         None => begun(place, flags, word),
     }
 }
@@ -82,26 +84,26 @@ fn begun(place: usize, flags: Flags, word: &[u8]) -> Result<Given, Wrong>
     }
 }
 
-fn named(place: usize, name: &[u8]) -> Result<Flag, Wrong>
-    ensures { result ≡ spec.named place (spec.flag_by name.now) }
+fn named(place: usize, name: &[u8]) -> Result<Setting, Wrong>
+    ensures { result ≡ spec.named place (spec.setting_by name.now) }
 {
-    match flag_by(name) {
-        Some(flag) => Ok(flag),
+    match setting_by(name) {
+        Some(setting) => Ok(setting),
         None => Err(Wrong::Unknown(place)),
     }
 }
 
-fn valued(place: usize, flags: Flags, flag: Flag, text: &[u8]) -> Result<Given, Wrong>
+fn valued(place: usize, flags: Flags, setting: Setting, text: &[u8]) -> Result<Given, Wrong>
     requires { AreInRange flags }
-    ensures given { result ≡ spec.valued place flags flag text.now }
+    ensures given { result ≡ spec.valued place flags setting text.now }
     ensures ranges { IfOk result (λ given. AreInRange given.flags) }
 {
-    match value_of(flag, text) {
-        Some(value) => Ok(Given {
-            flags: flags.with(flag, value),
+    match set(flags, setting, text) {
+        Some(flags) => Ok(Given {
+            flags,
             waiting: None,
         }),
-        None => Err(Wrong::Value(flag, place)),
+        None => Err(Wrong::Value(setting, place)),
     }
 }
 
@@ -117,6 +119,8 @@ pub fn rule(flags: Flags) -> Result<Flags, Wrong>
         Err(Wrong::LongRetry)
     } else if flags.timeout() > 600_000 {
         Err(Wrong::LongTimeout)
+    } else if !has_release(flags.in_release, flags.release) {
+        Err(Wrong::NoRelease)
     } else {
         Ok(flags)
     }

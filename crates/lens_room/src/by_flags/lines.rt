@@ -2,14 +2,17 @@
 ghost use Rattle.std.specs.Prelude.{◌≡◌, ◌++◌, OnOk, map, string_bytes};
 ghost use Rattle.lens_room.specs.FlagLaws.{holds};
 ghost use Rattle.lens_room.specs.Ranges.{AreInRange};
+ghost use Rattle.lens_room.specs.Flags as flags;
 ghost use Rattle.lens_room.specs.FlagReplies as spec;
 
 use crate::by_flags::flag::Flag;
 use crate::by_flags::flags::Flags;
 use crate::by_flags::margin::{flags_margin, greatest_skew};
+use crate::by_flags::setting::Setting;
 use crate::by_flags::wrong::Wrong;
 use crate::lines::{add_line, verdict_line};
 use kube_base::NoMemory;
+use kube_objects::{ReleaseActing, ReleaseRule};
 use std::alloc::Global;
 use trace_writer::{add, add_number};
 
@@ -29,10 +32,11 @@ pub(crate) fn add_settings(
     add_taken(&mut taken, flags)?;
     add_line(text, &taken, flags_margin(flags))?;
     add_skew(text, greatest_skew(flags))?;
+    add(text, late_line(flags.in_release))?;
     add(text, verdict_line(safe))
 }
 
-/// Adds which call timeout and which skew were taken.
+/// Adds which call timeout, which skew and which releases were taken.
 #[tactic(auto, unfolding(crate::specs::FlagReplies::taken_text))]
 fn add_taken(text: &mut Vec<u8>, flags: &Flags) -> Result<(), NoMemory>
     ensures { OnOk result (text.new.items ≡ text.old.items ++ spec.taken_text flags.now) }
@@ -43,7 +47,67 @@ fn add_taken(text: &mut Vec<u8>, flags: &Flags) -> Result<(), NoMemory>
     add(text, origin(flags.timeout_millis))?;
     add(text, b" skew=")?;
     add_number(text, u64::from(flags.skew_ppm))?;
-    add(text, b"ppm")
+    add(text, b"ppm")?;
+    add_release(text, flags.release, flags.in_release)
+}
+
+/// Adds releases, where they aren't those of stops alone.
+fn add_release(
+    text: &mut Vec<u8>,
+    release: ReleaseRule,
+    acting: ReleaseActing,
+) -> Result<(), NoMemory>
+    ensures { OnOk result (text.new.items ≡ text.old.items ++ spec.release_text release acting) }
+{
+    match release {
+        ReleaseRule::Stop => Ok(()),
+        ReleaseRule::Own => add_named(text, b"own", acting),
+        ReleaseRule::Checked => add_named(text, b"checked", acting),
+        ReleaseRule::Reread => add_named(text, b"reread", acting),
+    }
+}
+
+#[tactic(auto, unfolding(crate::specs::FlagReplies::named_text))]
+fn add_named(text: &mut Vec<u8>, word: &[u8], acting: ReleaseActing) -> Result<(), NoMemory>
+    ensures { OnOk result (text.new.items ≡ text.old.items ++ spec.named_text word.now acting) }
+{
+    add(text, b" release=")?;
+    add(text, word)?;
+    add(text, b" in-release=")?;
+    add(text, acting_word(acting))
+}
+
+/// As a document has it.
+pub fn acting_word(acting: ReleaseActing) -> &'static [u8]
+    ensures { result.now ≡ flags.acting_word acting }
+{
+    match acting {
+        ReleaseActing::Still => b"still",
+        ReleaseActing::Acts => b"acts",
+    }
+}
+
+/// As a document has it.
+pub fn release_word(release: ReleaseRule) -> &'static [u8]
+    ensures { result.now ≡ flags.release_word release }
+{
+    match release {
+        ReleaseRule::Stop => b"stop",
+        ReleaseRule::Own => b"own",
+        ReleaseRule::Checked => b"checked",
+        ReleaseRule::Reread => b"reread",
+    }
+}
+
+/// The line that says why no lease is enough, where none is.
+pub fn late_line(acting: ReleaseActing) -> &'static [u8]
+    ensures { result.now ≡ spec.late_text acting }
+{
+    match acting {
+        ReleaseActing::Still => b"",
+        ReleaseActing::Acts =>
+            b"late-reply=any: no lease is enough, since a leader acts in its release until it has the answer; where each comes within 3 beats, one over must-exceed is\n",
+    }
 }
 
 /// Where a call timeout is the renew deadline, the words that say so.
@@ -81,7 +145,7 @@ pub(crate) fn add_usage(text: &mut Vec<u8>, words: &[String], wrong: Wrong) -> R
 {
     add(
         text,
-        b"usage: kube_lens margin [--lease 15s] [--renew 10s] [--retry 2s] [--timeout 10s] [--skew 0ppm] [--beat 100ms] [--json]\n",
+        b"usage: kube_lens margin [--lease 15s] [--renew 10s] [--retry 2s] [--timeout 10s] [--skew 0ppm] [--beat 100ms] [--release stop] [--in-release still] [--json]\n",
     )?;
     add_wrong(text, words, wrong)?;
     add(text, b"\n")
@@ -93,13 +157,13 @@ pub fn add_wrong(text: &mut Vec<u8>, words: &[String], wrong: Wrong) -> Result<(
 {
     match wrong {
         Wrong::Unknown(place) => add_unknown(text, word_at(words, place)),
-        Wrong::Alone(flag) => {
-            add(text, name_of(flag))?;
+        Wrong::Alone(setting) => {
+            add(text, setting_name(setting))?;
             add(text, b" stands without a value")
         }
-        Wrong::Value(flag, place) => {
-            add(text, name_of(flag))?;
-            add(text, values_of(flag))?;
+        Wrong::Value(setting, place) => {
+            add(text, setting_name(setting))?;
+            add(text, setting_values(setting))?;
             add(text, word_at(words, place))
         }
         Wrong::LongRenew => add(text, b"the renew deadline must be shorter than the lease"),
@@ -110,6 +174,10 @@ pub fn add_wrong(text: &mut Vec<u8>, words: &[String], wrong: Wrong) -> Result<(
         Wrong::LongTimeout => add(
             text,
             b"a call timeout is at most 10m: give one by --timeout, or a shorter renew deadline",
+        ),
+        Wrong::NoRelease => add(
+            text,
+            b"--in-release acts goes with --release own, checked or reread",
         ),
     }
 }
@@ -129,6 +197,28 @@ pub fn word_at(words: &[String], place: usize) -> &[u8]
     match words.get(place) {
         Some(word) => word.as_str().as_bytes(),
         None => b"",
+    }
+}
+
+/// A setting's own name.
+fn setting_name(setting: Setting) -> &'static [u8]
+    ensures { result.now ≡ spec.setting_text setting }
+{
+    match setting {
+        Setting::Number(flag) => name_of(flag),
+        Setting::Release => b"--release",
+        Setting::InRelease => b"--in-release",
+    }
+}
+
+/// What a setting takes, up to the word that it doesn't.
+fn setting_values(setting: Setting) -> &'static [u8]
+    ensures { result.now ≡ spec.takes_text setting }
+{
+    match setting {
+        Setting::Number(flag) => values_of(flag),
+        Setting::Release => b" takes stop, own, checked or reread, not ",
+        Setting::InRelease => b" takes still or acts, not ",
     }
 }
 

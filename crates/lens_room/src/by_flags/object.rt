@@ -1,15 +1,18 @@
 // The JSON of settings.
-ghost use Rattle.std.specs.Prelude.{◌≡◌, ◌++◌, IfOk, OnOk, map};
-ghost use Rattle.lens_json.specs.Members.{data_of, named};
+ghost use Rattle.std.specs.Prelude.{◌≡◌, ◌++◌, IfOk, OnOk, codes, map};
+ghost use Rattle.lens_json.specs.Members.{data_of, named, text};
 ghost use Rattle.lens_room.specs.MarginJson.{number_if};
+ghost use Rattle.lens_room.specs.Flags as words;
 ghost use Rattle.lens_room.specs.FlagJson as spec;
 ghost use Rattle.lens_room.specs.FlagLaws.{holds};
 ghost use Rattle.lens_room.specs.Ranges.{AreInRange};
 
 use crate::by_flags::flags::Flags;
+use crate::by_flags::lines::{acting_word, release_word};
 use crate::by_flags::margin::{flags_margin, greatest_skew};
 use crate::margin_json::{member, seconds, slack, stall};
 use kube_base::NoMemory;
+use kube_objects::{ReleaseActing, ReleaseRule};
 use lens_json::{Member, Value, add_object};
 use lens_margin::Margin;
 use std::alloc::Global;
@@ -49,6 +52,8 @@ fn members(
         Member::number(b"timeoutMillis", u64::from(flags.timeout())),
         member(b"timeoutIsRenewDeadline", Value::Truth(is_renew_deadline)),
         Member::number(b"skewPpm", u64::from(flags.skew_ppm)),
+        release_member(flags.release),
+        acting_member(flags.in_release),
         member(b"leaseMillis", Value::Large(margin.lease)),
         member(b"mustExceedMillis", Value::Large(margin.must_exceed)),
         member(b"slackMillis", slack(margin.lease, margin.must_exceed)),
@@ -58,6 +63,18 @@ fn members(
         member(b"safe", Value::Truth(safe)),
     ]?;
     Ok(members)
+}
+
+fn release_member(release: ReleaseRule) -> Member<'static>
+    ensures { named result ≡ text (codes "release") (words.release_word release) }
+{
+    Member::text(b"release", release_word(release))
+}
+
+fn acting_member(acting: ReleaseActing) -> Member<'static>
+    ensures { named result ≡ text (codes "inRelease") (words.acting_word acting) }
+{
+    Member::text(b"inRelease", acting_word(acting))
 }
 
 /// Whether a timeout is the renew deadline, as none is given.

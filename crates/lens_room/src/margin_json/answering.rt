@@ -7,7 +7,7 @@ ghost use Rattle.script_reader.specs.Lawful.{IsLawfulDoc, IsWellNamed};
 ghost use Rattle.script_reader.specs.Walk.{document_walk};
 ghost use Rattle.lens_room.specs.MarginJson.{found, room, room_members};
 
-use crate::margin_json::parts::controllers_in;
+use crate::margin_json::parts::{controllers_in, late_in};
 use crate::margins::verdict_by;
 use document_laws::documents_are_lawful;
 use kube_base::NoMemory;
@@ -56,10 +56,15 @@ fn parts<'a>(alloc: Global, document: &'a Document, safe: bool) -> Result<Vec<Pa
     ensures { IfOk result (λ parts. map part_of parts.items ≡ room_members document.now safe) }
 {
     let controllers = controllers_in(alloc, document)?;
+    let late = late_in(alloc, document)?;
     let mut parts = Vec::new(alloc);
     parts.push(Part {
         name: b"controllers",
         what: What::List(controllers),
+    })?;
+    parts.push(Part {
+        name: b"lateReply",
+        what: late,
     })?;
     parts.push(Part {
         name: b"safe",

@@ -1,13 +1,15 @@
 // The members of the answer.
 ghost use Rattle.std.specs.Prelude.{◌≡◌, ◌<◌, ◌++◌, ◌∷◌, [], IfOk, OnOk, length, map};
 ghost use Rattle.lens_json.specs.Members.{data_of, named};
-ghost use Rattle.lens_json.specs.Parts.{members_in};
+ghost use Rattle.lens_json.specs.Parts.{members_in, what_of};
 ghost use Rattle.script_reader.specs.Documents.{doc_of};
 ghost use Rattle.script_reader.specs.Lawful.{IsLawfulDoc, IsWellNamed};
+ghost use Rattle.lens_room.specs.Late.{late_reply};
 ghost use Rattle.lens_room.specs.MarginJson as spec;
 
+use crate::late::{Late, late_reply};
 use kube_base::NoMemory;
-use lens_json::{Member, Object, Value};
+use lens_json::{Member, Object, Value, What};
 use lens_margin::{Margin, controller_margin};
 use script_reader::Document;
 use std::alloc::Global;
@@ -56,6 +58,33 @@ fn controller_members<'a>(
         name_of(&document.names, name),
         controller_margin(document, controller),
     )
+}
+
+/// The reply for which no lease is enough, if there is one.
+pub(crate) fn late_in<'a>(alloc: Global, document: &'a Document) -> Result<What<'a>, NoMemory>
+    requires lawful { IsLawfulDoc (doc_of document.now) }
+    requires named { IsWellNamed document.now.names (doc_of document.now) }
+    ensures { IfOk result (λ what. what_of what ≡ spec.late_data document.now (late_reply (doc_of document.now))) }
+{
+    match late_reply(document) {
+        None => Ok(What::Value(Value::Nothing)),
+        Some(late) => {
+            let name = document.controllers.as_slice()[late.who.0 as usize].name;
+            let members = late_members(alloc, late, name_of(&document.names, name))?;
+            Ok(What::Object(Object { members }))
+        }
+    }
+}
+
+fn late_members<'a>(alloc: Global, late: Late, name: &'a [u8]) -> Result<Vec<Member<'a>>, NoMemory>
+    ensures { IfOk result (λ members. map named members.items ≡ spec.late_members late name.now) }
+{
+    let members = vec![in alloc;
+        Member::number(b"event", late.place as u64),
+        Member::number(b"beat", u64::from(late.beat.0)),
+        Member::text(b"name", name),
+    ]?;
+    Ok(members)
 }
 
 /// The members of a controller of this name.

@@ -46,7 +46,7 @@ impl World {
         tell(deeds, self.beat, actor, start_act(started))
     }
 
-    // A stopped leader's release is sent at once. A controller that is paused goes on.
+    // A stopped leader's release is sent at once, or its first call. A controller that is paused goes on.
     pub(super) fn stop(&mut self, who: ProcId, deeds: &mut Deeds) -> Result<(), NoMemory>
         requires running { IsRunning self.old }
         ensures kept { OnOk result (Keeps self.old self.new) }

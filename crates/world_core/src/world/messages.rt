@@ -17,7 +17,7 @@ ghost use Rattle.wire_calls.specs.WireStands.{as_back, replies_at};
 ghost use Rattle.world_process.specs.Plain.{IsFew, IsKnown};
 ghost use Rattle.world_core.specs.Worlds.{at_of, IsRunning, Keeps, SendsAsked, MidBeat, AnswersArrivals, DeliversReplies};
 
-use crate::printing::{answer_act, lead_act, tell};
+use crate::printing::{answer_act, end_act, lead_act, tell};
 use crate::replies::send_back;
 use crate::world::World;
 use crate::world::turns::note;
@@ -103,12 +103,19 @@ impl World {
             return Ok(());
         }
         let process = &mut self.processes[i];
-        let received = process.receive(back.incarnation, back.number, &back.reply, self.beat);
+        let received = process.receive(
+            back.incarnation,
+            back.number,
+            &back.reply,
+            self.beat,
+            self.restart,
+        );
         note(process, i, &mut self.turn_beats);
         let actor = process.actor();
         let who = process.me();
         let incarnation = process.incarnation();
         tell(deeds, self.beat, actor, lead_act(received.lead))?;
+        tell(deeds, self.beat, actor, end_act(received.ended))?;
         send_asked(
             &mut self.wire,
             &self.stalls,

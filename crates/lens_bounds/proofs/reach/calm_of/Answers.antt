@@ -1,4 +1,3 @@
-use Rattle.std.proofs.Common.{◌≡◌}
 use Rattle.script_reader.specs.Documents.{doc_of}
 use Rattle.lens_bounds.proofs.Reaches.{calm-is}
 use Rattle.lens_bounds.proofs.reach.calm_of.Goals as goal

@@ -1,4 +1,3 @@
-use Rattle.std.proofs.Common.{◌≡◌}
 use Rattle.script_reader.specs.Documents.{doc_of}
 use Rattle.lens_bounds.proofs.Reaches.{outage-is}
 use Rattle.lens_bounds.proofs.reach.outage_of.Goals as goal

@@ -5,7 +5,6 @@ use Rattle.kube_objects.specs.Document.{processes}
 use Rattle.kube_objects.specs.Writable.{IsWritable}
 use Rattle.history.specs.History.{history}
 use Rattle.script_reader.specs.Lawful.{IsWellNamed}
-use Rattle.script_reader.proofs.OwnDocuments.{own-document}
 use Rattle.world_core.specs.Worlds.{WasRead, WorldStands, at_of}
 use Rattle.world_core.proofs.Fewness.{few-beat, objects-most}
 use Rattle.replay_top.proofs.Grown.{next-passed, next-stands, next-told}
@@ -28,7 +27,7 @@ returns-clause-stands g c doc lawful stands end next =
     let passed = next-passed doc k n next in
     let there = c.skip_to.ensures.stands doc k (history doc k) stands passed.1 in
     let here = subst (λ h. WorldStands doc n h skipped) (sym passed.0) there in
-    let few = few-beat doc (own-document doc lawful) n c.calls_are_numbered.ensures.few c.starts_are_few.ensures c.nodes_are_few.ensures.few (omega (arith, c.requires.ahead.1, c.requires.ready.end)) (objects-most doc.objects lawful.few_objects) lawful.few_events in
+    let few = few-beat doc n c.calls_are_numbered.ensures.few c.starts_are_few.ensures c.nodes_are_few.ensures.few (omega (arith, c.requires.ahead.1, c.requires.ready.end)) (objects-most doc.objects lawful.few_objects) lawful.few_events in
     IfOk-weaker c.beat.result _ _
     (λ deeds done. let at : at_of later ≡ n + 1 = done.0.within.rest.document.at in (next-stands doc n (at_of later) later at done.0, next-told doc k n (at_of later) deeds passed.0 at done.1))
     (c.beat.ensures.stands doc n (history doc n) few here)

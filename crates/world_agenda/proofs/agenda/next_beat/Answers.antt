@@ -19,7 +19,7 @@ pub returns-then-is_there : goal.returns-then-is_there
 returns-then-is_there c doc events stands end =
     let k = at_of c.args.world.now in
     let start : k ≤ end_beat doc = omega (arith, c.requires.within, end) in
-    there-now doc stands.within.rest.document.own k c.next_event.result c.next_wire.result c.sooner_beat-first.result c.beats_wake_by_causes.ensures.next start
+    there-now doc k c.next_event.result c.next_wire.result c.sooner_beat-first.result c.beats_wake_by_causes.ensures.next start
     (c.next_event.ensures doc k (history doc k) stands events) (c.next_wire.ensures doc k (history doc k) stands end) c.sooner_beat-first.ensures
     (late-at k c.at-at.result.0 (beat_of c.sooner_beat-first.result) c.is_there.result c.is_there.ensures c.if-is_there.true c.at-at.ensures)
 
@@ -31,7 +31,7 @@ returns-then-goes_at_once c doc events stands end =
     let start : k ≤ end_beat doc = omega (arith, c.requires.within, end) in
     let here = inside doc k p h c.args.world.now stands (omega (arith, c.loop-i-test.true, c.asked_each-asked.ensures.few)) in
     let goes = sym (c.goes_at_once.ensures doc k h stands end) ∙ c.if-goes_at_once.true in
-    at-once doc stands.within.rest.document.own k p c.wakes-wakes.result c.at-at.result c.beats_wake_by_causes.ensures.next start here (c.wakes-wakes.ensures doc k h stands end)
+    at-once doc k p c.wakes-wakes.result c.at-at.result c.beats_wake_by_causes.ensures.next start here (c.wakes-wakes.ensures doc k h stands end)
     (subst (λ n. goes_now doc n p c.wakes-wakes.result ≡ true) c.at-at.ensures goes) c.at-at.ensures
 
 pub loop-i-preserved : goal.loop-i-preserved
@@ -63,4 +63,4 @@ returns c doc events stands end =
     let below = looked-each doc k asked c.loop-i.i h c.loop-i.next all (subst (λ n. OnlyTurns doc n asked) c.at-at.ensures others) (c.loop-i.invariant doc events stands end) in
     let below_at = subst (λ n. IsNextBelow doc n asked h (beat_of c.loop-i.next)) (sym c.at-at.ensures) below in
     let whole = c.with_others.ensures doc h (subst (λ n. WorldStands doc n h w) (sym c.at-at.ensures) stands) end others below_at in
-    c.next_beats_are_soonest.ensures.next doc stands.within.rest.document.own k (beat_of c.with_others.result) start (subst (λ n. IsNextBelow doc n (processes doc) h (beat_of c.with_others.result)) c.at-at.ensures whole)
+    c.next_beats_are_soonest.ensures.next doc k (beat_of c.with_others.result) start (subst (λ n. IsNextBelow doc n (processes doc) h (beat_of c.with_others.result)) c.at-at.ensures whole)

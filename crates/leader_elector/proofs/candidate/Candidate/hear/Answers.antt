@@ -27,6 +27,7 @@ returns-in-Fails-clause-counts c doc q h k call s waits_are now wall room is =
         elector = t.1;
         settled = settled-own q h k 3 (Delivers call c.args.reply.now true) (λ n. refl);
         leads = s.leads;
+        unreleased = s.unreleased;
       },
     )
 
@@ -44,6 +45,7 @@ returns-in-Asks-clause-counts c doc q h k call s waits_are now wall room is =
         elector = a.stands arrives;
         settled = settled-own q g k 3 (Sends (next_call q k a.kind c.ask.result.request g) arrives) (λ n. refl);
         leads = s.leads;
+        unreleased = s.unreleased;
       };
     }
 
@@ -54,7 +56,7 @@ returns-in-Succeeds-clause-counts c doc q h k call s waits_are now wall room is 
     let t = c.in-Some.ensures.counts doc q h k call s.elector s.leads waits_are now wall is in
     let next : reacted doc k q call c.args.reply.now h ≡ entry k 3 q (Leads version) ∷ g =
     ap (λ f. react doc k q (leads q h) f g) (sym t.0 ∙ ap follow_of c.in-Succeeds.is) ∙ ap (λ b. (if b then g else entry k 3 q (Leads version) ∷ g)) s.leads in
-    (version, next, record { elector = subst (λ e. ElectorStands doc q g e) (sym c.win.ensures.0) t.1; idle = call_in-with_reply q h k call c.args.reply.now; now = ap (λ (x : Local). x.0) c.win.ensures.1 ∙ now })
+    (version, next, record { elector = subst (λ e. ElectorStands doc q g e) (sym c.win.ensures.0) t.1; idle = call_in-with_reply q h k call c.args.reply.now; unreleased = s.unreleased; now = ap (λ (x : Local). x.0) c.win.ensures.1 ∙ now })
 
 pub returns-in_default-clause-takes : goal.returns-in_default-clause-takes
 returns-in_default-clause-takes c w counts waits = absurd (answered-never c.receive.result c.in_default.is (c.receive.ensures.held w counts waits))

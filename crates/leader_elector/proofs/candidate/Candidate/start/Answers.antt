@@ -9,4 +9,5 @@ returns-clause-stands c doc q h k step me incarnation timing now new =
       elector = c.start.ensures.history doc q h k step me incarnation timing now new;
       settled = settled-own q h k step Starts (λ n. refl);
       leads = new.leads;
+      unreleased = new.unreleased;
     }

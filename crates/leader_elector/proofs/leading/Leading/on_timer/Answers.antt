@@ -3,26 +3,24 @@ use Rattle.std.specs.Prelude.{if◌then◌else◌}
 use Rattle.kube_objects.specs.Clocks.{local}
 use Rattle.kube_objects.specs.Elector.{deadline, leads}
 use Rattle.kube_objects.specs.Entry.{Sends}
-use Rattle.kube_objects.specs.Identities.{identity}
 use Rattle.kube_objects.specs.Process.{begun, call_in}
 use Rattle.kube_objects.specs.Turns.{end_as, end_term, try, expired}
 use Rattle.kube_objects.specs.Wire.{next_call}
-use Rattle.kube_objects.proofs.Own.{end_term-own}
 use Rattle.kube_objects.proofs.OwnCalls.{begun-expiry}
 use Rattle.leader_elector.specs.Moves.{Asked}
 use Rattle.leader_elector.specs.Stands.{ElectorStands}
 use Rattle.leader_elector.proofs.Beginning.{before, reached}
-use Rattle.leader_elector.proofs.Expiry.{deadline-expiry, leads-expiry}
+use Rattle.leader_elector.proofs.Expiry.{deadline-expiry, leads-expiry, unreleased-expiry}
 use Rattle.leader_elector.proofs.Own.{settled-own}
 use Rattle.leader_elector.proofs.leading.Leading.on_timer.Goals as goal
 
 pub returns-then-now-self-clause-turns : goal.returns-then-now-self-clause-turns
 returns-then-now-self-clause-turns c doc q h k s now wall room =
     let e = expired doc k q h in
-    let after = c.expire-expired.ensures.stands doc q h k s.elector s.leads tt now in
-    let over : nat_lt (local doc q.process k) c.args.self.deadline.0 ≡ false = ap (λ x. nat_lt x c.args.self.deadline.0) (sym now) ∙ reached c.args.now.0 c.args.self.deadline.0 c.if-now-self.true in
-    let at : deadline doc q e ≡ Some c.args.self.deadline.0 = deadline-expiry doc k q h (call_in q h) ∙ sym s.deadline in
-    (ap (λ x. end_term doc k q x e) at ∙ ap (λ b. (if b then e else end_as doc.settings.rules.release doc k q e)) over ∙ end_term-own doc s.elector.timing.own k q e, c.end.ensures ∙ (λ i. identity (after.process i) (after.incarnation i)))
+    let late : nat_lt c.args.now.0 c.args.self.deadline.0 ≡ false = reached c.args.now.0 c.args.self.deadline.0 c.if-now-self.true in
+    let at : Some c.args.self.deadline.0 ≡ deadline doc q e = s.deadline ∙ sym (deadline-expiry doc k q h (call_in q h)) in
+    let room_now : begun q e + 1 < 2 ^ 64 = subst (λ n. n + 1 < 2 ^ 64) (sym (begun-expiry doc k q h (call_in q h))) room in
+    c.end_by_rule.ensures.turns doc q e k (c.expire-expired.ensures.stands doc q h k s.elector s.leads tt now) at (unreleased-expiry doc k q h (call_in q h) s.unreleased) now late wall room_now
 
 pub returns-in-Some-clause-turns : goal.returns-in-Some-clause-turns
 returns-in-Some-clause-turns c doc q h k s now wall room =
@@ -43,6 +41,7 @@ returns-in-Some-clause-turns c doc q h k s now wall room =
           settled = settled-own q e k 4 (Sends (next_call q k a.kind c.in-Some.ask.request e) arrives) (λ n. refl);
           leads = led;
           deadline = sym at;
+          unreleased = unreleased-expiry doc k q h (call_in q h) s.unreleased;
         };
       },
     )
@@ -62,5 +61,6 @@ returns-in-None-clause-turns c doc q h k s now wall room =
         settled = c.expire-expired.ensures.settled doc q h k s.elector s.settled now t.0;
         leads = led;
         deadline = sym at;
+        unreleased = unreleased-expiry doc k q h (call_in q h) s.unreleased;
       },
     )

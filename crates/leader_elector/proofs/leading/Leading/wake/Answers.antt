@@ -14,7 +14,7 @@ returns-then-self-wake-clause-least c doc q h k s =
     let sooner : nat_lt at wake ≡ true = ap (nat_lt at) (sym (c.wake-wake.ensures.history doc q h s.elector)) ∙ before at c.wake-wake.result.0 c.if-self-wake.true in
     subst (λ n. IsLeast n (local doc q.process k) h (leading_turn doc k q h))
     (ap (wake_before wake) (sym s.deadline) ∙ ap (λ b. cond b at wake) sooner)
-    (leading-least doc s.elector.timing.own k q h at s.settled s.deadline)
+    (leading-least doc k q h at s.elector.slot.ordinary s.unreleased s.settled s.deadline)
 
 pub returns-else-self-wake-clause-least : goal.returns-else-self-wake-clause-least
 returns-else-self-wake-clause-least c doc q h k s =
@@ -23,4 +23,4 @@ returns-else-self-wake-clause-least c doc q h k s =
     let later : nat_lt at wake ≡ false = ap (nat_lt at) (sym (c.wake-wake.ensures.history doc q h s.elector)) ∙ reached at c.wake-wake.result.0 c.if-self-wake.false in
     subst (λ n. IsLeast n (local doc q.process k) h (leading_turn doc k q h))
     (ap (wake_before wake) (sym s.deadline) ∙ ap (λ b. cond b at wake) later ∙ sym (c.wake-wake.ensures.history doc q h s.elector))
-    (leading-least doc s.elector.timing.own k q h at s.settled s.deadline)
+    (leading-least doc k q h at s.elector.slot.ordinary s.unreleased s.settled s.deadline)

@@ -1,6 +1,7 @@
 use Rattle.std.proofs.Common.{◌≡◌, ◌<◌, ◌++◌, option_map, vec_len, refl, sym, ap, ◌∙◌, arith}
 use Rattle.kube_objects.specs.declared.deed.Act.TheVariants as act
 use Rattle.kube_objects.specs.Identities.{identity}
+use Rattle.kube_objects.specs.Newest.{when}
 use Rattle.history.specs.Printed.{deeds_of}
 use Rattle.history.specs.Steps.{delivered}
 use Rattle.world_process.proofs.Grows.{few-before, grows-delivered}
@@ -41,10 +42,17 @@ returns-clause-stands c doc k before arriving coming h b r is known few =
     let at : w.beat.0 ≡ k = r.world.rest.document.at in
     let process : b.who.process ≡ i = ap (λ d. d.who.0) (sym is) in
     let whose : b.who ≡ identity i back.incarnation = ap (λ n. identity n b.who.incarnation) process ∙ ap (λ n. identity i n) (ap (λ d. d.incarnation) (sym is)) in
-    let replied = replied-kept doc k i b h y c1 c.receive-received.result c.note.ensures.stands c.note.ensures.incarnation (c.receive-received.ensures.stands doc k i b h s at whose (ap (λ d. d.number) (sym is)) (ap (λ d. d.reply) (sym is)) (few-before h (delivered doc k b h) (grows-delivered doc k b h) few)) in
+    let replied = replied-kept doc k i b h y c1 c.receive-received.result c.note.ensures.stands c.note.ensures.incarnation (c.receive-received.ensures.stands doc k i b h s at whose (ap (λ d. d.number) (sym is)) (ap (λ d. d.reply) (sym is)) r.world.rest.document.restart (few-before h (delivered doc k b h) (grows-delivered doc k b h) few)) in
     let me = ap (λ m. m.0) (c.note.ensures.same.me ∙ c.receive-received.ensures.same.me) ∙ process-me doc i h c0 s in
     let who = actor-is i c1 c.actor-actor.result c.actor-actor.ensures me in
-    let told = c.in_ok-tell.ensures ∙ ap (λ a. c.args.deeds.now ++ deeds_of w.beat.0 c.actor-actor.result a) c.lead_act.ensures ∙ ap (λ n. c.args.deeds.now ++ deeds_of n c.actor-actor.result done) at ∙ ap (λ x. c.args.deeds.now ++ deeds_of k x done) who in
+    let named = c.actor-actor.result in
+    let over = when c.receive-received.result.ended act.End in
+    let told = c.in_ok-tell-2.ensures
+    ∙ ap (λ ds. ds ++ deeds_of w.beat.0 named c.end_act.result) c.in_ok-tell.ensures
+    ∙ ap (λ a. c.args.deeds.now ++ deeds_of w.beat.0 named a ++ deeds_of w.beat.0 named c.end_act.result) c.lead_act.ensures
+    ∙ ap (λ a. c.args.deeds.now ++ deeds_of w.beat.0 named done ++ deeds_of w.beat.0 named a) c.end_act.ensures
+    ∙ ap (λ n. c.args.deeds.now ++ deeds_of n named done ++ deeds_of n named over) at
+    ∙ ap (λ x. c.args.deeds.now ++ deeds_of k x done ++ deeds_of k x over) who in
     on-ok c.send_asked.result _ _ (λ sent.
     let sends = sends-as k w.beat.0 i c.incarnation-incarnation.result c.me-who.result c1 c.receive-received.result.ask w.stalls w.wire c.send_asked.new.wire at c.me-who.ensures c.incarnation-incarnation.ensures me sent in
-    running-replied doc k i before c.args.deeds.now c.tell.new.deeds arriving coming b h c0 c1 w _ c.receive-received.result r process within known (one_process_moved was refl) sends replied told) c.send_asked.ensures.sends
+    running-replied doc k i before c.args.deeds.now c.tell-2.new.deeds arriving coming b h c0 c1 w _ c.receive-received.result r process within known (one_process_moved was refl) sends replied told) c.send_asked.ensures.sends

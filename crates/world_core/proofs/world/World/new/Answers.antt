@@ -1,13 +1,11 @@
 use Rattle.std.proofs.Common.{◌≡◌, [], length, length-append, refl, sym, ap, ◌∙◌, subst, arith}
 use Rattle.kube_objects.specs.Document.{Doc, processes}
 use Rattle.kube_objects.specs.InFlight.{replies_due}
-use Rattle.kube_objects.specs.Own.{IsOwn}
 use Rattle.history.specs.History.{history}
 use Rattle.history.specs.Sound.{AreApart}
 use Rattle.beat_laws.proofs.Unticked.{first_unticked}
 use Rattle.script_reader.specs.Documents.{doc_of}
 use Rattle.script_reader.specs.Lawful.{AreLawfulFrom}
-use Rattle.script_reader.proofs.OwnDocuments.{own-document}
 use Rattle.pause_times.specs.Owned.{StallsStand, AreStallsFit, stalls_of}
 use Rattle.wire_calls.specs.WireStands.{WireStands}
 use Rattle.world_core.specs.Worlds.{AreNoted}
@@ -51,7 +49,7 @@ pub returns-clause-stands : goal.returns-clause-stands
 returns-clause-stands c = record {
   within = record {
     rest = record {
-      document = record { at = refl; restart = c.picoseconds.ensures.value; count = count; epoch = refl; micros = refl; events = refl; controllers = ap (λ xs. length xs) c.as_slice-controllers.ensures; stalls = stalls; own = own };
+      document = record { at = refl; restart = c.picoseconds.ensures.value; count = count; epoch = refl; micros = refl; events = refl; controllers = ap (λ xs. length xs) c.as_slice-controllers.ensures; stalls = stalls };
       plain = put-plain doc (processes doc) doc.objects [] (record { fresh = λ p i less. tt; all = tt });
       store = c.in_ok-store.ensures doc refl;
       wire = subst (λ ss. WireStands (processes doc) 0 ss (replies_due 0 (history doc 0)) (history doc 0) c.in_ok-wire.wire) (sym (put-requests doc 0 doc.objects []))
@@ -59,7 +57,7 @@ returns-clause-stands c = record {
           (put-wire doc (processes doc) doc.objects [] c.in_ok-wire.wire (subst (λ n. WireStands n 0 [] [] [] c.in_ok-wire.wire) (c.len.ensures ∙ c.in_ok-processes.processes.ok.0 ∙ count) (c.in_ok-wire.ensures 0 [] refl))));
       in_force = put-in_force doc doc.objects [] c.in_ok-in_force.in_force (c.in_ok-in_force.ensures doc refl refl);
     };
-    processes = put-each doc doc.objects [] c.in_ok-processes.processes.items (c.in_ok-processes.ensures.stands doc (record { settings = refl; controllers = refl; kubelets = refl; waits = refl; events = sym c.as_slice.ensures; own = own }));
+    processes = put-each doc doc.objects [] c.in_ok-processes.processes.items (c.in_ok-processes.ensures.stands doc (record { settings = refl; controllers = refl; kubelets = refl; waits = refl; events = sym c.as_slice.ensures }));
   };
   placed = record { earlier = λ i e less is. absurd (omega (arith, less)); later = c.requires.lawful.events };
   unticked = first_unticked doc;
@@ -68,9 +66,6 @@ returns-clause-stands c = record {
   where
     doc : Doc
     doc = doc_of c.args.document
-
-    own : IsOwn doc
-    own = own-document doc c.requires.lawful
 
     stalls : StallsStand doc c.in_ok-stalls.stalls
     stalls = record { all = c.in_ok-stalls.ensures ∙ ap stalls_of c.as_slice-3.ensures; apart = c.requires.lawful.apart }

@@ -3,7 +3,7 @@ use Rattle.kube_objects.specs.Document.{processes}
 use Rattle.kube_objects.specs.InForce.{watches}
 use Rattle.kube_objects.specs.Stalls.{is_stalled}
 use Rattle.kube_objects.specs.Wire.{loses_requests}
-use Rattle.world_process.specs.Processes.{in_term_now}
+use Rattle.world_process.specs.Processes.{leads_now}
 use Rattle.world_process.proofs.Processes.{process-me}
 use Rattle.world_core.proofs.MidBeat.{keeps-moved, one_process_moved}
 use Rattle.world_core.proofs.Moving.{read-at, room-for, within-end, within-processes}
@@ -18,7 +18,7 @@ returns-then-is_none-clause-stands g c doc k before arriving coming h r unticked
     let i = c.args.i in
     let x = c.index.result.now in
     let s = r.world.processes i x (read-at w i x c.requires.index c.index.ensures) in
-    let none : in_term_now doc k i h ≡ false = sym (c.leadership.ensures.in_term doc k i h s r.world.rest.document.at) ∙ c.is_none.ensures ∙ ap not c.if-is_none.true in
+    let none : leads_now doc k i h ≡ false = sym (c.leadership.ensures.leads doc k i h s r.world.rest.document.at) ∙ c.is_none.ensures ∙ ap not c.if-is_none.true in
     running-unticked doc k i before c.args.deeds.now arriving coming h w none r
 
 pub returns-then-is_stalled-clause-stands : goal.returns-then-is_stalled-clause-stands

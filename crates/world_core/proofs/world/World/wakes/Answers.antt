@@ -2,9 +2,9 @@ use Rattle.std.proofs.Common.{◌≡◌, not, false, sym, ap, ◌∙◌, subst, 
 use Rattle.kube_objects.specs.Clocks.{local}
 use Rattle.kube_objects.specs.Identities.{identity}
 use Rattle.agenda_laws.specs.Times.{is_early}
-use Rattle.world_process.proofs.Timers.{leads-in}
 use Rattle.world_process.specs.OwnTerm.{IsUpAs}
-use Rattle.world_process.specs.Processes.{in_term_now, clock_of, incarnation_of}
+use Rattle.world_process.specs.Processes.{leads_now, clock_of, incarnation_of}
+use Rattle.world_process.proofs.Acting.{process-led}
 use Rattle.world_core.specs.Waits.{WakesStand, starts_now}
 use Rattle.world_core.proofs.Awake.{acting-stands, begun-is, down-is, idle-stands, its-clock, its-term, readings-alike, some-holds, starting-stands, starts-is, term-reading}
 use Rattle.world_core.proofs.Moving.{read-at, within-end, within-processes}
@@ -36,7 +36,7 @@ returns-then-is_none c doc k h s end =
       | else-self-eq0-via-then-self-eq0+else-is_up_first w ↦ down-is doc k p h x (sym w.is_up_first.ensures ∙ w.if-is_up_first.false) stands
       | else-self-eq0-via-else-self-eq0 w ↦ begun-is doc k p (λ zero. w.if-self-eq0.false (at ∙ zero))
     ] in
-    let none : in_term_now doc k p h ≡ false = sym (c.leadership.ensures.in_term doc k p h stands at) ∙ c.is_none.ensures ∙ ap not c.if-is_none.true in
+    let none : leads_now doc k p h ≡ false = sym (c.leadership.ensures.leads doc k p h stands at) ∙ c.is_none.ensures ∙ ap not c.if-is_none.true in
     subst (WakesStand doc k p h) (sym c.with.ensures) (idle-stands doc k p h (clock_of x) c.wake-wake.result (its-clock doc p h x stands) starts none (c.wake-wake.ensures doc p h stands))
 
 pub returns : goal.returns
@@ -55,10 +55,10 @@ returns c doc k h s end =
     ] in
     let some = c.is_none.ensures ∙ ap not c.if-is_none.false in
     let up = some-holds c.leadership.result _ some (c.leadership.ensures.up doc p h stands) in
-    let acts = term-is doc k p i h up (sym (c.leadership.ensures.in_term doc k p h stands d.at) ∙ some) in
+    let acts = term-is doc k p i h up (sym (c.leadership.ensures.leads doc k p h stands d.at) ∙ some) in
     let it : IsUpAs doc q h = record { sort = acts.sort; up = up } in
     let watch = c.watch-watch.ensures doc h s.within.rest.in_force (within-processes doc k w p d c.requires.process) in
-    let led = leads-in doc k q h acts.term in
+    let led = process-led doc k p h x stands acts.sort up acts.term in
     let term = term-reading doc q h c.sync_wake.result c.term_wake.result c.sooner-term.result c.sooner-term.ensures (c.sync_wake.ensures doc q h stands s.within.rest.store watch it led) (c.term_wake.ensures doc q h stands it) in
     subst (WakesStand doc k p h) (sym c.with-2.ensures)
     (acting-stands doc k p i h (clock_of x) c.wake-wake.result c.sooner-term.result (record { at_once = c.at_once-2.result; local = c.sooner.result; wall = c.least_due.result; room = c.delete_wake.result }) (its-clock doc p h x stands) starts (its-term doc k p i h up acts)

@@ -31,7 +31,7 @@ loop-process-preserved c =
           let here = ap (λ ys. slice_get ys n) given ∙ ap (λ i. slice_get ps i) count ∙ slice_get-get_or ps c.loop-process.process-index _ within in
           subst (EachStands doc []) (sym c.in_ok-push.ensures.items)
           (every-end (λ i x. ProcessStands doc i [] x) xs new (inv.stands doc made)
-          (c.keep_turn_beat.ensures.stands doc n [] (c.in_ok-controller.ensures.stands doc n (record { me = place; settings = made.settings; process = slice_get-front doc.controllers doc.kubelets n _ here; events = made.events; own = made.own }) controls (sym (ap (waits_or own_waits) (ap (λ ws. slice_get ws n) made.waits ∙ ap (slice_get c.args.waits.now) (sym place) ∙ c.waits_at-own.ensures.found))))));
+          (c.keep_turn_beat.ensures.stands doc n [] (c.in_ok-controller.ensures.stands doc n (record { me = place; settings = made.settings; process = slice_get-front doc.controllers doc.kubelets n _ here; events = made.events }) controls (sym (ap (waits_or own_waits) (ap (λ ws. slice_get ws n) made.waits ∙ ap (slice_get c.args.waits.now) (sym place) ∙ c.waits_at-own.ensures.found))))));
     }
 
 pub loop-process-2-preserved : goal.loop-process-2-preserved
@@ -55,5 +55,5 @@ loop-process-2-preserved c =
           ∙ slice_get-get_or ps c.loop-process-2.process-index _ within in
           subst (EachStands doc []) (sym c.in_ok-push-2.ensures.items)
           (every-end (λ i x. ProcessStands doc i [] x) xs new (inv.stands doc made)
-          (c.keep_turn_beat-in-loop-process-2.ensures.stands doc n [] (c.in_ok-kubelet.ensures.stands doc n (record { me = c.len.ensures ∙ c.loop-process-2.processes.ok.0; settings = made.settings; process = process; events = made.events; own = made.own }) other)));
+          (c.keep_turn_beat-in-loop-process-2.ensures.stands doc n [] (c.in_ok-kubelet.ensures.stands doc n (record { me = c.len.ensures ∙ c.loop-process-2.processes.ok.0; settings = made.settings; process = process; events = made.events }) other)));
     }

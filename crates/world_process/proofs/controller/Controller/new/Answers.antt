@@ -20,7 +20,8 @@ returns-clause-stands c doc p made sort waits =
         fast = ap (λ y. y.fast_renew) (sym made.settings);
         retries = ap (λ y. y.rules.retries) (sym made.settings);
         respect = ap (λ y. y.rules.respect) (sym made.settings);
-        own = made.own;
+        release = ap (λ y. y.rules.release) (sym made.settings);
+        in_release = ap (λ y. y.rules.in_release) (sym made.settings);
       };
       waits = record { are = c.in_ok-copy.ensures ∙ waits; some = subst (λ ws. 1 ≤ length ws) (sym c.in_ok-copy.ensures) c.requires.waits.some };
       clock = c.in_ok-clock.ensures.clock doc p made;
@@ -28,7 +29,7 @@ returns-clause-stands c doc p made sort waits =
       up_first = ap (λ y. field (λ x. x.up) false y) (sym process);
       role = (refl, refl);
       term = subst (OwnsTerm doc p []) (sym c.in_ok-new.ensures.ok)
-          (record { settings = (c.new-term.ensures doc (identity p 0) [] refl refl (c.tick_settings.ensures.stands doc made.own made.settings)).settings; each = λ i up. absurd (none_is i up) });
+          (record { settings = (c.new-term.ensures doc (identity p 0) [] refl refl (c.tick_settings.ensures.stands doc made.settings)).settings; each = λ i up. absurd (none_is i up) });
       waking = c.new-2.ensures c.in_ok-clock.clock;
     }
 

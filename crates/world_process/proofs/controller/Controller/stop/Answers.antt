@@ -2,11 +2,9 @@ use Rattle.std.proofs.Common.{◌≡◌, true, false, None, sym, ap, ◌∙◌, 
 use Rattle.kube_objects.specs.Identities.{identity}
 use Rattle.kube_objects.specs.Pauses.{is_paused}
 use Rattle.world_process.specs.declared.controller.Role.TheVariants as role
-use Rattle.world_process.specs.Controllers.{StoppedAs, is_up_as}
-use Rattle.world_process.proofs.Forgetting.{stopped-forgets}
-use Rattle.world_process.proofs.Readings.{readings-are}
-use Rattle.world_process.proofs.Scripted.{stopped-candidate, stopped-down, stopped-leading, stopped-paused}
+use Rattle.world_process.specs.Controllers.{ControllerStands, StoppedAs, is_up_as}
 use Rattle.world_process.proofs.Standing.{role-at}
+use Rattle.world_process.proofs.Stopping.{stopped-candidate, stopped-down, stopped-paused, stopped-releasing}
 use Rattle.world_process.proofs.controller.Controller.stop.Goals as goal
 
 pub returns-then-is_paused-clause-stands : goal.returns-then-is_paused-clause-stands
@@ -27,17 +25,23 @@ pub returns-in-Candidate-clause-stands : goal.returns-in-Candidate-clause-stands
 returns-in-Candidate-clause-stands c doc k id h s at few =
     let self = c.args.self.now in
     let awake : is_paused doc id.0 k ≡ false = ap (is_paused doc id.0) (sym at) ∙ sym (c.is_paused.ensures doc id.0 s.pauses) ∙ c.if-is_paused.false in
+    let was = role-at doc id.0 h self (role.Candidate c.in-Candidate.field-0) s (sym c.replace.ensures.value ∙ c.in-Candidate.is) in
     subst (λ r. StoppedAs doc k id h (record self { role = r }) c.stop_with-in-Candidate.result) (sym c.replace.ensures.after)
     (subst (λ r. StoppedAs doc k id h (record self { role = role.Down None }) r) (sym c.stop_with-in-Candidate.ensures)
-    (stopped-candidate doc k id h self c.in-Candidate.field-0 awake s (sym c.replace.ensures.value ∙ c.in-Candidate.is)))
+    (stopped-candidate doc k id h self awake s c.in-Candidate.field-0 was.0 was.1))
 
 pub returns-in-Leading-clause-stands : goal.returns-in-Leading-clause-stands
 returns-in-Leading-clause-stands c doc k id h s at few =
     let self = c.args.self.now in
     let awake : is_paused doc id.0 k ≡ false = ap (is_paused doc id.0) (sym at) ∙ sym (c.is_paused.ensures doc id.0 s.pauses) ∙ c.if-is_paused.false in
+    let was = subst (λ r. ControllerStands doc id.0 h (record self { role = r })) (sym c.replace.ensures.value ∙ c.in-Leading.is) s in
+    c.give_up.ensures.stands doc k id h was at awake few
+
+pub returns-in-Releasing-clause-stands : goal.returns-in-Releasing-clause-stands
+returns-in-Releasing-clause-stands c doc k id h s at few =
+    let self = c.args.self.now in
     let q = identity id.0 self.incarnation in
-    let reads = readings-are doc id.0 k c.args.beat.0 c.local-now.result.0 c.wall_at-wall.result.0 self.clock s.clock at c.local-now.ensures.value c.wall_at-wall.ensures.value in
-    let was = role-at doc id.0 h self (role.Leading c.in-Leading.leading) s (sym c.replace.ensures.value ∙ c.in-Leading.is) in
-    let gone = subst (λ r. StoppedAs doc k id h (record self { role = r }) c.stop_with-in-Leading.result) (sym c.replace.ensures.after)
-    (subst (λ r. StoppedAs doc k id h (record self { role = role.Down None }) r) (sym c.stop_with-in-Leading.ensures) (stopped-leading doc k id h self c.release.result.ask awake s was.0 (c.release.ensures.ask doc q h k was.1 reads.wall (few.calls q)))) in
-    stopped-forgets doc k id h _ c.forget_term.new.self c.stop_with-in-Leading.result c.forget_term.ensures.incarnation (λ g. c.forget_term.ensures.stands doc id.0 g) gone
+    let awake : is_paused doc id.0 k ≡ false = ap (is_paused doc id.0) (sym at) ∙ sym (c.is_paused.ensures doc id.0 s.pauses) ∙ c.if-is_paused.false in
+    let was = role-at doc id.0 h self (role.Releasing c.in-Releasing.releasing) s (sym c.replace.ensures.value ∙ c.in-Releasing.is) in
+    subst (λ r. StoppedAs doc k id h (record self { role = role.Releasing c.stop.result }) r) (sym c.stop_with-in-Releasing.ensures)
+    (stopped-releasing doc k id h self awake s c.in-Releasing.releasing c.stop.result was.0 was.2 was.1 (λ stands. c.stop.ensures.stands doc q _ k 1 stands))

@@ -17,7 +17,6 @@ returns-clause-stands c doc p made sort =
       up_first = ap (λ y. field (λ x. x.up) false y) (sym process);
       rounds = refl;
       waking = c.new.ensures c.in_ok-clock.clock;
-      own = made.own;
     }
 
 pub returns-clause-timed : goal.returns-clause-timed

@@ -1,4 +1,4 @@
-use Rattle.std.proofs.Common.{Some, None, sym, subst}
+use Rattle.std.proofs.Common.{Some, None, false, sym, subst}
 use Rattle.kube_objects.specs.Identities.{identity}
 use Rattle.world_process.specs.Kubelets.{Replied}
 use Rattle.world_process.proofs.Answering.{is-back}
@@ -18,7 +18,7 @@ returns-in-None-clause-stands c doc k p b h s at who number reply few =
     let back = is-back b p c.args.incarnation self.incarnation c.args.number c.args.reply.now who c.if-incarnation-self.false number reply in
     let down = rounds-at doc p h self None s c.in-None.is in
     subst (λ r. Replied doc k p b h (record self { rounds = self.rounds }) r) (sym c.stays-in-None.ensures)
-    (subst (λ x. Replied doc k p b h (record self { rounds = x }) (record { lead = None; ask = None })) (sym c.in-None.is) (kubelet-replied-down doc k p b c.args.number c.args.reply.now h self s down back))
+    (subst (λ x. Replied doc k p b h (record self { rounds = x }) (record { lead = None; ended = false; ask = None })) (sym c.in-None.is) (kubelet-replied-down doc k p b c.args.number c.args.reply.now h self s down back))
 
 pub returns-in-Some-clause-stands : goal.returns-in-Some-clause-stands
 returns-in-Some-clause-stands c doc k p b h s at who number reply few =

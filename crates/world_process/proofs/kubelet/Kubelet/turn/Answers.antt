@@ -22,4 +22,4 @@ returns-in-Some-clause-stands c doc k p h s at status few =
     let q = identity p self.incarnation in
     let calls = (few-before h (kubelet_turn doc k p h) (grows-kubelet_turn doc k p h) few).calls q in
     subst (λ t. Turned doc k p h (record self { rounds = Some c.on_timer.new.self }) t) (sym c.turn_with-in-Some.ensures)
-    (kubelet-turned doc k p h self s was.0 c.on_timer.new.self c.on_timer.result (c.on_timer.ensures.turns doc q h k was.1 reads.now reads.wall status calls))
+    (kubelet-turned doc k p h self s was.0 was.1.call.slot.ordinary c.on_timer.new.self c.on_timer.result (c.on_timer.ensures.turns doc q h k was.1 reads.now reads.wall status calls))

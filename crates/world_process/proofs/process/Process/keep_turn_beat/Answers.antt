@@ -49,7 +49,6 @@ returns-in-Kubelet-clause-stands c doc p h s =
       rounds = own.rounds;
       pauses = own.pauses;
       waking = c.keep-in-Kubelet.ensures.kept own.waking;
-      own = own.own;
     }
 
 pub returns-in-Kubelet-clause-kept : goal.returns-in-Kubelet-clause-kept
@@ -59,6 +58,6 @@ returns-in-Kubelet-clause-kept c timed =
       timed = c.keep-in-Kubelet.ensures.kept own;
       first = λ doc p h at s is.
           let stood : KubeletStands doc p h c.in-Kubelet.kubelet =
-          record { sort = s.sort; me = s.me; incarnation = s.incarnation; node = s.node; lease = s.lease; timeout = s.timeout; clock = s.clock; up_first = s.up_first; rounds = s.rounds; pauses = s.pauses; waking = own; own = s.own } in
+          record { sort = s.sort; me = s.me; incarnation = s.incarnation; node = s.node; lease = s.lease; timeout = s.timeout; clock = s.clock; up_first = s.up_first; rounds = s.rounds; pauses = s.pauses; waking = own } in
           beat-same c.in-Kubelet.kubelet.clock c.keep-in-Kubelet.new.self.until c.wake-wake.result at (c.wake-wake.ensures doc p h (subst (ProcessStands doc p h) (sym c.in-Kubelet.is) stood) ∙ sym is) (c.keep-in-Kubelet.ensures.found own);
     }
