@@ -8,7 +8,7 @@ numbers; the first one is by default crates/kube_replay/out/kube_replay, which `
 run N times (1), the least time counts. --divide makes the beats and the objects fewer by that factor, for a reference that is
 slow. --keep leaves the documents in a folder. The table has wall-clock seconds, those of the processor, the greatest resident memory, and how
 many times the reference's time is the program's. With --json COMMAND each row of `check` has the processor seconds and the memory of a program
-that does nothing but read the same JSON, as bench/read_json does by serde_json (`cd bench/read_json && cargo build --release`). The exit status
+that does nothing but read the same JSON, as the one does that bench/read_json.sh builds. The exit status
 is 1 where program and reference write different bytes or end differently, or the program doesn't end with 0.
 """
 import argparse

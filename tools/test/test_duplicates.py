@@ -98,6 +98,19 @@ class OfDuplicates(unittest.TestCase):
         self.assertEqual(self.said('--most', '1'), ['  1. 9 lines, 2 times, word for word', '     a/one.rt:8-16', '     b/two.rt:8-16',
                                                     'word for word: 2 blocks, 15 lines too many; the first 1 are shown'])
 
+    def test_a_reason_stands_below_its_block_and_behind_those_without(self):
+        nine = ['let each%d = %d;' % (number, number) for number in range(9)]
+        self.put('a/one.rt', *SIX, 'between', *nine)
+        self.put('b/two.rt', *SIX, 'other', *nine)
+        self.put('c/three.rt', 'c', *nine)
+        self.put('tools/repeats.txt', '# why', 'a/one.rt b/two.rt c/three.rt c/four.rt: numbers are data', 'a/one.rt c/three.rt: gone')
+        self.assertEqual(self.said()[:3], ['  1. 9 lines, 3 times, word for word', '     a/one.rt:8-16', '     b/two.rt:8-16'])
+        self.assertEqual([line for line in self.said() if 'stays' in line], ['     stays: numbers are data'] * 2)
+        self.assertEqual(self.said()[-2:], ['word for word: 2 blocks, 24 lines too many, 2 of them stay', 'tools/repeats.txt:3: there is no such block'])
+        self.put('tools/repeats.txt', 'a/one.rt b/two.rt: a pair')
+        self.assertEqual(self.said()[:4], ['  1. 9 lines, 3 times, word for word', '     a/one.rt:8-16', '     b/two.rt:8-16', '     c/three.rt:2-10'])
+        self.assertEqual(self.said()[4:8], ['  2. 6 lines, 2 times, word for word', '     a/one.rt:1-6', '     b/two.rt:1-6', '     stays: a pair'])
+
 
 if __name__ == '__main__':
     unittest.main()

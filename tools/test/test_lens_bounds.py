@@ -560,17 +560,7 @@ class Comparison:
 
 # Worked out by hand
 
-ROWS = [(['--timeout', '2s', '--wait', '4400ms', '--delay', '100ms'], """\
-timeout=2000ms wait=2000ms..4400ms delay=10ms..100ms skew=0ppm
-crash nobody-leads at-least=12730ms at-most=24570ms
-stop nobody-leads at-least=40ms at-most=4990ms
-cut-off acts-on-at-most=12190ms
-calm leads at-most=26390ms stays-from at-most=36970ms
-node unknown at-least=34650ms at-most=50080ms
-node tainted ahead=0 at-least=34650ms at-most=60080ms at-most-with-token=50080ms
-pods gone toleration=300s at-least=333660ms at-most=360080ms at-most-with-token=350080ms
-stays
-"""), (['--timeout', '2s', '--beat', '100ms', '--delay', '100ms'], """\
+ROWS = [(['--timeout', '2s', '--wait', '4400ms', '--delay', '100ms'], lens_frame.USUAL_BOUNDS), (['--timeout', '2s', '--beat', '100ms', '--delay', '100ms'], """\
 timeout=2000ms wait=2000ms..2000ms delay=100ms..100ms skew=0ppm
 crash nobody-leads at-least=13400ms at-most=17800ms
 stop nobody-leads at-least=400ms at-most=2500ms

@@ -10,22 +10,12 @@ import json
 import subprocess
 import sys
 
+from lens_frame import USUAL_BOUNDS
 from places import built
-
-BLOCK = '''timeout=2000ms wait=2000ms..4400ms delay=10ms..100ms skew=0ppm
-crash nobody-leads at-least=12730ms at-most=24570ms
-stop nobody-leads at-least=40ms at-most=4990ms
-cut-off acts-on-at-most=12190ms
-calm leads at-most=26390ms stays-from at-most=36970ms
-node unknown at-least=34650ms at-most=50080ms
-node tainted ahead=0 at-least=34650ms at-most=60080ms at-most-with-token=50080ms
-pods gone toleration=300s at-least=333660ms at-most=360080ms at-most-with-token=350080ms
-stays
-'''
 
 # Words, the exit status wanted, and lines that have to be there.
 BY_FLAGS = (
-    ('--timeout 2s --wait 4400ms --delay 100ms', 0, BLOCK.splitlines()),
+    ('--timeout 2s --wait 4400ms --delay 100ms', 0, USUAL_BOUNDS.splitlines()),
     ('--timeout 2s --beat 1ms --delay 1ms --wait 4400ms', 0, ['crash nobody-leads at-least=13000ms at-most=23805ms']),
     ('--timeout 2s --beat 100ms --delay 100ms', 0, ['crash nobody-leads at-least=13400ms at-most=17800ms', 'stop nobody-leads at-least=400ms at-most=2500ms',
                                                     'cut-off acts-on-at-most=12100ms', 'calm leads at-most=19800ms stays-from at-most=30200ms']),
@@ -145,8 +135,8 @@ def main():
         found = answer(program, flags.split())
         if found[0] != 2 or not found[1].startswith('usage: kube_lens bounds ') or found[1].splitlines()[1] != last:
             wrong.append((flags, found))
-    if answer(program, BY_FLAGS[0][0].split()) != (0, BLOCK):
-        wrong.append(BLOCK)
+    if answer(program, BY_FLAGS[0][0].split()) != (0, USUAL_BOUNDS):
+        wrong.append(USUAL_BOUNDS)
     if answer(program, '--timeout 2s --beat 100ms --delay 100ms --json'.split()) != (0, OBJECT):
         wrong.append(OBJECT)
     if answer(program, [], json.dumps(DOCUMENT)) != (0, LINES):

@@ -5,10 +5,9 @@ use Rattle.kube_objects.specs.Entry.{Entry, Identity}
 use Rattle.kube_objects.specs.Identities.{identity}
 use Rattle.kube_objects.specs.Tick.{for_each}
 use Rattle.history.specs.Steps.{if_up}
-use Rattle.history_laws.specs.Tails.{IsTail}
+use Rattle.history_laws.specs.Tails.{IsTail, Among}
 use Rattle.history_laws.proofs.Plainly.{true_is, false_is}
 use Rattle.history_laws.proofs.Tailed.{tail_all, tail_trans}
-use Rattle.agenda_laws.specs.Standing.{Among}
 use Rattle.agenda_laws.specs.Times.{is_early, sooner}
 
 tail_length : (g h : List Entry) → IsTail g h → length g ≤ length h

@@ -18,11 +18,10 @@ use Rattle.kube_objects.specs.Stalls.{is_stalled}
 use Rattle.kube_objects.specs.Tick.{sync, pass, cleaned, tainted, evicted, tick, phases}
 use Rattle.kube_objects.specs.Turns.{expire_as, expire_call, end_as, end_term, attempt_if, try}
 use Rattle.history.specs.Steps.{start_first, starts_below, first_starts, start_if_down, crash, stall, stop, effect, stamp, event_version, happen_all, step_one, restart_if, restart, expire, finish, attempts, ticks_while, ticks, elector_turn, controller_turn, rounds, kubelet_turn, happens, start}
-use Rattle.history_laws.specs.Tails.{IsTail}
+use Rattle.history_laws.specs.Tails.{IsTail, Among}
 use Rattle.history_laws.proofs.Tailed.{tail_all, tail_trans, stop_as_adds, expire_as_adds, end_as_adds}
 use Rattle.history_laws.proofs.Ticks.{walk_sync, walk_pass, walk_cleaned, walk_tainted, walk_evicted, walk_tick}
 use Rattle.agenda_laws.specs.Parts.{IsUneventful, EventsAddByParts, IsStillElector, ElectorsAddByParts, IsStillController, ControllersAddByParts, IsStillKubelet, KubeletsAddByParts, IsStillSynced, IsStillTick, TicksAddByParts}
-use Rattle.agenda_laws.specs.Standing.{Among}
 use Rattle.agenda_laws.proofs.Between.{between, longer, grew, up_adds}
 
 -- ---- first starts

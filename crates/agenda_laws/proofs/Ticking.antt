@@ -37,11 +37,11 @@ use Rattle.kube_objects.specs.Tick.{add, has_settled, sync, is_stripped, mark_as
 use Rattle.kube_objects.specs.Tokens.{Rated, rated, is_rated, base, token_size, is_full_by, is_grown, is_there, has_token}
 use Rattle.kube_objects.specs.Tolerations.{due}
 use Rattle.kube_objects.specs.Tries.{try_delete_alone}
-use Rattle.history_laws.specs.Tails.{IsTail}
+use Rattle.history_laws.specs.Tails.{IsTail, Among}
 use Rattle.history_laws.proofs.Plainly.{true_is, false_is, some_is, none_is}
 use Rattle.history_laws.proofs.Tailed.{tail_all, tail_trans}
+use Rattle.history_laws.proofs.Ticks.{pods_of_dues}
 use Rattle.agenda_laws.specs.Parts.{IsStillSynced}
-use Rattle.agenda_laws.specs.Standing.{Among}
 use Rattle.agenda_laws.specs.Ticking.{is_sync_due, is_sync_at_once, sync_at, IsEarlySync, SyncsWake, synced_reading, is_unclean, is_unclean_seen, is_clean_due, CleansWake, has_clean_due_by, has_clean_due, minds_passes, HadNoPass, JudgesWake, pass_after, pass_at, PassesWake, token_after, token_from, token_at, has_first, has_head_by, has_head, head_at, turn_by, HeadsWake, heads_at, queue_places_by, queue_places, time_of, due_on, due_seen, due_sighted, due_at_by, due_at, DeletesWake, dues_at, later, room_after, room_from, RoomsWake, room_at, IsEarlyTick, TicksWake}
 use Rattle.agenda_laws.specs.Times.{is_early, sooner}
 use Rattle.agenda_laws.proofs.Between.{longer, grew, each_adds, each_still, still_each, or_none, none_or, and_none, none_and, sooner_both, both_sooner}
@@ -393,7 +393,7 @@ module _ (doc : Doc) (k : ℕ) (q : Identity) where
 
   -- ---- the deletes of all pods
 
-  -- a due is that of a pod, and each pod that is due ever has one
+  -- a due is that of a pod
   insert_from : (at : ℕ) (pod : Key) (ys : List (ℕ × Key)) (x : ℕ × Key) → Among x (insert_due at pod ys) → (x.1 ≡ pod) ⊎ Among x ys
   insert_from at pod [] x (inl is) = inl (ap (λ (x : ℕ × Key). x.1) is)
   insert_from at pod [] x (inr mine) = absurd mine
@@ -405,23 +405,6 @@ module _ (doc : Doc) (k : ℕ) (q : Identity) where
       by_order later false (inl is) = inr (inl is)
       by_order later false (inr mine) = ⊎_elim (λ is. inl is) (λ mine. inr (inr mine)) (later mine)
 
-  insert_among : (at : ℕ) (pod : Key) (ys : List (ℕ × Key)) → Among (at, pod) (insert_due at pod ys)
-  insert_among at pod [] = inl refl
-  insert_among at pod (y ∷ ys) = by_order (insert_among at pod ys) (nat_le at y.0)
-    where
-      by_order : Among (at, pod) (insert_due at pod ys) → (b : Bool) → Among (at, pod) (elim b [ true ↦ (at, pod) ∷ y ∷ ys | false ↦ y ∷ insert_due at pod ys ])
-      by_order later true = inl refl
-      by_order later false = inr later
-
-  insert_keeps : (at : ℕ) (pod : Key) (ys : List (ℕ × Key)) (x : ℕ × Key) → Among x ys → Among x (insert_due at pod ys)
-  insert_keeps at pod [] x mine = absurd mine
-  insert_keeps at pod (y ∷ ys) x mine = by_order (insert_keeps at pod ys x) (nat_le at y.0) mine
-    where
-      by_order : (Among x ys → Among x (insert_due at pod ys)) → (b : Bool) → (x ≡ y) ⊎ Among x ys → Among x (elim b [ true ↦ (at, pod) ∷ y ∷ ys | false ↦ y ∷ insert_due at pod ys ])
-      by_order later true mine = inr mine
-      by_order later false (inl is) = inl is
-      by_order later false (inr mine) = inr (later mine)
-
   dues_of_pods : (h : List Entry) (pods : List Key) (x : ℕ × Key) → Among x (dues doc q pods h) → Among x.1 pods
   dues_of_pods h [] x mine = absurd mine
   dues_of_pods h (pod ∷ pods) x mine = by_due (dues_of_pods h pods x) (due_by doc.settings.rules.evict_from doc q pod h) mine
@@ -429,17 +412,6 @@ module _ (doc : Doc) (k : ℕ) (q : Identity) where
       by_due : (Among x (dues doc q pods h) → Among x.1 pods) → (d : Due) → Among x (and_due pod d (dues doc q pods h)) → (x.1 ≡ pod) ⊎ Among x.1 pods
       by_due later Never mine = inr (later mine)
       by_due later (At at) mine = ⊎_elim (λ is. inl is) (λ mine. inr (later mine)) (insert_from at pod (dues doc q pods h) x mine)
-
-  pods_of_dues : (h : List Entry) (pods : List Key) (pod : Key) (at : ℕ) → due_by doc.settings.rules.evict_from doc q pod h ≡ At at → Among pod pods → Among (at, pod) (dues doc q pods h)
-  pods_of_dues h [] pod at due mine = absurd mine
-  pods_of_dues h (p ∷ pods) pod at due (inl is) =
-      subst (λ p. Among (at, pod) (and_due p (due_by doc.settings.rules.evict_from doc q p h) (dues doc q pods h))) is
-      (subst (λ d. Among (at, pod) (and_due pod d (dues doc q pods h))) (sym due) (insert_among at pod (dues doc q pods h)))
-  pods_of_dues h (p ∷ pods) pod at due (inr mine) = by_due (pods_of_dues h pods pod at due mine) (due_by doc.settings.rules.evict_from doc q p h)
-    where
-      by_due : Among (at, pod) (dues doc q pods h) → (d : Due) → Among (at, pod) (and_due p d (dues doc q pods h))
-      by_due later Never = later
-      by_due later (At other) = insert_keeps other p (dues doc q pods h) (at, pod) later
 
   -- a pod that is due never has no time
   never_at : (pod : Key) (h : List Entry) → due_by doc.settings.rules.evict_from doc q pod h ≡ Never → due_at doc q pod h ≡ None
@@ -487,7 +459,7 @@ module _ (doc : Doc) (k : ℕ) (q : Identity) where
       by_due : (pod : Key) → Among pod (pod_keys h) → (d : Due) → due_by doc.settings.rules.evict_from doc q pod h ≡ d → is_early (wall doc q.process k) (due_at doc q pod h) ≡ true
       by_due pod among Never is = early_never (wall doc q.process k) (due_at doc q pod h) (never_at pod h is)
       by_due pod among (At at) is =
-          let one = each_still (evict_within doc k q) within_adds (dues doc q (pod_keys h) h) h still (at, pod) (pods_of_dues h (pod_keys h) pod at is among) in
+          let one = each_still (evict_within doc k q) within_adds (dues doc q (pod_keys h) h) h still (at, pod) (pods_of_dues doc q h (pod_keys h) pod at is among) in
           (evict_waits pod h).0 (subst (λ b. (if b then evict doc k q pod h else h) ≡ h) room one)
 
   within_still : (h : List Entry) → (doc.settings.rules.evict_burst == 0) ≡ false → for_each (evict_within doc k q) (dues doc q (pod_keys h) h) h ≡ h → IsEarlyDelete h

@@ -6,7 +6,7 @@ use Rattle.kube_objects.specs.Entry.{Entry, Identity}
 use Rattle.kube_objects.specs.Seen.{is_synced}
 use Rattle.kube_objects.specs.Tick.{sync, pass, cleaned, tainted, evicted, tick}
 use Rattle.history.specs.Steps.{step_one, restart, expire, finish, attempts, elector_turn, ticks, controller_turn, rounds, kubelet_turn}
-use Rattle.agenda_laws.specs.Standing.{Among}
+use Rattle.history_laws.specs.Tails.{Among}
 
 -- nobody starts at first, and the script has no event at this beat
 pub record IsUneventful (doc : Doc) (k : ℕ) : Type 0 where

@@ -1,5 +1,5 @@
 -- At which beats entries stand. Source: profile.
-use Rattle.std.specs.Prelude.{◌≡◌, ◌↔◌, ◌⊎◌, ℕ, zero, suc, ◌==◌, ◌&&◌, ◌||◌, nat_lt, ◌<◌, ◌≤◌, Bool, true, false, ◌++◌, List, [], ◌∷◌}
+use Rattle.std.specs.Prelude.{◌≡◌, ◌↔◌, ℕ, zero, suc, ◌==◌, ◌&&◌, ◌||◌, nat_lt, ◌<◌, ◌≤◌, Bool, true, false, ◌++◌, List, [], ◌∷◌}
 use Rattle.kube_objects.specs.Document.{Doc, processes, end_beat}
 use Rattle.kube_objects.specs.Entry.{Entry}
 use Rattle.kube_objects.specs.InFlight.{requests_due, replies_due}
@@ -7,11 +7,6 @@ use Rattle.kube_objects.specs.Newest.{added}
 use Rattle.history.specs.History.{beat, history, whole_history}
 use Rattle.history.specs.Steps.{step_one, turn}
 use Rattle.history_laws.specs.Tails.{In}
-
--- one of some things
-abbrev pub Among : {A : Type 0} → A → List A → Type 0
-Among x [] = ⊥
-Among x (y ∷ ys) = (x ≡ y) ⊎ Among x ys
 
 -- an entry of a beat's steps stands in the history of all beats
 pub record StandsAt (doc : Doc) (k : ℕ) : Type 0 where

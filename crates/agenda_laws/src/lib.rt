@@ -9,14 +9,14 @@ ghost use Rattle.agenda_laws.specs.Ticking.{SyncsWake, PassesWake, CleansWake, J
 ghost use Rattle.agenda_laws.specs.Times.{RestartsWake, ExpiriesWake, DeadlinesWake, AttemptsWake, ElectorsWake, RoundsWake, KubeletsWake};
 ghost use Rattle.agenda_laws.specs.Waking.{TurnsWake, EndsWakeToo, BeatsWake, HistoriesAreRested, QuietBeatsAreSlept, NextBeatsWake};
 
-/// A beat adds entries of its own steps alone, and an entry stands at a beat exactly where the beat adds one.
+/// A beat adds entries of its own steps alone, and an entry stands at a beat exactly if the beat adds one.
 pub fn entries_stand_where_added()
     ensures theirs { BeatsAddTheirs }
     ensures stands { EntriesStandWhereAdded }
     ensures tested { StandingIsTested }
 {}
 
-/// A beat leaves a history as it is exactly where each of its parts, done on that history by itself, does; so it is with a turn and
+/// A beat leaves a history as it is exactly if each of its parts, done on that history by itself, does; so it is with a turn and
 /// its parts, and with a tick and its parts.
 pub fn beats_add_by_parts()
     ensures beats { BeatsAddByParts }
@@ -51,7 +51,7 @@ pub fn ticks_wake_by_times()
     ensures ticks { TicksWake }
 {}
 
-/// A turn, and a beat, adds something exactly where something is there that a process waits for. The next beat with an entry is found on
+/// A turn, and a beat, adds something exactly if something is there that a process waits for. The next beat with an entry is found on
 /// one history alone.
 pub fn beats_wake_by_causes()
     ensures turns { TurnsWake }

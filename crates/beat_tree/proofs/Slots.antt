@@ -1,30 +1,18 @@
 -- What a slot has of those below it, and what a write to one leaves.
 use Rattle.std.proofs.Common.{◌≡◌, ◌≢◌, ℕ, zero, suc, ◌+◌, ◌*◌, ◌/◌, ◌<◌, ◌≤◌, List, [], ◌∷◌, ◌++◌, Bool, true, false, cond, nat_lt, Option, Some, None, length, set, slice_index_or, get_or, refl, ap, sym, ◌∙◌, subst, arith, ◌⊎◌, inl, inr}
-use Rattle.std.proofs.lemmas.List.{get_or-set_same, length-set}
+use Rattle.std.proofs.lemmas.List.{length-set}
 use Rattle.std.proofs.lemmas.Bool.{cases_eq, cases_lt}
 use Rattle.std.proofs.lemmas.Option.{slice_get-get_or, slice_get_past, slice_get_read}
 use Rattle.std.proofs.lemmas.Bool.Decides.{nat_tests}
-use Rattle.std.specs.List.{slice_get}
 use Rattle.kube_base.specs.declared.numbers.Beat.{Beat}
+use Rattle.kube_base.proofs.Lists.{get-set_other, get-set_same}
 use Rattle.beat_tree.specs.Tidy.{IsTidy, IsTidyAt, IsTidyBut, beat_at, comes_before, earlier, joined}
 
-get_set_same : {X : Type 0} (xs : List X) (i : ℕ) (v : X) → i < length xs → slice_get (set xs i v) i ≡ Some v
-get_set_same xs i v h =
-    let long : i < length (set xs i v) = omega (arith, length-set xs i v) in
-    slice_get-get_or (set xs i v) i v long ∙ ap Some (get_or-set_same xs i v v h)
-
-get_set_other : {X : Type 0} (xs : List X) (i k : ℕ) (v : X) → k ≢ i → slice_get (set xs i v) k ≡ slice_get xs k
-get_set_other [] i k v h = refl
-get_set_other (x ∷ xs) zero zero v h = absurd (h refl)
-get_set_other (x ∷ xs) zero (suc k) v h = refl
-get_set_other (x ∷ xs) (suc i) zero v h = refl
-get_set_other (x ∷ xs) (suc i) (suc k) v h = get_set_other xs i k v (λ e. h (ap suc e))
-
 pub at_set : (xs : List (Option Beat)) (i : ℕ) (v : Option Beat) → i < length xs → beat_at (set xs i v) i ≡ v
-at_set xs i v h = ap joined (get_set_same xs i v h)
+at_set xs i v h = ap joined (get-set_same xs i v h)
 
 pub at_other : (xs : List (Option Beat)) (i k : ℕ) (v : Option Beat) → k ≢ i → beat_at (set xs i v) k ≡ beat_at xs k
-at_other xs i k v h = ap joined (get_set_other xs i k v h)
+at_other xs i k v h = ap joined (get-set_other xs i k v h)
 
 -- a slot that is read
 pub read_is : (xs : List (Option Beat)) (n i : ℕ) (v : Option Beat) → length xs ≡ n → i < n → v ≡ slice_index_or xs i v → beat_at xs i ≡ v
@@ -33,6 +21,13 @@ read_is xs n i v long within is = ap joined (slice_get_read xs n i v (sym long) 
 -- the same, of a slice
 pub slot_is : (xs : List (Option Beat)) (i : ℕ) → i < length xs → get_or xs i None ≡ beat_at xs i
 slot_is xs i within = sym (ap joined (slice_get-get_or xs i None within))
+
+-- the earlier of the two below the slot above another, as they were read
+pub found_is : (xs : List (Option Beat)) (slot half : ℕ) (v : Option Beat) → slot < length xs → length xs ≡ 2 * half
+    → v ≡ earlier (get_or xs (2 * (slot / 2)) None) (get_or xs (2 * (slot / 2) + 1) None) → v ≡ earlier (beat_at xs (2 * (slot / 2))) (beat_at xs (2 * (slot / 2) + 1))
+found_is xs slot half v within even is =
+    let right : 2 * (slot / 2) + 1 < length xs = omega (arith, within, even) in
+    is ∙ ap (λ x. earlier x (get_or xs (2 * (slot / 2) + 1) None)) (slot_is xs (2 * (slot / 2)) (omega (arith, right))) ∙ ap (earlier (beat_at xs (2 * (slot / 2)))) (slot_is xs (2 * (slot / 2) + 1) right)
 
 pub past_is : (xs : List (Option Beat)) (i : ℕ) → length xs ≤ i → beat_at xs i ≡ None
 past_is xs i past = ap joined (slice_get_past xs i past)

@@ -9,7 +9,7 @@ use std::alloc::Global;
 ///
 /// Slot 1 is the root, the slots 2 * i and 2 * i + 1 stand below slot i, and the second half of the slots are the leaves, so many steps
 /// below the root as the tree is deep. Each slot above them has the earlier beat of the two below it. So a change and a search cost the
-/// logarithm of the leaves, and a change less where slots above keep their beats.
+/// logarithm of the leaves, and a change less if slots above keep their beats.
 #[derive(Debug, Drop)]
 pub struct BeatTree {
     slots: Vec<Option<Beat>>,
@@ -108,7 +108,7 @@ impl BeatTree {
         refresh(self.slots.as_mut_slice(), slot);
     }
 
-    /// A leaf than whose beat no other's comes before. None exactly where no leaf has a beat.
+    /// A leaf than whose beat no other's comes before. None exactly if no leaf has a beat.
     pub fn least(&self) -> Option<usize>
         ensures there { IfSome result (λ i. comes_before (leaf self.now i) None ≡ true) }
         ensures least { IfSome result (λ i. (j : ℕ) → comes_before (leaf self.now j) (leaf self.now i) ≡ false) }
@@ -127,7 +127,7 @@ impl BeatTree {
         Some(slot - self.width)
     }
 
-    /// The first leaf from one on whose beat comes before another. None exactly where there is none.
+    /// The first leaf from one on whose beat comes before another. None exactly if there is none.
     pub fn first_before(&self, from: usize, before: Option<Beat>) -> Option<usize>
         ensures { IsFirst self.now from before result }
     {

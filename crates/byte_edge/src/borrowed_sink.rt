@@ -5,7 +5,7 @@ ghost use Rattle.byte_edge.specs.Bytes.{over};
 use crate::{Failed, Sink};
 
 /// Keeps the first bytes of what is given in a borrowed buffer, as many as have room, and counts all of them. The bytes of the buffer
-/// behind them stay. A call fails only where more than 2^64 - 1 bytes would have been given.
+/// behind them stay. A call fails only if more than 2^64 - 1 bytes would have been given.
 #[derive(Debug, Drop)]
 pub struct BorrowedSink<'a> {
     buffer: &'a mut [u8],

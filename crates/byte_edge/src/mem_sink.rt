@@ -5,7 +5,7 @@ use crate::{Failed, Sink};
 use kube_base::NoMemory;
 use std::alloc::Global;
 
-/// Holds at most `room` bytes. A call of `give` fails where its number, from 0, stands in `fails` or `room` bytes are
+/// Holds at most `room` bytes. A call of `give` fails if its number, from 0, stands in `fails` or `room` bytes are
 /// held; the others take at most `chunk` bytes.
 #[derive(Debug, Drop)]
 pub struct MemSink {

@@ -8,13 +8,13 @@ pub struct Failed;
 
 /// Bytes that come from outside.
 pub trait Source {
-    /// The bytes that are left, where the source tells them.
+    /// The bytes that are left, if the source tells them.
     ghost left: { Self → Option (List ℕ) };
 
     /// How often it has failed; the count stays at its last value.
     ghost faults: { Self → ℕ };
 
-    /// Puts bytes at the front of `into` and answers how many; 0 is the end of input.
+    /// Puts bytes at the front of `into` and returns how many; 0 is the end of input.
     fn take(&mut self, into: &mut [u8]) -> Result<usize, Failed>
         requires { 0 < length into.old }
         ensures taken { IfOk result (λ n. (n ≤ length into.new) × Took (left self.old) (left self.new) (take n into.new)) }
@@ -33,7 +33,7 @@ pub trait Sink {
     /// How often it has failed; the count stays at its last value.
     ghost faults: { Self → ℕ };
 
-    /// Takes bytes from the front of `bytes` and answers how many, at least 1.
+    /// Takes bytes from the front of `bytes` and returns how many, at least 1.
     fn give(&mut self, bytes: &[u8]) -> Result<usize, Failed>
         requires { 0 < length bytes.now }
         ensures given { IfOk result (λ n. (0 < n) × (n ≤ length bytes.now) × Gives (taken self.old) (taken self.new) (take n bytes.now)) }

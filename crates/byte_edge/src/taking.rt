@@ -20,8 +20,8 @@ pub enum TakeFault {
 /// How many bytes are asked for at once.
 const PIECE: usize = 65_536;
 
-/// Takes all bytes up to the end of input, where there are at most `limit`. After a fault, more than `limit` bytes or
-/// want of memory the source has lost the bytes taken so far, at most `limit + 1`.
+/// Takes all bytes up to the end of input, if there are at most `limit`. After a fault, more than `limit` bytes, or
+/// out of memory, the source has lost the bytes taken so far, at most `limit + 1`.
 pub fn take_all<S: Source>(
     alloc: Global,
     source: &mut S,
@@ -49,7 +49,7 @@ pub fn take_all<S: Source>(
     Err(TakeFault::TooLarge)
 }
 
-/// Takes a piece to the end of `bytes`, at most as long as `into`, and answers its length.
+/// Takes a piece to the end of `bytes`, at most as long as `into`, and returns its length.
 fn take_piece<S: Source>(
     source: &mut S,
     into: &mut [u8],

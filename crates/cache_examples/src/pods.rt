@@ -1,8 +1,8 @@
 // Writes of pods.
 ghost use Rattle.std.specs.Prelude.{◌≡◌};
 
-use kube_base::{ListOf, Version};
-use kube_objects::{Key, Kind, Object, Pod};
+use kube_base::Version;
+use kube_objects::{Key, Kind, Object, Pod, Tolerations};
 use object_store::{Store, StoreFault};
 use std::alloc::Global;
 
@@ -26,7 +26,7 @@ pub(crate) fn create(
 ) -> Result<Version, StoreFault> {
     let pod = Pod {
         node,
-        tolerations: ListOf::new(alloc),
+        tolerations: Tolerations::new(alloc),
     };
     store.create(key(name), Object::Pod(pod))
 }
@@ -41,12 +41,12 @@ pub(crate) fn place(
 ) -> Result<Version, StoreFault> {
     let pod = Pod {
         node,
-        tolerations: ListOf::new(alloc),
+        tolerations: Tolerations::new(alloc),
     };
     store.update(key(name), Version(version), Object::Pod(pod))
 }
 
-/// Removes a pod, where it is stored.
+/// Removes a pod, if it is stored.
 pub(crate) fn remove(store: &mut Store, name: u32) -> Result<Version, StoreFault> {
     match store.remove(key(name)) {
         Ok(Some(version)) => Ok(version),

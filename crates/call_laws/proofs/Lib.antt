@@ -6,3 +6,4 @@ pub mod Waiting
 pub mod Once
 pub mod Turning
 pub mod Starting
+pub mod Sending

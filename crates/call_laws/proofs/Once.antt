@@ -3,7 +3,7 @@ use Rattle.std.proofs.Common.{◌≡◌, ◌⊎◌, ◌<◌, ◌≤◌, ℕ, suc
 use Rattle.std.proofs.lemmas.Bool.{eqb-true, eq-eqb}
 use Rattle.kube_objects.specs.declared.deed.Actor.{Actor}
 use Rattle.kube_objects.specs.Document.{Doc}
-use Rattle.kube_objects.specs.Entry.{Entry, Identity, Call, Fact, First, Event as Happens, Starts, Stops, Sends, Answers, Delivers, Expires, Leads, Ends, Crashes, Stalls, Ticks, StepsDown, ReleaseBegins, ReleaseEnds, ReleaseStops}
+use Rattle.kube_objects.specs.Entry.{Entry, Identity, Call, Fact, Sends, Answers}
 use Rattle.kube_objects.specs.Identities.{is_same, is_by, identity_of}
 use Rattle.kube_objects.specs.InFlight.{is_due, and_request, requests_due}
 use Rattle.kube_objects.specs.Newest.{count, added}
@@ -91,22 +91,7 @@ few_more doc m q n k e h within r = let two = made (sent_of e.actor e.fact) refl
 
         cases : (who : Actor) (d : Fact) → sent_of who d ≡ Some s → added (is_send d && is_by q who) (begun q h) ≡ begun q h + 1
         cases who (Sends call arrives) is = ap (λ b. added b (begun q h)) (by_q who call arrives is)
-        cases who (First key object) is = absurd (none_is s is)
-        cases who (Happens w version) is = absurd (none_is s is)
-        cases who (Answers call reply comes wrote) is = absurd (none_is s is)
-        cases who (Delivers call reply counted) is = absurd (none_is s is)
-        cases who (Expires call) is = absurd (none_is s is)
-        cases who (Ticks t) is = absurd (none_is s is)
-        cases who Starts is = absurd (none_is s is)
-        cases who Crashes is = absurd (none_is s is)
-        cases who Stops is = absurd (none_is s is)
-        cases who (Stalls beats) is = absurd (none_is s is)
-        cases who Ends is = absurd (none_is s is)
-        cases who (Leads version) is = absurd (none_is s is)
-        cases who StepsDown is = absurd (none_is s is)
-        cases who (ReleaseBegins at_deadline) is = absurd (none_is s is)
-        cases who ReleaseEnds is = absurd (none_is s is)
-        cases who ReleaseStops is = absurd (none_is s is)
+        cases who d is = absurd (none_is s is)
 
     by_match : (s : Sent) → sent_of e.actor e.fact ≡ Some s → (b : Bool) → is_asked q n s ≡ b → (begun q (e ∷ h) < n → asked q n (requests_due k h ++ s ∷ []) ≡ 0) × (asked q n (requests_due k h ++ s ∷ []) ≤ 1)
     by_match s is false other = plain (requests_due k h ++ s ∷ []) (asked_push q n (requests_due k h) s ∙ ap (λ b. added b (asked q n (requests_due k h))) other)
@@ -172,22 +157,7 @@ asker_as doc k e g x who (Answers call reply comes wrote) actor fact made is =
           ∙ and_both (call.number == x.call.number) (is_by x.who e.actor) (eq-eqb call.number x.call.number (ap (λ (c : Call). c.number) which))
           (ap (is_by x.who) (actor ∙ made.by) ∙ subst (λ p. is_same made.s.who p ≡ true) whose (same_self made.s.who));
     }
-asker_as doc k e g x who (First key object) actor fact made is = absurd (none_is x is)
-asker_as doc k e g x who (Happens w version) actor fact made is = absurd (none_is x is)
-asker_as doc k e g x who (Sends call arrives) actor fact made is = absurd (none_is x is)
-asker_as doc k e g x who (Delivers call reply counted) actor fact made is = absurd (none_is x is)
-asker_as doc k e g x who (Expires call) actor fact made is = absurd (none_is x is)
-asker_as doc k e g x who (Ticks t) actor fact made is = absurd (none_is x is)
-asker_as doc k e g x who Starts actor fact made is = absurd (none_is x is)
-asker_as doc k e g x who Crashes actor fact made is = absurd (none_is x is)
-asker_as doc k e g x who Stops actor fact made is = absurd (none_is x is)
-asker_as doc k e g x who (Stalls beats) actor fact made is = absurd (none_is x is)
-asker_as doc k e g x who Ends actor fact made is = absurd (none_is x is)
-asker_as doc k e g x who (Leads version) actor fact made is = absurd (none_is x is)
-asker_as doc k e g x who StepsDown actor fact made is = absurd (none_is x is)
-asker_as doc k e g x who (ReleaseBegins at_deadline) actor fact made is = absurd (none_is x is)
-asker_as doc k e g x who ReleaseEnds actor fact made is = absurd (none_is x is)
-asker_as doc k e g x who ReleaseStops actor fact made is = absurd (none_is x is)
+asker_as doc k e g x who d actor fact made is = absurd (none_is x is)
 
 asker : (doc : Doc) → ReleasesByStop doc → (k : ℕ) (e : Entry) (g : List Entry) (x : Back) → IsTail (e ∷ g) (history doc k) → back_of e.actor e.fact ≡ Some x → Asker doc k e g x
 asker doc own k e g x at is = asker_as doc k e g x e.actor e.fact refl refl (are_made doc own k e g at) is

@@ -5,7 +5,7 @@ use Rattle.kube_objects.specs.declared.deed.Actor.{Actor}
 use Rattle.kube_objects.specs.declared.script.What.{What}
 use Rattle.kube_objects.specs.Document.{Doc, processes}
 use Rattle.kube_objects.specs.Identities.{identity_of}
-use Rattle.kube_objects.specs.Entry.{Entry, Identity, Call, actor_of, Fact, First, Event as Happens, Starts, Stops, Sends, Answers, Delivers, Expires, Leads, Ends, Crashes, Stalls, Ticks, StepsDown, ReleaseBegins, ReleaseEnds, ReleaseStops}
+use Rattle.kube_objects.specs.Entry.{Entry, Identity, Call, actor_of, Fact, Event as Happens, Sends, Answers}
 use Rattle.kube_objects.specs.Wire.{of_event, in_force, request_arrival, reply_arrival, sent_as, sent_of, back_as, back_of}
 use Rattle.kube_objects.specs.Own.{ReleasesByStop}
 use Rattle.history.specs.History.{history, three_steps}
@@ -173,23 +173,8 @@ entries_stand_in_beats doc m e before at = (in_own_beat doc m e before at, λ st
 
 -- an entry of step 2 or later is no event
 no_event : {A : Type 0} (doc : Doc) (k step : ℕ) (who : Actor) (d : Fact) (h : List Entry) (f : What → Option A) → MadeAs doc k step who d h → 2 ≤ step → of_event f d ≡ None
-no_event doc k step who (First key object) h f made late = refl
 no_event doc k step who (Happens w version) h f made late = absurd (omega (arith, made.0, late))
-no_event doc k step who (Sends call arrives) h f made late = refl
-no_event doc k step who (Answers call reply comes wrote) h f made late = refl
-no_event doc k step who (Delivers call reply counted) h f made late = refl
-no_event doc k step who (Expires call) h f made late = refl
-no_event doc k step who (Ticks t) h f made late = refl
-no_event doc k step who Starts h f made late = refl
-no_event doc k step who Crashes h f made late = refl
-no_event doc k step who Stops h f made late = refl
-no_event doc k step who (Stalls beats) h f made late = refl
-no_event doc k step who Ends h f made late = refl
-no_event doc k step who (Leads version) h f made late = refl
-no_event doc k step who StepsDown h f made late = refl
-no_event doc k step who (ReleaseBegins at_deadline) h f made late = refl
-no_event doc k step who ReleaseEnds h f made late = refl
-no_event doc k step who ReleaseStops h f made late = refl
+no_event doc k step who d h f made late = refl
 
 force_stays : {A : Type 0} (doc : Doc) → ReleasesByStop doc → (k m : ℕ) (f : What → Option A) (g h : List Entry) → IsTail h (history doc m) → Above (IsLate k 2) g h → in_force f h ≡ in_force f g
 force_stays doc own k m f g [] at above = ap (in_force f) (sym above)
@@ -219,21 +204,7 @@ travels doc k step who (Sends call arrives) h made = (
 )
 travels doc k step who (Answers call reply comes wrote) h made =
     (tt, subst (λ who. IfSome (back_as call reply comes (identity_of who)) (λ b. b.comes ≡ reply_arrival doc b.who.process k h)) (sym made.by) made.comes_is)
-travels doc k step who (First key object) h made = (tt, tt)
-travels doc k step who (Happens w version) h made = (tt, tt)
-travels doc k step who (Delivers call reply counted) h made = (tt, tt)
-travels doc k step who (Expires call) h made = (tt, tt)
-travels doc k step who (Ticks t) h made = (tt, tt)
-travels doc k step who Starts h made = (tt, tt)
-travels doc k step who Crashes h made = (tt, tt)
-travels doc k step who Stops h made = (tt, tt)
-travels doc k step who (Stalls beats) h made = (tt, tt)
-travels doc k step who Ends h made = (tt, tt)
-travels doc k step who (Leads version) h made = (tt, tt)
-travels doc k step who StepsDown h made = (tt, tt)
-travels doc k step who (ReleaseBegins at_deadline) h made = (tt, tt)
-travels doc k step who ReleaseEnds h made = (tt, tt)
-travels doc k step who ReleaseStops h made = (tt, tt)
+travels doc k step who d h made = (tt, tt)
 
 pub messages_travel : MessagesTravel
 messages_travel doc own m e before at = travels doc e.beat e.step e.actor e.fact before (are_made doc own m e before at)

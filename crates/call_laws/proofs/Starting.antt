@@ -84,14 +84,7 @@ module _ (doc : Doc) (own : ReleasesByStop doc) (P : List Entry → Type 0) (beg
   by_effect k (what.Start id) before s = by_start k id.0 (alive id.0 before) _ refl s
   by_effect k (what.Stop id) before s = by_stop k id.0 (only_if (not (is_paused doc id.0 k)) (alive id.0 before)) before _ s
   by_effect k (what.Pause id beats) before s = by_stall k id.0 beats (alive id.0 before) _ s
-  by_effect k (what.Rate id ppm) before s = s
-  by_effect k (what.Delay id requests replies) before s = s
-  by_effect k (what.Loss id requests replies) before s = s
-  by_effect k (what.Watch id on) before s = s
-  by_effect k (what.Ready id status) before s = s
-  by_effect k (what.Put key object) before s = s
-  by_effect k (what.Remove key) before s = s
-  by_effect k (what.Stall beats) before s = s
+  by_effect k w before s = s
 
   by_events : (k : ℕ) (es : List Event) (h : List Entry) → P h → P (happen_all doc k es h)
   by_events k [] h s = s

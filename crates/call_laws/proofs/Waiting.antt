@@ -2,7 +2,7 @@
 use Rattle.std.proofs.Common.{◌≡◌, ◌⊎◌, ◌≤◌, ℕ, Bool, true, false, List, [], ◌∷◌, Option, Some, None, refl, sym, ap, ◌∙◌, subst, inl, inr}
 use Rattle.kube_objects.specs.declared.deed.Actor.{Actor}
 use Rattle.kube_objects.specs.Document.{Doc, is_controller}
-use Rattle.kube_objects.specs.Entry.{Entry, Identity, Call, Fact, First, Event as Happens, Starts, Stops, Sends, Answers, Delivers, Expires, Leads, Ends, Crashes, Stalls, Ticks, actor_of, entry, StepsDown, ReleaseBegins, ReleaseEnds, ReleaseStops}
+use Rattle.kube_objects.specs.Entry.{Entry, Identity, Call, Fact, First, Event as Happens, Stops, Sends, Delivers, Expires, actor_of, entry, StepsDown, ReleaseBegins, ReleaseEnds, ReleaseStops}
 use Rattle.kube_objects.specs.Identities.{is_same, is_by}
 use Rattle.kube_objects.specs.Newest.{when, join}
 use Rattle.kube_objects.specs.Process.{alive, open_as, call_says, last_call, call_in}
@@ -39,8 +39,6 @@ still doc k step who (Sends c arrives) h q call role made waits = by_test (is_sa
     by_test : (b : Bool) → is_same made.q q ≡ b → Still q call who (Sends c arrives) h
     by_test false other = inl (others q made.q who (open_as c.kind c) (last_call q h) call made.by other waits)
     by_test true is = let same : made.q ≡ q = same_is made.q q is in freed same (made.free (ap (λ (p : Identity). is_controller doc p.process) same ∙ role))
-still doc k step who (Answers c reply comes wrote) h q call role made waits = inl waits
-still doc k step who (Delivers c reply false) h q call role made waits = inl waits
 still doc k step who (Delivers c reply true) h q call role made waits = by_test (is_same made.b.who q) refl
   where
     by_test : (b : Bool) → is_same made.b.who q ≡ b → Still q call who (Delivers c reply true) h
@@ -56,17 +54,11 @@ still doc k step who (Expires c) h q call role made waits = by_test (is_same mad
     by_test true is =
         let same : made.q ≡ q = same_is made.q q is in
         inr (inl (by_of q made.q who made.by is, some_is c call (sym made.waits ∙ ap (λ p. call_in p h) same ∙ waits)))
-still doc k step who (Ticks t) h q call role made waits = inl waits
-still doc k step who Starts h q call role made waits = inl waits
-still doc k step who Crashes h q call role made waits = inl waits
-still doc k step who Stops h q call role made waits = inl waits
-still doc k step who (Stalls beats) h q call role made waits = inl waits
-still doc k step who Ends h q call role made waits = inl waits
-still doc k step who (Leads version) h q call role made waits = inl waits
 still doc k step who StepsDown h q call role made waits = absurd made
 still doc k step who (ReleaseBegins at_deadline) h q call role made waits = absurd made
 still doc k step who ReleaseEnds h q call role made waits = absurd made
 still doc k step who ReleaseStops h q call role made waits = absurd made
+still doc k step who d h q call role made waits = inl waits
 
 no_stop : (call : Call) (arrives : Option ℕ) → Sends call arrives ≡ Stops → ⊥
 no_stop call arrives is = cc

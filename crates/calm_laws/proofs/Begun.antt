@@ -1,11 +1,11 @@
 -- The entry that a waiting call, or a timer, is from.
-use Rattle.std.proofs.Common.{◌≡◌, ◌≤◌, ◌<◌, ℕ, ◌==◌, true, false, List, [], ◌∷◌, length, Option, Some, None, refl, sym, ap, ◌∙◌, subst, inl, inr, arith}
+use Rattle.std.proofs.Common.{◌≡◌, ◌≤◌, ◌<◌, ℕ, ◌==◌, true, List, [], ◌∷◌, length, Option, Some, None, refl, sym, ap, ◌∙◌, subst, inl, inr, arith}
 use Rattle.std.proofs.lemmas.Bool.{eqb-true}
 use Rattle.kube_objects.specs.declared.deed.Actor.{Actor}
 use Rattle.kube_objects.specs.declared.deed.Actor.TheVariants as actors
 use Rattle.kube_objects.specs.Document.{Doc}
 use Rattle.kube_objects.specs.Elector.{timer_says, timer}
-use Rattle.kube_objects.specs.Entry.{Entry, Identity, Call, CallKind, Plain, Fast, Release, Look, Emptying, Fact, First, Event, Starts, Stops, Sends, Answers, Delivers, Expires, Leads, Ends, Crashes, Stalls, Ticks, actor_of, StepsDown, ReleaseBegins, ReleaseEnds, ReleaseStops}
+use Rattle.kube_objects.specs.Entry.{Entry, Identity, Call, CallKind, Release, Fact, Sends, Delivers, Expires, actor_of, ReleaseBegins}
 use Rattle.kube_objects.specs.Identities.{is_by}
 use Rattle.kube_objects.specs.Newest.{newest, join, or_zero}
 use Rattle.kube_objects.specs.Process.{open_as, call_says, last_call, call_in}
@@ -22,11 +22,8 @@ by_is q (actors.Proc id i) is =
     ∙ ap (λ (n : ℕ). actors.Proc (record { 0 = q.process }) n) (eqb-true i q.incarnation (and_right (id.0 == q.process) (i == q.incarnation) is))
 
 opens_same : (kind : CallKind) (c call : Call) → open_as kind c ≡ Some call → c ≡ call
-opens_same Plain c call is = some_is c call is
-opens_same Fast c call is = some_is c call is
 opens_same Release c call is = absurd (none_is call is)
-opens_same (Look begun) c call is = some_is c call is
-opens_same (Emptying begun) c call is = some_is c call is
+opens_same kind c call is = some_is c call is
 
 -- the call that waits was sent, and its sender's call has been the same since
 pub record Begun (q : Identity) (call : Call) (h : List Entry) : Type 0 where
@@ -57,22 +54,9 @@ said q call who (Sends c arrives) is =
       opens = ap (λ (d : Call). open_as call.kind d) (sym same) ∙ subst (λ (d : Call). open_as d.kind c ≡ Some call) same opens;
     }
 said q call who (Delivers c reply true) is = absurd (none_is call (when_value (is_by q who) None (Some call) is))
-said q call who (Delivers c reply false) is = absurd (none_is (Some call) is)
 said q call who (Expires c) is = absurd (none_is call (when_value (is_by q who) None (Some call) is))
-said q call who (First key object) is = absurd (none_is (Some call) is)
-said q call who (Event w version) is = absurd (none_is (Some call) is)
-said q call who Starts is = absurd (none_is (Some call) is)
-said q call who Crashes is = absurd (none_is (Some call) is)
-said q call who Stops is = absurd (none_is (Some call) is)
-said q call who (Stalls beats) is = absurd (none_is (Some call) is)
-said q call who StepsDown is = absurd (none_is (Some call) is)
 said q call who (ReleaseBegins at_deadline) is = absurd (none_is call (when_value (is_by q who) None (Some call) is))
-said q call who ReleaseEnds is = absurd (none_is (Some call) is)
-said q call who ReleaseStops is = absurd (none_is (Some call) is)
-said q call who Ends is = absurd (none_is (Some call) is)
-said q call who (Answers c reply comes wrote) is = absurd (none_is (Some call) is)
-said q call who (Leads version) is = absurd (none_is (Some call) is)
-said q call who (Ticks t) is = absurd (none_is (Some call) is)
+said q call who d is = absurd (none_is (Some call) is)
 
 pub begun_by : (q : Identity) (h : List Entry) (call : Call) → call_in q h ≡ Some call → Begun q call h
 begun_by q [] call is = absurd (none_is call is)

@@ -35,13 +35,12 @@ use Rattle.call_laws.proofs.Answering.{events_position}
 use Rattle.takeover_laws.specs.Acting.{NobodyActs}
 use Rattle.takeover_laws.specs.Calm.{IsSteady, IsCalm, IsInTime, WritesElection}
 use Rattle.takeover_laws.specs.Waits.{longest_wait, shortest_wait}
-use Rattle.takeover_laws.proofs.Records.{no_write, record_stays}
 use Rattle.takeover_laws.proofs.Standing.{controllers_first, persists}
 use Rattle.calm_laws.specs.Bounds.{IsCandidate, AreBeats, LastsFor, SomebodyActs, takeover_bound, TakeoversAreBounded, TakeoversAreTold}
 use Rattle.calm_laws.proofs.Changes.{Change, Unwritten, Put, Written, IsStored, unchanged, put_stored, early_stored, change_of}
 use Rattle.calm_laws.proofs.Deciding.{somebody_or_nobody}
 use Rattle.calm_laws.proofs.First.{none_first}
-use Rattle.calm_laws.proofs.Kept.{IsKept}
+use Rattle.takeover_laws.proofs.Taking.{IsKept, kept_in_calm}
 use Rattle.calm_laws.proofs.Life.{never_led}
 use Rattle.calm_laws.proofs.Looks.{object_of, has_lease}
 use Rattle.calm_laws.proofs.Replies.{HasLease, gets_show, writes_fail, none_written}
@@ -187,10 +186,7 @@ takeovers_are_bounded doc near far a e sound rules calm time one ways end p late
     nobody none = by_up (alive p S) refl
       where
         kept : IsKept doc far a n
-        kept = record {
-          no_write = λ x T q at by role writes late. no_write doc near far a e n sound rules calm end within one ways time none x T q at by role writes late;
-          stays = λ m from late g low at. record_stays doc near far a e n sound rules calm end within one ways time none m from late g low at;
-        }
+        kept = kept_in_calm doc near far a e n sound rules calm time one ways end within none
 
         the_record : LastsFor doc p lasting (object_of (stored election (history doc (a + far))))
         the_record =
@@ -226,32 +222,37 @@ takeovers_are_bounded doc near far a e sound rules calm time one ways end p late
 pub next_multiple : (n m : ℕ) → 1 ≤ m → n < suc (n / m) * m
 next_multiple n m some = ⊎_elim (λ less. less) (λ le. absurd (omega (arith, le-div (suc (n / m)) n m some le))) (cases_lt n (suc (n / m) * m))
 
+-- a call's timeout and the waits in whole beats
+abbrev pub lost_in : Doc → ℕ → ℕ → ℕ
+lost_in doc p slow = call_timeout doc p / slow
+
+abbrev pub wait_in : Doc → ℕ → ℕ → ℕ
+wait_in doc p slow = div_ceil (longest_wait doc p) slow
+
+abbrev pub needed_in : Doc → ℕ → ℕ → ℕ
+needed_in doc p fast = div_ceil (shortest_wait doc p) fast
+
+pub in_beats : (doc : Doc) (p slow fast : ℕ) → 1 ≤ slow → 1 ≤ fast → AreBeats doc p slow fast (lost_in doc p slow) (wait_in doc p slow) (needed_in doc p fast)
+in_beats doc p slow fast some_slow some_fast =
+    record { lost_is = next_multiple (call_timeout doc p) slow some_slow; wait_is = (rounded_is slow (longest_wait doc p) some_slow).0; needed_is = (rounded_is fast (shortest_wait doc p) some_fast).1 }
+
 pub takeovers_are_told : TakeoversAreTold
 takeovers_are_told doc near far a e sound rules calm time one ways end p later slow fast c some_slow some_fast lasting lasts within =
     subst (SomebodyActs doc near far a e) sum
-    (takeovers_are_bounded doc near far a e sound rules calm time one ways end p later slow fast lost wait needed c
-    (record { lost_is = next_multiple (call_timeout doc p) slow some_slow; wait_is = (rounded_is slow (longest_wait doc p) some_slow).0; needed_is = (rounded_is fast (shortest_wait doc p) some_fast).1 })
-    first (omega arith) (omega arith) (omega arith) lasting enough most lasts (rounded_is slow lasting some_slow).0 ((bounds_are_exact (needed + 2 * near) (wait + 2 * far) enough).0 some_step).1 (omega (arith, sum, within)))
+    (takeovers_are_bounded doc near far a e sound rules calm time one ways end p later slow fast (lost_in doc p slow) (wait_in doc p slow) (needed_in doc p fast) c
+    (in_beats doc p slow fast some_slow some_fast)
+    first (omega arith) (omega arith) (omega arith) lasting enough most lasts (rounded_is slow lasting some_slow).0 ((bounds_are_exact (needed_in doc p fast + 2 * near) (wait_in doc p slow + 2 * far) enough).0 some_step).1 (omega (arith, sum, within)))
   where
-    lost : ℕ
-    lost = call_timeout doc p / slow
-
-    wait : ℕ
-    wait = div_ceil (longest_wait doc p) slow
-
-    needed : ℕ
-    needed = div_ceil (shortest_wait doc p) fast
-
     enough : ℕ
     enough = div_ceil lasting slow
 
     first : ℕ
-    first = max later (max lost (4 * far - 1) + wait)
+    first = max later (max (lost_in doc p slow) (4 * far - 1) + wait_in doc p slow)
 
     most : ℕ
-    most = most_beats (needed + 2 * near) (wait + 2 * far) enough
+    most = most_beats (needed_in doc p fast + 2 * near) (wait_in doc p slow + 2 * far) enough
 
-    some_step : 1 ≤ needed + 2 * near
+    some_step : 1 ≤ needed_in doc p fast + 2 * near
     some_step = omega (arith, one)
 
     sum : a + first + most + 4 * far ≡ a + takeover_bound doc near far p later slow fast lasting

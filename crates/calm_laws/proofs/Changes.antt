@@ -5,7 +5,7 @@ use Rattle.kube_objects.specs.declared.deed.Actor.{Actor}
 use Rattle.kube_objects.specs.declared.key.Key.{Key}
 use Rattle.kube_objects.specs.declared.object.Object.{Object}
 use Rattle.kube_objects.specs.Document.{Doc, end_beat, is_controller}
-use Rattle.kube_objects.specs.Entry.{Entry, Call, Fact, First as FirstPut, Event as Happens, Starts, Stops, Sends, Answers, Delivers, Expires, Leads, Ends, Crashes, Stalls, Ticks, StepsDown, ReleaseBegins, ReleaseEnds, ReleaseStops}
+use Rattle.kube_objects.specs.Entry.{Entry, Call, Fact, First as FirstPut, Event as Happens, Starts, Stops, Sends, Answers, Delivers, Expires, Leads, Ends, Crashes, Stalls, Ticks}
 use Rattle.kube_objects.specs.Keys.{key_eq}
 use Rattle.kube_objects.specs.Newest.{newest, when, only_if, join}
 use Rattle.kube_objects.specs.Own.{ReleasesByStop}
@@ -150,9 +150,6 @@ change_of doc sound rules n end x T at = cases x.actor x.fact refl refl (are_mad
     cases who Crashes actor fact made = unwritten Crashes fact refl (λ a. refl)
     cases who Stops actor fact made = unwritten Stops fact refl (λ a. refl)
     cases who (Stalls beats) actor fact made = unwritten (Stalls beats) fact refl (λ a. refl)
-    cases who StepsDown actor fact made = absurd made
-    cases who (ReleaseBegins at_deadline) actor fact made = absurd made
-    cases who ReleaseEnds actor fact made = absurd made
-    cases who ReleaseStops actor fact made = absurd made
     cases who Ends actor fact made = unwritten Ends fact refl (λ a. refl)
     cases who (Leads version) actor fact made = unwritten (Leads version) fact refl (λ a. refl)
+    cases who d actor fact made = absurd made

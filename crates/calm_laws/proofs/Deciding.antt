@@ -4,7 +4,7 @@ use Rattle.std.proofs.lemmas.Bool.{cases_lt, cases_eq}
 use Rattle.kube_objects.specs.Clocks.{local}
 use Rattle.kube_objects.specs.Document.{Doc, processes, is_controller}
 use Rattle.kube_objects.specs.Elector.{acts, is_before, deadline}
-use Rattle.kube_objects.specs.Entry.{Entry, Identity, Fact, First, Event, Starts, Stops, Sends, Answers, Delivers, Expires, Leads, Ends, Crashes, Stalls, Ticks, StepsDown, ReleaseBegins, ReleaseEnds, ReleaseStops}
+use Rattle.kube_objects.specs.Entry.{Entry, Identity, Fact, Stops, Ends, Crashes}
 use Rattle.kube_objects.specs.Identities.{identity, of_process}
 use Rattle.kube_objects.specs.Newest.{has}
 use Rattle.kube_objects.specs.Pauses.{is_paused}
@@ -80,61 +80,16 @@ each_entry A decide (x ∷ h) = by_both (decide x) (each_entry A decide h)
 -- ---- which entry it is
 
 is_crash : (d : Fact) → Decided (d ≡ Crashes)
-is_crash (First key object) = inr (λ is. cc)
-is_crash (Event w version) = inr (λ is. cc)
-is_crash (Sends call arrives) = inr (λ is. cc)
-is_crash (Answers call reply comes wrote) = inr (λ is. cc)
-is_crash (Delivers call reply counted) = inr (λ is. cc)
-is_crash (Expires call) = inr (λ is. cc)
-is_crash (Ticks t) = inr (λ is. cc)
-is_crash Starts = inr (λ is. cc)
 is_crash Crashes = inl refl
-is_crash Stops = inr (λ is. cc)
-is_crash (Stalls beats) = inr (λ is. cc)
-is_crash StepsDown = inr (λ is. cc)
-is_crash (ReleaseBegins at_deadline) = inr (λ is. cc)
-is_crash ReleaseEnds = inr (λ is. cc)
-is_crash ReleaseStops = inr (λ is. cc)
-is_crash Ends = inr (λ is. cc)
-is_crash (Leads version) = inr (λ is. cc)
+is_crash d = inr (λ is. cc)
 
 is_stop : (d : Fact) → Decided (d ≡ Stops)
-is_stop (First key object) = inr (λ is. cc)
-is_stop (Event w version) = inr (λ is. cc)
-is_stop (Sends call arrives) = inr (λ is. cc)
-is_stop (Answers call reply comes wrote) = inr (λ is. cc)
-is_stop (Delivers call reply counted) = inr (λ is. cc)
-is_stop (Expires call) = inr (λ is. cc)
-is_stop (Ticks t) = inr (λ is. cc)
-is_stop Starts = inr (λ is. cc)
-is_stop Crashes = inr (λ is. cc)
 is_stop Stops = inl refl
-is_stop (Stalls beats) = inr (λ is. cc)
-is_stop StepsDown = inr (λ is. cc)
-is_stop (ReleaseBegins at_deadline) = inr (λ is. cc)
-is_stop ReleaseEnds = inr (λ is. cc)
-is_stop ReleaseStops = inr (λ is. cc)
-is_stop Ends = inr (λ is. cc)
-is_stop (Leads version) = inr (λ is. cc)
+is_stop d = inr (λ is. cc)
 
 is_end : (d : Fact) → Decided (d ≡ Ends)
-is_end (First key object) = inr (λ is. cc)
-is_end (Event w version) = inr (λ is. cc)
-is_end (Sends call arrives) = inr (λ is. cc)
-is_end (Answers call reply comes wrote) = inr (λ is. cc)
-is_end (Delivers call reply counted) = inr (λ is. cc)
-is_end (Expires call) = inr (λ is. cc)
-is_end (Ticks t) = inr (λ is. cc)
-is_end Starts = inr (λ is. cc)
-is_end Crashes = inr (λ is. cc)
-is_end Stops = inr (λ is. cc)
-is_end (Stalls beats) = inr (λ is. cc)
-is_end StepsDown = inr (λ is. cc)
-is_end (ReleaseBegins at_deadline) = inr (λ is. cc)
-is_end ReleaseEnds = inr (λ is. cc)
-is_end ReleaseStops = inr (λ is. cc)
 is_end Ends = inl refl
-is_end (Leads version) = inr (λ is. cc)
+is_end d = inr (λ is. cc)
 
 implies : (A B : Type 0) → Decided A → Decided B → Decided (A → B)
 implies A B (inr never) b = inl (λ a. absurd (never a))

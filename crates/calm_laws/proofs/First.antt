@@ -8,7 +8,7 @@ use Rattle.kube_objects.specs.Answers.{lease_in, as_kind, answer_get}
 use Rattle.kube_objects.specs.Clocks.{local}
 use Rattle.kube_objects.specs.Document.{Doc, processes, is_controller, call_timeout}
 use Rattle.kube_objects.specs.Elector.{Follow, Fails, Asks, Succeeds, is_fast, lead_says, leads, follow_on, timer_follow, timer_says, timer, retry_at}
-use Rattle.kube_objects.specs.Entry.{Entry, Identity, Call, Release, Fact, First as FirstPut, Event as Happens, Starts, Stops, Sends, Answers, Delivers, Expires, Leads, Ends, Crashes, Stalls, Ticks, actor_of, entry, StepsDown, ReleaseBegins, ReleaseEnds, ReleaseStops}
+use Rattle.kube_objects.specs.Entry.{Entry, Identity, Call, Fact, Starts, Sends, Delivers, Expires, Leads, actor_of, entry, StepsDown, ReleaseBegins, ReleaseEnds, ReleaseStops}
 use Rattle.kube_objects.specs.Identities.{is_by}
 use Rattle.kube_objects.specs.Newest.{newest, when, has}
 use Rattle.kube_objects.specs.Pauses.{is_paused}
@@ -37,8 +37,9 @@ use Rattle.span_laws.specs.Looks.{IsGreatest}
 use Rattle.span_laws.specs.Spans.{RunsAtLeast, RunsAtMost, IsEnough, IsNeeded}
 use Rattle.call_laws.proofs.Above.{in_head}
 use Rattle.call_laws.proofs.Answering.{events_position}
-use Rattle.call_laws.proofs.Making.{MadeAs, MadeDelivery, MadeExpiry, MadeSend, HasStopped, IsOpen, are_made}
+use Rattle.call_laws.proofs.Making.{MadeAs, MadeDelivery, MadeExpiry, are_made}
 use Rattle.call_laws.proofs.Placing.{in_own_beat, not_before, messages_travel}
+use Rattle.call_laws.proofs.Sending.{IsFree, is_free}
 use Rattle.call_laws.proofs.Starting.{actor_is}
 use Rattle.call_laws.specs.Answering.{with_events}
 use Rattle.takeover_laws.proofs.Rounds.{sent_is}
@@ -51,8 +52,9 @@ use Rattle.takeover_laws.proofs.Waits.{retry_most}
 use Rattle.calm_laws.proofs.Asked.{IsWrite, reason_key, reason_of}
 use Rattle.calm_laws.proofs.Begun.{Begun, begun_by, by_is, waits_between, Timed, timed_by}
 use Rattle.calm_laws.proofs.Life.{up_between, restart_adds, restart_same, turn_unset}
-use Rattle.calm_laws.proofs.Looks.{object_of, key, LookIn, Looked, failed_look, looked, none_looks}
+use Rattle.calm_laws.proofs.Looks.{object_of, some_beats, LookIn, Looked, failed_look, looked, none_looks}
 use Rattle.calm_laws.proofs.Origins.{Origin, origin}
+use Rattle.calm_laws.proofs.Sources.{source}
 use Rattle.calm_laws.proofs.Requests.{asks_in_turn}
 use Rattle.calm_laws.proofs.Turning.{Turned, turned}
 use Rattle.calm_laws.specs.Bounds.{LastsFor}
@@ -79,11 +81,7 @@ module _ (doc : Doc) (rules : ReleasesByStop doc) (near far a e n : ℕ) (one : 
     (G : ℕ) (after : K + wait ≤ G + 1) (low_wait : from + wait ≤ G) (room : G + most + 4 * far ≤ n)
     (overdue : (call : Call) (k : ℕ) → call.sent < a → G ≤ k + wait → k ≤ n → is_late doc q k call ≡ true) where
   some_wait : 1 ≤ wait
-  some_wait = by_wait wait wait_is
-    where
-      by_wait : (k : ℕ) → longest_wait doc q.process ≤ k * slow → 1 ≤ k
-      by_wait zero le = absurd (omega (arith, le, waits))
-      by_wait (suc k) le = omega arith
+  some_wait = some_beats slow (longest_wait doc q.process) wait waits wait_is
 
   into : (m : ℕ) → m ≤ n → (h : List Entry) → IsTail h (history doc (suc m)) → IsTail h (history doc (suc n))
   into m le h at = tail_trans h (history doc (suc m)) (history doc (suc n)) at (later_tail doc (suc m) (suc n) (omega (arith, le)))
@@ -118,28 +116,14 @@ module _ (doc : Doc) (rules : ReleasesByStop doc) (near far a e n : ℕ) (one : 
     sent_at =
         (subst (λ p. IfSome p (λ s. (s.call.sent ≡ b.f.beat) × (s.arrives ≡ request_arrival doc s.who.process b.f.beat b.before))) (sent_is b.f q call b.arrives b.actor b.fact) (messages_travel doc rules (suc n) b.f b.before position).0).0
 
-    free : (alive q.process b.before ≡ Some q.incarnation) × (3 ≤ b.f.step)
-    free = by_free (made.free (ap (λ (p : Identity). is_controller doc p.process) mine ∙ role))
-      where
-        made : MadeSend doc b.f.beat b.f.step b.f.actor call b.arrives b.before
-        made = subst (λ d. MadeAs doc b.f.beat b.f.step b.f.actor d b.before) b.fact (are_made doc rules (suc n) b.f b.before position)
-
-        mine : made.q ≡ q
-        mine = actor_is made.q q (sym made.by ∙ b.actor)
-
-        by_free : HasStopped b.f.beat made.q made.kind b.before ⊎ ((alive made.q.process b.before ≡ Some made.q.incarnation) × (call_in made.q b.before ≡ None) × (3 ≤ b.f.step) × IsOpen made.kind)
-            → (alive q.process b.before ≡ Some q.incarnation) × (3 ≤ b.f.step)
-        by_free (inr free) = (subst (λ (p : Identity). alive p.process b.before ≡ Some p.incarnation) mine free.0, free.2)
-        by_free (inl stopped) = absurd (not_open (subst (λ kind. open_as kind call ≡ Some call) (ap (λ (c : Call). c.kind) made.call_is ∙ stopped.kind_is) b.opens))
-          where
-            not_open : open_as Release call ≡ Some call → ⊥
-            not_open is = none_is call is
+    free : IsFree q b.f b.before call
+    free = is_free doc rules (suc n) q role b.f b.before call b.arrives position b.actor b.fact b.opens
 
     up_sent : alive q.process b.before ≡ Some q.incarnation
-    up_sent = free.0
+    up_sent = free.up
 
     low_sent : a ≤ b.f.beat → IsTail (with_events doc a) b.before
-    low_sent from_a = since_low doc a n b.f b.before position from_a free.1
+    low_sent from_a = since_low doc a n b.f b.before position from_a free.step
 
     -- no reply to it has counted
     unanswered : (y : ℕ) (reply : Reply) (before : List Entry) → IsTail (entry y 3 q (Delivers call reply true) ∷ before) T → b.f.beat < y → y ≤ n → ⊥
@@ -357,7 +341,7 @@ module _ (doc : Doc) (rules : ReleasesByStop doc) (near far a e n : ℕ) (one : 
         o = origin doc rules (suc n) q x T w reply at_n mine fact
 
         is_key : key_of w.request ≡ election
-        is_key = key doc rules near far a e n one ways within q role steady my_time none led lasting top lasts K some given refused no_writes w reply T x.beat o high
+        is_key = (source doc rules n q role led w reply T x.beat o high).key
 
         some_beat : 1 ≤ x.beat
         some_beat = omega (arith, y_late, some)
@@ -423,20 +407,11 @@ module _ (doc : Doc) (rules : ReleasesByStop doc) (near far a e n : ℕ) (one : 
         by_follow (Asks request) failed b led_b is = not_set t is
         by_follow (Succeeds version) failed true led_b is = true_is led_b
         by_follow (Succeeds version) failed false led_b is = not_set t is
-    timer_from (Delivers w reply false) fact made t says lt = not_set t says
-    timer_from (Sends c arrives) fact made t says lt = not_set t says
-    timer_from (FirstPut k object) fact made t says lt = not_set t says
-    timer_from (Happens w version) fact made t says lt = not_set t says
-    timer_from Crashes fact made t says lt = not_set t says
-    timer_from Stops fact made t says lt = not_set t says
-    timer_from (Stalls beats) fact made t says lt = not_set t says
     timer_from StepsDown fact made t says lt = absurd made
     timer_from (ReleaseBegins at_deadline) fact made t says lt = absurd made
     timer_from ReleaseEnds fact made t says lt = absurd made
     timer_from ReleaseStops fact made t says lt = absurd made
-    timer_from Ends fact made t says lt = not_set t says
-    timer_from (Answers c reply comes wrote) fact made t says lt = not_set t says
-    timer_from (Ticks tick) fact made t says lt = not_set t says
+    timer_from d fact made t says lt = not_set t says
 
   -- ---- the turn at beat G
 

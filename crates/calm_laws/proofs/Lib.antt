@@ -4,7 +4,7 @@ pub mod Begun
 pub mod Origins
 pub mod Turning
 pub mod Asked
-pub mod Kept
+pub mod Sources
 pub mod Replies
 pub mod Life
 pub mod Looks

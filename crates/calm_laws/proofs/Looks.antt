@@ -7,7 +7,7 @@ use Rattle.kube_objects.specs.Answers.{lease_in, versioned, as_kind, answer_get,
 use Rattle.kube_objects.specs.Clocks.{local}
 use Rattle.kube_objects.specs.Document.{Doc, is_controller}
 use Rattle.kube_objects.specs.Elector.{Moment, moment, Follow, Fails, Asks, Succeeds, is_blocked, updated, created, follow_get, follow, follow_on, leads, Shown, told, shows, shown, is_known, newly, found_shows, observed, observed_at, done_shows, respected}
-use Rattle.kube_objects.specs.Entry.{Entry, Identity, Call, Plain, Sends, Delivers, actor_of, entry, Fact, First, Event, Starts, Stops, Answers, Expires, Leads, Ends, Crashes, Stalls, Ticks, StepsDown, ReleaseBegins, ReleaseEnds, ReleaseStops}
+use Rattle.kube_objects.specs.Entry.{Entry, Identity, Call, Plain, Sends, Delivers, actor_of, entry, Fact}
 use Rattle.kube_objects.specs.Identities.{is_other, is_by}
 use Rattle.kube_objects.specs.Newest.{only_if, or_zero}
 use Rattle.kube_objects.specs.Process.{alive, open_as}
@@ -15,7 +15,7 @@ use Rattle.kube_objects.specs.Stored.{Held, election, key_of}
 use Rattle.kube_objects.specs.Turns.{react}
 use Rattle.kube_objects.specs.Wire.{next_call, request_arrival}
 use Rattle.kube_objects.specs.declared.call.Reply.{Reply}
-use Rattle.kube_objects.specs.declared.call.Reply.TheVariants.{Found, Done, Absent, Exists, Conflict, Unchanged}
+use Rattle.kube_objects.specs.declared.call.Reply.TheVariants.{Found, Done, Absent}
 use Rattle.kube_objects.specs.declared.call.Request.{Request}
 use Rattle.kube_objects.specs.declared.call.Request.TheVariants.{Get, Create, Update, PostStatus}
 use Rattle.kube_objects.specs.declared.lease.Lease.{Lease}
@@ -45,10 +45,11 @@ use Rattle.takeover_laws.specs.Calm.{IsSteady, IsInTime}
 use Rattle.lease_laws.specs.Respects.{respected_time}
 use Rattle.takeover_laws.specs.Waits.{longest_wait, shortest_wait}
 use Rattle.takeover_laws.proofs.Waits.{shortest_least, blocked_is}
-use Rattle.calm_laws.proofs.Asked.{IsWrite, asks_same, fails_not, reason_key, reason_of}
+use Rattle.calm_laws.proofs.Asked.{IsWrite, asks_same, fails_not}
 use Rattle.calm_laws.proofs.Begun.{by_is}
 use Rattle.calm_laws.proofs.Origins.{Origin, origin}
 use Rattle.calm_laws.proofs.Replies.{HasLease}
+use Rattle.calm_laws.proofs.Sources.{source}
 use Rattle.calm_laws.specs.Bounds.{LastsFor}
 
 -- ---- what follows a Get
@@ -69,10 +70,7 @@ get_writes q m seen (Found version lease) r is = by_test (is_blocked q m.now see
     by_test : (b : Bool) → cond b Fails (Asks (Update election version (updated q m lease))) ≡ Asks r → IsWrite r
     by_test true is = absurd (fails_not r is)
     by_test false is = subst IsWrite (asks_same (Update election version (updated q m lease)) r is) tt
-get_writes q m seen (Done version) r is = absurd (fails_not r is)
-get_writes q m seen Exists r is = absurd (fails_not r is)
-get_writes q m seen (Conflict version) r is = absurd (fails_not r is)
-get_writes q m seen Unchanged r is = absurd (fails_not r is)
+get_writes q m seen reply r is = absurd (fails_not r is)
 
 pub get_no_success : (q : Identity) (m : Moment) (seen : ℕ) (reply : Reply) (v : Version) → follow_get q m seen reply ≡ Succeeds v → ⊥
 get_no_success q m seen Absent v is = asks_succeeds (Create election (created q m)) v is
@@ -81,10 +79,7 @@ get_no_success q m seen (Found version lease) v is = by_test (is_blocked q m.now
     by_test : (b : Bool) → cond b Fails (Asks (Update election version (updated q m lease))) ≡ Succeeds v → ⊥
     by_test true is = fails_succeeds v is
     by_test false is = asks_succeeds (Update election version (updated q m lease)) v is
-get_no_success q m seen (Done version) v is = fails_succeeds v is
-get_no_success q m seen Exists v is = fails_succeeds v is
-get_no_success q m seen (Conflict version) v is = fails_succeeds v is
-get_no_success q m seen Unchanged v is = fails_succeeds v is
+get_no_success q m seen reply v is = fails_succeeds v is
 
 -- ---- what is stored, as it blocks
 
@@ -148,6 +143,11 @@ seen_upto q o (x ∷ h) all = by_shows (shows q x.actor x.fact) (seen_upto q o h
 
 -- ---- looks
 
+-- what takes time takes a beat
+pub some_beats : (slow time k : ℕ) → 1 ≤ time → IsEnough slow time k → 1 ≤ k
+some_beats slow time zero some enough = absurd (omega (arith, enough, some))
+some_beats slow time (suc k) some enough = omega arith
+
 module _ (doc : Doc) (rules : ReleasesByStop doc) (near far a e n : ℕ) (one : 1 ≤ near) (ways : near ≤ far) (within : n ≤ e) (q : Identity) (role : is_controller doc q.process ≡ true)
     (steady : IsSteady doc near far a e q.process) (my_time : IsInTime doc far a e q.process) (none : (k : ℕ) → a ≤ k → k ≤ n → Acts doc q k → ⊥) (led : (h : List Entry) → IsTail h (history doc (suc n)) → leads q h ≡ false)
     (lasting : ℕ) (top : Option Held) (lasts : LastsFor doc q.process lasting (object_of top)) (K : ℕ) (some : a < K)
@@ -156,24 +156,6 @@ module _ (doc : Doc) (rules : ReleasesByStop doc) (near far a e n : ℕ) (one : 
     (no_writes : (x : Entry) (T : List Entry) (call : Call) (arrives : Option ℕ) → IsTail (x ∷ T) (history doc (suc n)) → x.actor ≡ actor_of q → x.fact ≡ Sends call arrives → open_as call.kind call ≡ Some call → IsWrite call.request → K ≤ x.beat + 2 * far → x.beat + 2 * far ≤ n → ⊥) where
   abbrev pub there_is : Reply
   there_is = answer_get (as_kind lease_in top)
-
-  -- ---- where a reply to it is from
-
-  module _ (w : Call) (reply : Reply) (T : List Entry) (y : ℕ) (o : Origin doc q w reply T y) (high : IsTail T (history doc (suc n))) where
-    position : IsTail (o.e ∷ o.low) (history doc (suc n))
-    position = tail_trans (o.e ∷ o.low) T (history doc (suc n)) o.answered high
-
-    sending : IsTail (o.begun.f ∷ o.begun.before) (history doc (suc n))
-    sending = tail_trans (o.begun.f ∷ o.begun.before) T (history doc (suc n)) o.begun.position high
-
-    before_sending : IsTail o.begun.before (history doc (suc n))
-    before_sending = tail_trans o.begun.before (o.begun.f ∷ o.begun.before) (history doc (suc n)) (inr (tail_all o.begun.before)) sending
-
-    -- it asked for the election Lease
-    pub key : key_of w.request ≡ election
-    key =
-        reason_key doc o.begun.f.beat q w.request o.begun.before
-        (reason_of doc rules (suc n) q role o.begun.f o.begun.before w o.begun.arrives sending o.begun.actor o.begun.fact (led o.begun.before before_sending) o.begun.opens).0
 
   -- ---- what it was shown stays
 
@@ -209,15 +191,11 @@ module _ (doc : Doc) (rules : ReleasesByStop doc) (near far a e n : ℕ) (one : 
 
             done : (l : Lease) (b : Reply) → reply ≡ b → IsWrite w.request → done_shows l b ≡ Some s → s ≡ (version, record_is)
             done l (Done v) is write shows_it = absurd (refused w reply Z z.beat from_it high write (omega (arith, late, from)) (omega (arith, upto, to)) soon v is)
-            done l Absent is write shows_it = absurd (none_is s shows_it)
-            done l (Found v m) is write shows_it = absurd (none_is s shows_it)
-            done l Exists is write shows_it = absurd (none_is s shows_it)
-            done l (Conflict v) is write shows_it = absurd (none_is s shows_it)
-            done l Unchanged is write shows_it = absurd (none_is s shows_it)
+            done l reply is write shows_it = absurd (none_is s shows_it)
 
             by_request : (request : Request) → w.request ≡ request → told request reply ≡ Some s → s ≡ (version, record_is)
             by_request (Get k) is shows_it =
-                let get : w.request ≡ Get election = is ∙ ap Get (sym (ap key_of is) ∙ key w reply Z z.beat from_it high) in
+                let get : w.request ≡ Get election = is ∙ ap Get (sym (ap key_of is) ∙ (source doc rules n q role led w reply Z z.beat from_it high).key) in
                 some_is s (version, record_is) (sym shows_it ∙ ap found_shows (given w reply Z z.beat from_it high get (omega (arith, late, from)) (omega (arith, upto, to)) soon ∙ found))
             by_request (Create k l) is shows_it = done l reply refl (subst IsWrite (sym is) tt) shows_it
             by_request (Update k v l) is shows_it = done l reply refl (subst IsWrite (sym is) tt) shows_it
@@ -226,23 +204,7 @@ module _ (doc : Doc) (rules : ReleasesByStop doc) (near far a e n : ℕ) (one : 
         cases : (d : Fact) → z.fact ≡ d → shows q z.actor d ≡ Some s → s ≡ (version, record_is)
         cases (Delivers w reply true) fact is =
             counts w reply (by_is q z.actor (only_test (is_by q z.actor) (told w.request reply) s is)) fact (only_value (is_by q z.actor) (told w.request reply) s is)
-        cases (Delivers w reply false) fact is = absurd (none_is s is)
-        cases (Sends w arrives) fact is = absurd (none_is s is)
-        cases (First k object) fact is = absurd (none_is s is)
-        cases (Event w v) fact is = absurd (none_is s is)
-        cases (Answers w reply comes wrote) fact is = absurd (none_is s is)
-        cases (Expires w) fact is = absurd (none_is s is)
-        cases (Ticks t) fact is = absurd (none_is s is)
-        cases Starts fact is = absurd (none_is s is)
-        cases Crashes fact is = absurd (none_is s is)
-        cases Stops fact is = absurd (none_is s is)
-        cases (Stalls beats) fact is = absurd (none_is s is)
-        cases StepsDown fact is = absurd (none_is s is)
-        cases (ReleaseBegins at_deadline) fact is = absurd (none_is s is)
-        cases ReleaseEnds fact is = absurd (none_is s is)
-        cases ReleaseStops fact is = absurd (none_is s is)
-        cases Ends fact is = absurd (none_is s is)
-        cases (Leads v) fact is = absurd (none_is s is)
+        cases d fact is = absurd (none_is s is)
 
     one_more : (z : Entry) (Z : List Entry) → IsTail (z ∷ Z) (history doc (suc r)) → o ≤ z.beat → Seen Z → Seen (z ∷ Z)
     one_more z Z at from s = by_shows (shows q z.actor z.fact) refl
@@ -375,11 +337,7 @@ module _ (doc : Doc) (rules : ReleasesByStop doc) (near far a e n : ℕ) (one : 
         (waits : 1 ≤ longest_wait doc q.process) (wait_is : IsEnough slow (longest_wait doc q.process) wait) (needed_is : IsNeeded fast (shortest_wait doc q.process) needed) where
       -- a reading grows by the longest wait in that many beats, and by the shortest in no fewer
       some_wait : 1 ≤ wait
-      some_wait = by_wait wait wait_is
-        where
-          by_wait : (k : ℕ) → longest_wait doc q.process ≤ k * slow → 1 ≤ k
-          by_wait zero le = absurd (omega (arith, le, waits))
-          by_wait (suc k) le = omega arith
+      some_wait = some_beats slow (longest_wait doc q.process) wait waits wait_is
 
       no_less : (k : ℕ) → slow ≤ fast → k * slow ≤ k * fast
       no_less zero le = omega arith

@@ -18,8 +18,9 @@ use Rattle.history_laws.proofs.Counting.{CountedFor, counted_is}
 use Rattle.history_laws.proofs.Plainly.{none_is, some_is, same_self}
 use Rattle.history_laws.proofs.Tailed.{tail_all, tail_trans, tails_meet, begun_tail, same_head}
 use Rattle.call_laws.proofs.Above.{Place, place_of}
-use Rattle.call_laws.proofs.Making.{MadeAs, MadeSend, MadeAnswer, MadeDelivery, are_made}
+use Rattle.call_laws.proofs.Making.{MadeAs, MadeAnswer, MadeDelivery, are_made}
 use Rattle.call_laws.proofs.Once.{due_at}
+use Rattle.call_laws.proofs.Sending.{made_for}
 use Rattle.call_laws.proofs.Starting.{actor_is}
 use Rattle.takeover_laws.proofs.Writers.{sends_of}
 use Rattle.calm_laws.proofs.Begun.{Begun, begun_by}
@@ -28,11 +29,8 @@ use Rattle.calm_laws.proofs.Begun.{Begun, begun_by}
 
 numbered : (doc : Doc) → ReleasesByStop doc → (m : ℕ) (q : Identity) (x : Entry) (T : List Entry) (call : Call) (arrives : Option ℕ) → IsTail (x ∷ T) (history doc m) → x.actor ≡ actor_of q → x.fact ≡ Sends call arrives
     → (call.number ≡ begun q T + 1) × (begun q (x ∷ T) ≡ begun q T + 1)
-numbered doc rules m q x T call arrives at actor fact = (ap (λ (c : Call). c.number) made.call_is ∙ ap (λ p. begun p T + 1) (actor_is made.q q (sym made.by ∙ actor)), counts)
+numbered doc rules m q x T call arrives at actor fact = (ap (λ (c : Call). c.number) (made_for doc rules m q x T call arrives at actor fact).call_is, counts)
   where
-    made : MadeSend doc x.beat x.step x.actor call arrives T
-    made = subst (λ d. MadeAs doc x.beat x.step x.actor d T) fact (are_made doc rules m x T at)
-
     counts : begun q (x ∷ T) ≡ begun q T + 1
     counts = ap (λ d. added (is_send d && is_by q x.actor) (begun q T)) fact ∙ ap (λ who. added (is_by q who) (begun q T)) actor ∙ ap (λ b. added b (begun q T)) (same_self q)
 

@@ -30,9 +30,10 @@ use Rattle.call_laws.proofs.Placing.{in_own_beat, not_before, forces_stand, mess
 use Rattle.takeover_laws.specs.Calm.{Passes, IsSteady, IsCalm, WritesElection}
 use Rattle.takeover_laws.specs.Taking.{FitsStored}
 use Rattle.takeover_laws.proofs.Rounds.{request_comes, reply_passes, sent_is}
-use Rattle.calm_laws.proofs.Asked.{IsWrite, IsNext, Reason, next_is, asks_same, fails_not, reason_key, reason_of, InTurn, AfterReply}
-use Rattle.calm_laws.proofs.Kept.{IsKept, no_takeover}
+use Rattle.calm_laws.proofs.Asked.{IsWrite, IsNext, Reason, next_is, asks_same, fails_not, reason_of, InTurn, AfterReply}
+use Rattle.takeover_laws.proofs.Taking.{IsKept, no_takeover}
 use Rattle.calm_laws.proofs.Origins.{Origin, origin}
+use Rattle.calm_laws.proofs.Sources.{Source, source}
 
 -- ---- what is stored as a Lease
 
@@ -67,23 +68,11 @@ module _ (doc : Doc) (rules : ReleasesByStop doc) (near far a settled e n : ℕ)
   -- ---- where a reply to it is from
 
   module _ (w : Call) (reply : Reply) (T : List Entry) (y : ℕ) (o : Origin doc q w reply T y) (high : IsTail T (history doc (suc n))) where
-    position : IsTail (o.e ∷ o.low) (history doc (suc n))
-    position = tail_trans (o.e ∷ o.low) T (history doc (suc n)) o.answered high
-
-    sending : IsTail (o.begun.f ∷ o.begun.before) (history doc (suc n))
-    sending = tail_trans (o.begun.f ∷ o.begun.before) T (history doc (suc n)) o.begun.position high
-
-    before_sending : IsTail o.begun.before (history doc (suc n))
-    before_sending = tail_trans o.begun.before (o.begun.f ∷ o.begun.before) (history doc (suc n)) (inr (tail_all o.begun.before)) sending
-
-    -- it asked for the election Lease
-    pub key : key_of w.request ≡ election
-    key =
-        reason_key doc o.begun.f.beat q w.request o.begun.before
-        (reason_of doc rules (suc n) q role o.begun.f o.begun.before w o.begun.arrives sending o.begun.actor o.begun.fact (led o.begun.before before_sending) o.begun.opens).0
+    s : Source doc n q w reply T y o
+    s = source doc rules n q role led w reply T y o high
 
     key_is : key_eq (key_of w.request) election ≡ true
-    key_is = ap (λ k. key_eq k election) key
+    key_is = ap (λ k. key_eq k election) s.key
 
     earlier : (z : Entry) (Z : List Entry) → IsTail (z ∷ Z) (history doc (suc n)) → z.beat < a → In z (history doc a)
     earlier z Z at lt = in_head z Z (history doc a) (tail_trans (z ∷ Z) (history doc (suc z.beat)) (history doc a) (in_own_beat doc (suc n) z Z at) (later_tail doc (suc z.beat) a (omega (arith, lt))))
@@ -97,7 +86,7 @@ module _ (doc : Doc) (rules : ReleasesByStop doc) (near far a settled e n : ℕ)
 
         early : o.e.beat < a → ⊥
         early lt =
-            let come : y < a + far = subst (λ o. IfSome o (λ b. key_eq (key_of b.call.request) election ≡ true → IfSome b.comes (λ m. m < a + far))) back_is (calm.replies o.e (earlier o.e o.low position lt)) key_is in
+            let come : y < a + far = subst (λ o. IfSome o (λ b. key_eq (key_of b.call.request) election ≡ true → IfSome b.comes (λ m. m < a + far))) back_is (calm.replies o.e (earlier o.e o.low s.position lt)) key_is in
             omega (arith, come, late, ordered)
 
         soon : a ≤ o.e.beat → o.e.beat < settled + far → ⊥
@@ -109,22 +98,19 @@ module _ (doc : Doc) (rules : ReleasesByStop doc) (near far a settled e n : ℕ)
             comes : o.e.beat + reply_delay q.process (with_events doc o.e.beat) ≡ y
             comes =
                 some_is (o.e.beat + reply_delay q.process (with_events doc o.e.beat)) y
-                (sym (reply_passes doc near far q.process o.e.beat o.low passes (forces_stand doc rules (suc n) o.e o.low position (omega (arith, o.step)))
+                (sym (reply_passes doc near far q.process o.e.beat o.low passes (forces_stand doc rules (suc n) o.e o.low s.position (omega (arith, o.step)))
                 (steady.passes (o.e.beat + reply_delay q.process (with_events doc o.e.beat)) (omega (arith, from)) (omega (arith, passes.reply_most, lt, late, to, within))).awake)
                 ∙ o.comes_is)
 
     answered_by : o.e.beat ≤ n
-    answered_by = ⊎_elim (λ lt. omega (arith, lt)) (λ first. omega (arith, first.0)) (entries_are_earlier doc (suc n) o.e (in_head o.e o.low (history doc (suc n)) position))
-
-    asked_in : Reason doc o.begun.f.beat q w.request o.begun.before × (3 ≤ o.begun.f.step)
-    asked_in = reason_of doc rules (suc n) q role o.begun.f o.begun.before w o.begun.arrives sending o.begun.actor o.begun.fact (led o.begun.before before_sending) o.begun.opens
+    answered_by = ⊎_elim (λ lt. omega (arith, lt)) (λ first. omega (arith, first.0)) (entries_are_earlier doc (suc n) o.e (in_head o.e o.low (history doc (suc n)) s.position))
 
     -- so its request was sent in the calm
     pub sent_since : settled + far ≤ o.e.beat → settled ≤ o.begun.f.beat
     sent_since late = ⊎_elim (λ lt. absurd (early lt)) (λ from. ⊎_elim (λ lt. absurd (soon from lt)) (λ le. le) (cases_lt o.begun.f.beat settled)) (cases_lt o.begun.f.beat a)
       where
         travels : IfSome (sent_of o.begun.f.actor o.begun.f.fact) (λ s. (s.call.sent ≡ o.begun.f.beat) × (s.arrives ≡ request_arrival doc s.who.process o.begun.f.beat o.begun.before))
-        travels = (messages_travel doc rules (suc n) o.begun.f o.begun.before sending).0
+        travels = (messages_travel doc rules (suc n) o.begun.f o.begun.before s.sending).0
 
         soon : a ≤ o.begun.f.beat → o.begun.f.beat < settled → ⊥
         soon from lt = omega (arith, arrives, passes.request_most, late, lt)
@@ -134,7 +120,7 @@ module _ (doc : Doc) (rules : ReleasesByStop doc) (near far a settled e n : ℕ)
 
             arrives : o.e.beat ≡ o.begun.f.beat + request_delay q.process (with_events doc o.begun.f.beat)
             arrives =
-                request_comes doc rules near far q.process o.begun.f.beat o.begun.before passes (forces_stand doc rules (suc n) o.begun.f o.begun.before sending (omega (arith, asked_in.1))) o.e.beat
+                request_comes doc rules near far q.process o.begun.f.beat o.begun.before passes (forces_stand doc rules (suc n) o.begun.f o.begun.before s.sending (omega (arith, s.asked.1))) o.e.beat
                 (λ j low high. (steady.passes j (omega (arith, from, low)) (omega (arith, high, answered_by, within))).goes)
                 (sym (sym o.arrives
                 ∙ (subst (λ p. IfSome p (λ s. (s.call.sent ≡ o.begun.f.beat) × (s.arrives ≡ request_arrival doc s.who.process o.begun.f.beat o.begun.before))) (sent_is o.begun.f q w o.begun.arrives o.begun.actor o.begun.fact) travels).1))
@@ -142,7 +128,7 @@ module _ (doc : Doc) (rules : ReleasesByStop doc) (near far a settled e n : ℕ)
         early : o.begun.f.beat < a → ⊥
         early lt =
             let there = subst (λ o. IfSome o (λ s. key_eq (key_of s.call.request) election ≡ true → IfSome s.arrives (λ m. m < a + far)))
-            (sent_is o.begun.f q w o.begun.arrives o.begun.actor o.begun.fact) (calm.requests o.begun.f (earlier o.begun.f o.begun.before sending lt)) key_is in
+            (sent_is o.begun.f q w o.begun.arrives o.begun.actor o.begun.fact) (calm.requests o.begun.f (earlier o.begun.f o.begun.before s.sending lt)) key_is in
             let come : o.e.beat < a + far = subst (λ o. IfSome o (λ m. m < a + far)) o.arrives there in
             omega (arith, come, late, ordered)
 
@@ -152,18 +138,18 @@ module _ (doc : Doc) (rules : ReleasesByStop doc) (near far a settled e n : ℕ)
         o.reply_is ∙ ap (λ r. answer r o.low) get
         ∙ ap (λ x. answer_get (as_kind lease_in x))
         (kept.stays o.e.beat late to o.low
-        (not_before doc (settled + far) (suc n) o.e o.low (omega (arith, late, answered_by)) position late (omega (arith, o.step)))
-        (tail_trans o.low (o.e ∷ o.low) (history doc (suc o.e.beat)) (inr (tail_all o.low)) (in_own_beat doc (suc n) o.e o.low position)))
+        (not_before doc (settled + far) (suc n) o.e o.low (omega (arith, late, answered_by)) s.position late (omega (arith, o.step)))
+        (tail_trans o.low (o.e ∷ o.low) (history doc (suc o.e.beat)) (inr (tail_all o.low)) (in_own_beat doc (suc n) o.e o.low s.position)))
 
     -- no write of it is accepted
     pub no_success : (version : Version) → IsWrite w.request → settled + far ≤ o.e.beat → o.e.beat + far ≤ n → reply ≡ Done version → ⊥
     no_success version write late to done =
-        kept.no_write o.e o.low q position o.actor role
-        (subst (WritesElection settled) (sym o.fact) (omega (arith, sent, sent_since late), wrote_by w.request o.low version write key (sym o.reply_is ∙ done))) to
+        kept.no_write o.e o.low q s.position o.actor role
+        (subst (WritesElection settled) (sym o.fact) (omega (arith, sent, sent_since late), wrote_by w.request o.low version write s.key (sym o.reply_is ∙ done))) to
       where
         sent : w.sent ≡ o.begun.f.beat
         sent = (subst (λ p. IfSome p (λ s. (s.call.sent ≡ o.begun.f.beat) × (s.arrives ≡ request_arrival doc s.who.process o.begun.f.beat o.begun.before)))
-            (sent_is o.begun.f q w o.begun.arrives o.begun.actor o.begun.fact) (messages_travel doc rules (suc n) o.begun.f o.begun.before sending).0).0
+            (sent_is o.begun.f q w o.begun.arrives o.begun.actor o.begun.fact) (messages_travel doc rules (suc n) o.begun.f o.begun.before s.sending).0).0
 
   -- ---- a write after a Get ends in acting
 
@@ -191,7 +177,7 @@ module _ (doc : Doc) (rules : ReleasesByStop doc) (near far a settled e n : ℕ)
       next = next_is q (moment doc q x.beat) (observed_at doc q T) f.waiting.kind f.waiting.request f.reply call.request f.follows
 
       get : f.waiting.request ≡ Get election
-      get = (next.written write).1 ∙ ap Get (sym (ap key_of (next.written write).1) ∙ key f.waiting f.reply f.before x.beat o high)
+      get = (next.written write).1 ∙ ap Get (sym (ap key_of (next.written write).1) ∙ (source doc rules n q role led f.waiting f.reply f.before x.beat o high).key)
 
       given : settled + far ≤ o.e.beat
       given = answered_late f.waiting f.reply f.before x.beat o high late (omega (arith, to))

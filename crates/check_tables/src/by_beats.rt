@@ -19,7 +19,7 @@ use trace_writer::{FirstLine, WriteFault, write_deed, write_first};
 use world_core::deeds_of;
 use zone_state::{Policies, full, partial};
 
-/// Whether this is the trace of a document where each beat is done, whether or not it has an entry.
+/// Whether this is the trace of a document if each beat is done, whether or not it has an entry.
 pub(crate) fn is_trace(alloc: Global, document: &str, trace: &str) -> Result<bool, NoMemory> {
     documents_are_lawful();
     let bytes = document.as_bytes();
@@ -60,7 +60,7 @@ fn all_deeds(alloc: Global, document: Document) -> Result<Deeds, NoMemory>
     Ok(deeds)
 }
 
-/// Writes the first line of a trace and those of the deeds. False where the sink has no room for them.
+/// Writes the first line of a trace and those of the deeds. False if the sink has no room for them.
 fn write_lines(
     alloc: Global,
     sink: &mut MemSink,
@@ -82,7 +82,7 @@ fn write_lines(
     write_deeds(alloc, sink, &document.names, processes.as_slice(), deeds)
 }
 
-/// Writes the lines of deeds. False where the sink has no room for them.
+/// Writes the lines of deeds. False if the sink has no room for them.
 fn write_deeds(
     alloc: Global,
     sink: &mut MemSink,

@@ -10,7 +10,7 @@ use std::alloc::Global;
 use std::sync::ledger::Blank;
 use zone_state::{Policies, full, partial};
 
-/// How a run ends where neither its source nor its sink can fail: as the words and the bytes say, or for want of memory.
+/// How a run ends if neither its source nor its sink can fail: as the words and the bytes say, or out of memory.
 pub(crate) fn ends_calmly(alloc: Global, words: &Vec<String>, bytes: Vec<u8>) -> Status
     ensures { (result ≡ Status.Answered (outcome (map string_bytes words.now.items) bytes.items).reply.verdict) ⊎ (result ≡ Status.OutOfMemory) }
 {

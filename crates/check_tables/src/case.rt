@@ -109,7 +109,7 @@ fn line_holds(alloc: Global, row: &str) -> Result<bool, NoMemory> {
     }
 }
 
-/// Whether a run with the words of the row, each after a tab, writes this and ends so, over a source that fails where it
+/// Whether a run with the words of the row, each after a tab, writes this and ends so, over a source that fails if it
 /// is read.
 fn words_hold(alloc: Global, wanted: &str, row: &str, status: Status) -> Result<bool, NoMemory> {
     let mut words = Vec::new(alloc);

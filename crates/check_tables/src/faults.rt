@@ -18,7 +18,7 @@ struct Asked<'a> {
     text: &'a str,
 }
 
-/// Whether `replay` writes this trace of the document, and whether it is the trace where each beat is done.
+/// Whether `replay` writes this trace of the document, and whether it is the trace if each beat is done.
 pub(crate) fn replays(alloc: Global, document: &str, trace: &str) -> Result<Tally, NoMemory> {
     let mut tally = Tally::of(writes(alloc, "replay", document.as_bytes(), trace)?);
     tally.add(is_trace(alloc, document, trace)?);

@@ -7,9 +7,9 @@ use serde_json::Value;
 use std::alloc::Global;
 
 /// The only controller of the documents that manifests are read in.
-const CONTROLLER: &[u8] = b"c1";
+const CONTROLLER: &str = "c1";
 
-/// Who the holder of the Lease is, where it is read.
+/// Who the holder of the Lease is, if it is read.
 pub(crate) fn holder_in(alloc: Global, text: &str) -> Result<Option<String>, NoMemory> {
     let Ok(value) = Value::from_str(alloc, text) else {
         return Ok(None);
@@ -41,7 +41,7 @@ fn holder_text(alloc: Global, names: &Names, holder: Holder) -> Result<Option<St
     Ok(Some(text))
 }
 
-/// How many items of the List are skipped, and the List that is written of the others, where it is read.
+/// How many items of the List are skipped, and the List that is written of the others, if it is read.
 pub(crate) fn list_in(alloc: Global, text: &str) -> Result<Option<String>, NoMemory> {
     let Ok(value) = Value::from_str(alloc, text) else {
         return Ok(None);

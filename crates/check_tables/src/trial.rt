@@ -19,7 +19,7 @@ pub(crate) struct Trial<'a> {
     pub(crate) sink_chunk: usize,
 }
 
-/// A source and a sink that don't fail, where so many bytes are to be written.
+/// A source and a sink that don't fail, if so many bytes are to be written.
 pub(crate) fn ample(bytes: &[u8], written: usize) -> Trial<'_> {
     Trial {
         bytes,
@@ -54,7 +54,7 @@ pub(crate) fn ends(
     Ok(ended == status && sink.held() == text)
 }
 
-/// Whether a run writes just this text and ends as the text says, and ends so too where nothing can fail.
+/// Whether a run writes just this text and ends as the text says, and ends so too if nothing can fail.
 fn ends_both(
     alloc: Global,
     words: &Vec<String>,

@@ -16,9 +16,10 @@ use Rattle.kube_objects.specs.Tick as model
 use Rattle.kube_objects.specs.Tick.{add, cleaned, pass, spends, sync, tainted}
 use Rattle.kube_objects.specs.Tokens.{token_size}
 use Rattle.history_laws.proofs.Plainly.{false_is, same_self, true_is}
+use Rattle.history_laws.proofs.Ticks.{is_cleaning, is_deleting, is_heading, kept_sync}
 use Rattle.rate_bucket.specs.Allowing.{Allowed, has_room, owed_at, taken}
 use Rattle.tick_laws.specs.Room.{AreInBeats, AreUpTo, owed}
-use Rattle.tick_laws.proofs.Phases.{cleaned_keeps, is_cleaning, is_deleting, is_heading, is_passing, pass_keeps, sync_keeps, tainted_keeps}
+use Rattle.tick_laws.proofs.Phases.{cleaned_keeps, is_passing, pass_keeps, tainted_keeps}
 use Rattle.tick_laws.proofs.Room.{beats_more, room_is_owed}
 use Rattle.watch_cache.specs.Stands.{is_tick_by}
 use Rattle.controller_core.specs.Allowing.{AllowanceStands}
@@ -78,7 +79,7 @@ module _ (doc : Doc) (k : ℕ) (q : Identity) (a : Allowed) (h : List Entry) whe
   Stands g = AllowanceStands doc q g a
 
   pub allowance_synced : Stands h → Stands (sync doc k q h)
-  allowance_synced s = sync_keeps doc k q Stands (λ g s. allowance_more doc k q _ g a refl s) h s
+  allowance_synced s = kept_sync doc k q Stands (λ g s. allowance_more doc k q _ g a refl s) h s
 
   pub allowance_passed : Stands h → Stands (pass doc k q h)
   allowance_passed s = pass_keeps doc k q Stands (λ t g is s. allowance_more doc k q t g a (passing_alone t is) s) h s
@@ -99,7 +100,7 @@ module _ (doc : Doc) (k : ℕ) (q : Identity) where
   more_in_order t g s = beats_more k q t g s.1 s.0
 
   pub synced_beats : (h : List Entry) → InOrder h → InOrder (sync doc k q h)
-  synced_beats h s = sync_keeps doc k q InOrder (λ g s. more_in_order Sync g s) h s
+  synced_beats h s = kept_sync doc k q InOrder (λ g s. more_in_order Sync g s) h s
 
   pub acting_beats : (h : List Entry) → InOrder h → InOrder (tainted doc k q (cleaned doc k q (pass doc k q h)))
   acting_beats h s =

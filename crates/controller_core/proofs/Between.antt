@@ -12,6 +12,7 @@ use Rattle.kube_objects.specs.InForce.{watches}
 use Rattle.kube_objects.specs.Seen.{is_fresh, is_synced}
 use Rattle.kube_objects.specs.Tick.{add, cleaned, evicted, has_settled, sync, tainted}
 use Rattle.history_laws.proofs.Plainly.{false_is}
+use Rattle.history_laws.proofs.Ticks.{is_cleaning, is_heading, kept_sync}
 use Rattle.node_health.specs.Stands.{is_of_health}
 use Rattle.node_health.proofs.Frames.{SaysSame, says-same, says-then, unheard-kind}
 use Rattle.kube_objects.specs.Tokens.{is_full_by}
@@ -26,7 +27,7 @@ use Rattle.controller_core.specs.declared.pass.work.LastPass.{LastPass}
 use Rattle.term_state.specs.declared.told.Told.{Told}
 use Rattle.term_state.specs.MidTick.{IsTold}
 use Rattle.term_state.proofs.Telling.{told_beside}
-use Rattle.tick_laws.proofs.Phases.{KeepsLimits, cleaned_keeps, evicted_keeps, is_cleaning, is_heading, sync_keeps, tainted_keeps}
+use Rattle.tick_laws.proofs.Phases.{KeepsLimits, cleaned_keeps, evicted_keeps, tainted_keeps}
 use Rattle.tick_laws.proofs.Syncing.{sync_synced}
 
 -- ---- the health of nodes
@@ -46,7 +47,7 @@ heading_unheard t is = absurd (false_is is)
 
 module _ (doc : Doc) (k : ℕ) (q : Identity) (h : List Entry) where
   pub sync_says : SaysSame q h (sync doc k q h)
-  sync_says = sync_keeps doc k q (SaysSame q h) (λ g s. says_more q k h g Sync refl s) h (says-same q h)
+  sync_says = kept_sync doc k q (SaysSame q h) (λ g s. says_more q k h g Sync refl s) h (says-same q h)
 
   pub cleaned_says : SaysSame q h (cleaned doc k q h)
   cleaned_says = cleaned_keeps doc k q (SaysSame q h) (λ t g is made s. says_more q k h g t (cleaning_unheard t is) s) h (says-same q h)

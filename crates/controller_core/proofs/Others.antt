@@ -27,18 +27,20 @@ others_with doc q h e t at other settles s = record {
   cluster = same_aside q h (e ∷ h) no_node no_pod t.cluster (foreign_change q h e other) s.cluster;
   from = s.from;
   sights = settled_foreign doc.settings.rules.evict_from doc q h e no_pod t.cluster other s.sights;
-  allowance = allowance_foreign doc q h e t.allowance other s.allowance;
   reached = foreign_reached q h e other s.reached;
-  health = health-same doc q h (e ∷ h) t.health (others_health q h e other) s.health;
-  limits = limits_stand doc q h (e ∷ h) t.zones (foreign_limits q h e other) s.limits;
-  queues = heads_foreign doc q h e t.zones other s.queues;
-  held = held_stands q h (e ∷ h) t.held (foreign_limits q h e other).known s.held;
-  last = last_stands doc q h (e ∷ h) t.last (foreign_limits q h e other).passed ((foreign_limits q h e other).period doc) s.last;
-  range = s.range;
-  settles = settles;
-  settings = s.settings;
+  parts = record {
+    allowance = allowance_foreign doc q h e t.allowance other s.parts.allowance;
+    health = health-same doc q h (e ∷ h) t.health (others_health q h e other) s.parts.health;
+    limits = limits_stand doc q h (e ∷ h) t.zones (foreign_limits q h e other) s.parts.limits;
+    queues = heads_foreign doc q h e t.zones other s.parts.queues;
+    held = held_stands q h (e ∷ h) t.held (foreign_limits q h e other).known s.parts.held;
+    last = last_stands doc q h (e ∷ h) t.last (foreign_limits q h e other).passed ((foreign_limits q h e other).period doc) s.parts.last;
+    range = s.parts.range;
+    settles = settles;
+    settings = s.parts.settings;
+  };
 }
 
 -- nor its lead
 pub others_kept : (doc : Doc) (q : Identity) (h : List Entry) (e : Entry) (t : Term) → is_tick_by q e.actor e.fact ≡ false → lead_says q e.actor e.fact ≡ None → TermStands doc q h t → TermStands doc q (e ∷ h) t
-others_kept doc q h e t other unled s = others_with doc q h e t t.settles other (settles_beside doc q h e t.settles unled s.settles) s
+others_kept doc q h e t other unled s = others_with doc q h e t t.settles other (settles_beside doc q h e t.settles unled s.parts.settles) s

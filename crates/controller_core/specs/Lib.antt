@@ -6,7 +6,6 @@ pub mod Deleting
 pub mod FirstSync
 pub mod Heading
 pub mod HeadsStand
-pub mod Judging
 pub mod Left
 pub mod Looking
 pub mod Passing
@@ -15,6 +14,7 @@ pub mod QueuesStand
 pub mod Restamping
 pub mod Settling
 pub mod TermStands
+pub mod Trying
 pub mod Turning
 pub mod Verdicts
 pub mod Wakes

@@ -26,14 +26,10 @@ use Rattle.zone_counts.specs.Settings.{AreSettings}
 use Rattle.controller_core.specs.Turning.{headed}
 use Rattle.controller_core.specs.declared.term.Term.{Term}
 
--- one clause for each field, that the cluster has the document's rule and its rows, that the last pass was at a reading in range, and that stale
--- keys were written since the last sync; of the queues there is one by when nodes are judged
-pub record TermStands (doc : Doc) (q : Identity) (h : List Entry) (t : Term) : Type 0 where
-  pub cluster : ClusterStands q h t.cluster
-  pub from : t.cluster.evict_from ≡ doc.settings.rules.evict_from
-  pub sights : SettledBy doc.settings.rules.evict_from doc q h no_pod t.cluster
+-- what it keeps beside its cluster: one clause for each field, and that the last pass was at a reading in range; of the queues there is one by when nodes
+-- are judged
+pub record PartsStand (doc : Doc) (q : Identity) (h : List Entry) (t : Term) : Type 0 where
   pub allowance : AllowanceStands doc q h t.allowance
-  pub reached : AreReached q h
   pub health : HealthStands doc q h t.health
   pub limits : LimitsStand doc q h t.zones
   pub queues : HeadsStand doc q h t.zones
@@ -42,6 +38,14 @@ pub record TermStands (doc : Doc) (q : Identity) (h : List Entry) (t : Term) : T
   pub range : IsLastInRange t.last
   pub settles : SettlesStand doc q h t.settles
   pub settings : AreSettings doc t.settings
+
+-- the cluster has the document's rule and its rows, and stale keys were written since the last sync
+pub record TermStands (doc : Doc) (q : Identity) (h : List Entry) (t : Term) : Type 0 where
+  pub cluster : ClusterStands q h t.cluster
+  pub from : t.cluster.evict_from ≡ doc.settings.rules.evict_from
+  pub sights : SettledBy doc.settings.rules.evict_from doc q h no_pod t.cluster
+  pub reached : AreReached q h
+  pub parts : PartsStand doc q h t
 
 -- after a tick: the term and the store stand for the history with the tick, and the deeds are those that are printed for it
 pub record Ticked (doc : Doc) (k : ℕ) (q : Identity) (h : List Entry) (deeds : List Deed) (t : Term) (s : Store) : Type 0 where
@@ -69,15 +73,7 @@ pub record Begun (doc : Doc) (k : ℕ) (q : Identity) (before : List Deed) (h : 
 -- after the evictions
 pub record Acted (doc : Doc) (k : ℕ) (q : Identity) (before : List Deed) (h : List Entry) (t : Term) (s : Store) (o : Told) : Type 0 where
   pub running : Deleting doc q k before h no_pod t.cluster s o
-  pub allowance : AllowanceStands doc q h t.allowance
-  pub health : HealthStands doc q h t.health
-  pub limits : LimitsStand doc q h t.zones
-  pub queues : HeadsStand doc q h t.zones
-  pub held : HeldStand q h t.held
-  pub last : LastStands doc q h t.last
-  pub range : IsLastInRange t.last
-  pub settles : SettlesStand doc q h t.settles
-  pub settings : AreSettings doc t.settings
+  pub parts : PartsStand doc q h t
 
 -- at the end
 pub record Went (doc : Doc) (k : ℕ) (q : Identity) (before : List Deed) (h : List Entry) (t : Term) (s : Store) (o : Told) : Type 0 where

@@ -128,7 +128,8 @@ fn hold(held: &mut NumberList, found: Option<Found>)
     }
 }
 
-// Untaints, swaps and queued taints, by when nodes are judged.
+// Untaints, swaps and queued taints. If nodes are judged at passes alone, these are the judgement of a pass, with its pushes, untaints and swaps, and then the
+// heads of the queues.
 fn clean_and_taint<L>(
     settings: &TickSettings,
     found: &Option<Found>,
@@ -146,39 +147,17 @@ fn clean_and_taint<L>(
         × HaveCost q k (model.pass doc k q h) (headed doc k q h) (spent cluster.old steps.old) (spent cluster.new steps.new)) }
 {
     match settings.judge {
-        JudgeRule::Tick => taint_at_ticks(found, zones, cluster, store, view, told, steps),
-        JudgeRule::Pass => taint_by_passes(
-            found,
-            settings.queue,
-            zones,
-            cluster,
-            store,
-            view,
-            told,
-            steps,
-        ),
+        JudgeRule::Tick => {
+            clean_by_pass(found, cluster, store, view, told, steps)?;
+            settle(&mut zones.queues, cluster, view.beat)?;
+            taint(zones, cluster, store, view, told, steps)
+        }
+        JudgeRule::Pass => {
+            let queue = settings.queue;
+            judge_found(found, queue, zones, cluster, store, view, told, steps)?;
+            push_heads(zones, cluster, store, view, told, steps)
+        }
     }
-}
-
-// Where they are judged at each tick.
-fn taint_at_ticks<L>(
-    found: &Option<Found>,
-    zones: &mut Zones,
-    cluster: &mut Cluster,
-    store: &mut Store,
-    view: &View,
-    told: &mut Told,
-    steps: &mut Steps<L>,
-) -> Result<(), NoMemory>
-    requires { view.now.now.0 ≤ most_local }
-    ensures { (doc : Doc) (k : ℕ) (q : Identity) (before : List Deed) (h : List Entry) → doc.settings.rules.judge ≡ judges.Tick
-        → Looked doc k q before h found.now zones.old cluster.old store.old told.old → IsView doc k q (model.pass doc k q h) view.entry.now
-        → OnOk result (Headed doc k q before (headed doc k q h) zones.new cluster.new store.new told.new
-        × HaveCost q k (model.pass doc k q h) (headed doc k q h) (spent cluster.old steps.old) (spent cluster.new steps.new)) }
-{
-    clean_by_pass(found, cluster, store, view, told, steps)?;
-    settle(&mut zones.queues, cluster, view.beat)?;
-    taint(zones, cluster, store, view, told, steps)
 }
 
 // The untaints and swaps of a tick, which may have a pass.
@@ -201,28 +180,6 @@ fn clean_by_pass<L>(
         Some(found) => clean_found(found, cluster, store, view, told, steps),
         None => clean(cluster, store, view, told, steps),
     }
-}
-
-// Where they are judged at passes alone: the pushes of a pass, its untaints and swaps, and then the heads of the queues.
-fn taint_by_passes<L>(
-    found: &Option<Found>,
-    queue: QueueRule,
-    zones: &mut Zones,
-    cluster: &mut Cluster,
-    store: &mut Store,
-    view: &View,
-    told: &mut Told,
-    steps: &mut Steps<L>,
-) -> Result<(), NoMemory>
-    requires { view.now.now.0 ≤ most_local }
-    ensures { (doc : Doc) (k : ℕ) (q : Identity) (before : List Deed) (h : List Entry) → doc.settings.rules.judge ≡ judges.Pass
-        → queue ≡ doc.settings.rules.queue
-        → Looked doc k q before h found.now zones.old cluster.old store.old told.old → IsView doc k q (model.pass doc k q h) view.entry.now
-        → OnOk result (Headed doc k q before (headed doc k q h) zones.new cluster.new store.new told.new
-        × HaveCost q k (model.pass doc k q h) (headed doc k q h) (spent cluster.old steps.old) (spent cluster.new steps.new)) }
-{
-    judge_found(found, queue, zones, cluster, store, view, told, steps)?;
-    push_heads(zones, cluster, store, view, told, steps)
 }
 
 // The judgement of a pass, where the tick has one.

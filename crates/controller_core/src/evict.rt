@@ -1,5 +1,5 @@
 // The evictions of a tick: pods that are due are deleted.
-ghost use Rattle.std.specs.Prelude.{◌≡◌, ◌≤◌, ◌+◌, ◌==◌, ℕ, false, List, OnOk};
+ghost use Rattle.std.specs.Prelude.{◌≡◌, ◌≤◌, ◌+◌, ℕ, List, OnOk};
 ghost use Rattle.kube_base.specs.Bounds.{most_local};
 ghost use Rattle.kube_objects.specs.Document.{Doc};
 ghost use Rattle.kube_objects.specs.Entry.{Entry, Identity};
@@ -41,10 +41,21 @@ pub(crate) fn evict<L>(
         × HaveCost q k h (tick.evicted doc k q h) (spent cluster.old steps.old + 1) steps.new) }
 {
     cluster.settle_rows(view.wall, steps)?;
-    if allowance.is_limited() {
-        return evict_within(cluster, allowance, store, view, told, steps);
+    if !allowance.is_limited() {
+        return evict_all(cluster, store, view, told, steps);
     }
-    evict_all(cluster, store, view, told, steps)
+    // A delete that is lost takes no token and changes nothing, so none is made then.
+    if !view.passes {
+        return Ok(());
+    }
+    while allowance.is_there(view.now) {
+        let Some(pod) = cluster.next_due(view.wall, steps) else {
+            return Ok(());
+        };
+        allowance.take(view.now);
+        evict_one(cluster, store, view, told, steps, pod)?;
+    }
+    Ok(())
 }
 
 // Deletes each pod that is due, in the order of keys.
@@ -62,37 +73,6 @@ fn evict_all<L>(
 {
     let mut todo = cluster.take_due(view.wall, steps)?;
     while let Some(pod) = todo.pop_first() {
-        evict_one(cluster, store, view, told, steps, pod)?;
-    }
-    Ok(())
-}
-
-// Deletes the pods that are due first, while a token is there. A delete that is lost takes none and changes nothing, so none is made then.
-fn evict_within<L>(
-    cluster: &mut Cluster,
-    allowance: &mut Allowance,
-    store: &mut Store,
-    view: &View,
-    told: &mut Told,
-    steps: &mut Steps<L>,
-) -> Result<(), NoMemory>
-    requires limited { (allowance.old.burst == 0) ≡ false }
-    requires reading { view.now.now.0 ≤ most_local }
-    ensures { (doc : Doc) (k : ℕ) (q : Identity) (before : List Deed) (h : List Entry)
-        → 1 ≤ doc.settings.rules.evict_burst → AreInBeats h → AreUpTo k h → Deleting doc q k before h no_pod cluster.old store.old told.old
-        → IsView doc k q h view.entry.now → AllowanceStands doc q h allowance.old
-        → OnOk result (Deleting doc q k before (tick.evicted doc k q h) no_pod cluster.new store.new told.new
-        × AllowanceStands doc q (tick.evicted doc k q h) allowance.new
-        × HaveCost q k h (tick.evicted doc k q h) (steps.old + 1) steps.new) }
-{
-    if !view.passes {
-        return Ok(());
-    }
-    while allowance.is_there(view.now) {
-        let Some(pod) = cluster.next_due(view.wall, steps) else {
-            return Ok(());
-        };
-        allowance.take(view.now);
         evict_one(cluster, store, view, told, steps, pod)?;
     }
     Ok(())

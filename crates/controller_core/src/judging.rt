@@ -16,6 +16,7 @@ mod verdict;
 
 use crate::judging::attempt::judge_one;
 use crate::pass::found::Found;
+use crate::trying::write_if;
 use kube_base::{NoMemory, Steps};
 use kube_objects::QueueRule;
 use object_store::Store;
@@ -48,18 +49,8 @@ pub(crate) fn judge_all<L>(
         let Some((look, more)) = looks.split_first() else {
             return Ok(());
         };
-        judge_one(
-            *name,
-            *look,
-            found.turned,
-            rule,
-            pushes,
-            cluster,
-            store,
-            view,
-            told,
-            steps,
-        )?;
+        let tried = judge_one(*name, *look, found.turned, rule, pushes, cluster, view.wall)?;
+        write_if(cluster, store, view, told, steps, tried)?;
         rest = others;
         looks = more;
     }

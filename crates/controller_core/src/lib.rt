@@ -11,6 +11,8 @@ mod ready;
 mod sync;
 mod taint;
 mod term;
+mod trying;
 mod wakes;
 
+pub use pass::due::picoseconds;
 pub use term::Term;

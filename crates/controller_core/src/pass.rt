@@ -19,7 +19,7 @@ ghost use Rattle.controller_core.specs.Working.{pods_passed};
 ghost use Rattle.zone_counts.specs.Settings.{AreSettings};
 
 mod counting;
-mod due;
+pub(crate) mod due;
 pub(crate) mod found;
 mod looks;
 mod marking;
@@ -28,7 +28,7 @@ pub(crate) mod work;
 mod zones;
 
 use crate::pass::counting::count;
-use crate::pass::due::{is_due, of_millis};
+use crate::pass::due::{is_due, picoseconds};
 use crate::pass::found::{Found, looks_before, turns_on};
 use crate::pass::looks::look_all;
 use crate::pass::mode::set_mode;
@@ -43,9 +43,9 @@ use taint_zones::Zones;
 use term_state::{Cluster, Told, View};
 use zone_state::Policies;
 
-/// The pass of a tick over what the term sees, where one is due: nodes that were silent for longer than their grace are marked
+/// The pass of a tick over what the term sees, if one is due: nodes that were silent for longer than their grace are marked
 /// Unknown, the mode in which every zone is disrupted begins or ends, and the zones get their states and rates. The next one is due so
-/// much later as it takes to set the pods of marked nodes not ready. It counts a step for each of these pods, where that takes time.
+/// much later as it takes to set the pods of marked nodes not ready. It counts a step for each of these pods, if that takes time.
 pub(crate) fn pass<L>(
     alloc: Global,
     cluster: &mut Cluster,
@@ -83,8 +83,8 @@ pub(crate) fn pass<L>(
         return Ok(None);
     }
     let grace = Grace {
-        grace: of_millis(settings.grace_period_millis),
-        startup: of_millis(settings.startup_grace_millis),
+        grace: picoseconds(settings.grace_period_millis),
+        startup: picoseconds(settings.startup_grace_millis),
     };
     let names = cluster.nodes()?;
     let looks = looks_before(alloc, settings, &names, held, cluster)?;

@@ -94,7 +94,7 @@ impl Term {
     }
 
     /// The least reading at which a tick has a pass, or a queued taint of those who wait now: a period after the last pass and its
-    /// work, or where the token of a zone is there in which somebody waits; where that is no u64, the greatest one. None exactly where
+    /// work, or if the token of a zone is there in which somebody waits; if that is no u64, the greatest one. None exactly if
     /// there was no pass. At which beats it has come is told for readings of at most `most_local`.
     pub fn wake(&self) -> Option<Local>
         ensures none { (doc : Doc) (q : Identity) (h : List Entry) → TermStands doc q h self.now → IfNone result (last_pass q h ≡ None) }

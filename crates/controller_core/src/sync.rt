@@ -20,6 +20,7 @@ ghost use Rattle.term_state.specs.Sights.{SettledBy, SightedBy, spent};
 
 mod judge;
 
+use crate::pass::due::picoseconds;
 use crate::sync::judge::judge_changes;
 use kube_base::{Local, NoMemory, Steps};
 use kube_objects::Feed;
@@ -56,8 +57,7 @@ pub(crate) fn syncs_at_once(
     first_sync_millis == 0 && syncs(cluster, store, watch)
 }
 
-/// The reading from which a term may sync that leads from this one on; None where it waits for nothing.
-#[tactic(auto, unfolding(kube_objects::specs::Document::of_millis))]
+/// The reading from which a term may sync that leads from this one on; None if it waits for nothing.
 pub(crate) fn settles_after(now: Local, first_sync_millis: u32) -> Option<Local>
     requires { now.0 ≤ most_local }
     ensures { reading_of result ≡ cond (first_sync_millis == 0) None (Some (now.0 + of_millis first_sync_millis)) }
@@ -65,7 +65,7 @@ pub(crate) fn settles_after(now: Local, first_sync_millis: u32) -> Option<Local>
     if first_sync_millis == 0 {
         return None;
     }
-    Some(Local(now.0 + u64::from(first_sync_millis) * 1_000_000_000))
+    Some(Local(now.0 + picoseconds(first_sync_millis)))
 }
 
 // Whether a term may sync by now.
@@ -79,7 +79,7 @@ fn has_settled(settles: Option<Local>, now: Local) -> bool
     }
 }
 
-/// Brings what the term sees up to date, where it has settled, the watch is on and something was written.
+/// Brings what the term sees up to date, if it has settled, the watch is on and something was written.
 pub(crate) fn sync<L>(
     cluster: &mut Cluster,
     settles: Option<Local>,

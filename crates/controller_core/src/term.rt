@@ -76,7 +76,7 @@ impl Term {
         }
     }
 
-    /// Forgets what it has seen, as where another term begins.
+    /// Forgets what it has seen, as when another term begins.
     pub fn renew(&mut self)
         ensures { (doc : Doc) (q : Identity) (h : List Entry) → ticks q h ≡ 0 → leads q h ≡ false → AreSettings doc self.old.settings
             → TermStands doc q h self.new }
@@ -93,10 +93,10 @@ impl Term {
         self.settles = settles_after(now, self.settings.first_sync_millis);
     }
 
-    /// One tick of a term that leads: a sync, once it has settled, and after the first one a pass where it is due, untaints and swaps, queued
+    /// One tick of a term that leads: a sync, once it has settled, and after the first one a pass if it is due, untaints and swaps, queued
     /// taints, and evictions.
     /// Answers the printed deeds in order. It counts at most one step more than the cost of the tick, the pods that its pass sets not
-    /// ready, where that takes time, and twice those of nodes that its sync sees anew, where dues count from what is seen.
+    /// ready, if that takes time, and twice those of nodes that its sync sees anew, if dues count from what is seen.
     pub fn tick<L>(
         &mut self,
         acting: &Acting<'_>,

@@ -25,7 +25,7 @@ impl Term {
     ghost use Rattle.controller_core.specs.TermStands.{TermStands};
 
     /// The least due of the pods that aren't stale, in microseconds since 1970: of those whose node is seen, or of those that have a row; none
-    /// exactly where none is due ever.
+    /// exactly if none is due ever.
     pub fn least_due(&self) -> Option<u128>
         ensures there { (doc : Doc) (q : Identity) (h : List Entry) → TermStands doc q h self.now
             → IfSome result (λ at. (key : Key) × (term_due doc q key h ≡ At at)) }
@@ -37,7 +37,7 @@ impl Term {
         self.cluster.least_due()
     }
 
-    /// The reading from which on a tick may delete a pod that is due; none where none may any more.
+    /// The reading from which on a tick may delete a pod that is due; none if none may any more.
     pub fn delete_wake(&self) -> Option<Local>
         ensures { (doc : Doc) (q : Identity) (h : List Entry) → TermStands doc q h self.now → AreInBeats h
             → IsRoomReading doc q h (reading_of result) }
@@ -45,8 +45,8 @@ impl Term {
         self.allowance.ready_at()
     }
 
-    /// Whether a tick now would have a sync, an untaint or a swap, whatever the time: a sync only where a term settles at its lead, the others only
-    /// where nodes are judged at each tick.
+    /// Whether a tick now would have a sync, an untaint or a swap, whatever the time: a sync only if a term settles at its lead, the others only
+    /// if nodes are judged at each tick.
     pub fn at_once(&self, store: &Store, watch: bool) -> bool
         ensures quiet { (doc : Doc) (q : Identity) (h : List Entry) → TermStands doc q h self.now → StoreStands h store.now
             → watch ≡ watches doc q.process h → result ≡ false
@@ -64,7 +64,7 @@ impl Term {
         }
     }
 
-    /// The reading from which on a tick has a sync, where one is due and a term that leads takes time to settle. None where there is none.
+    /// The reading from which on a tick has a sync, if one is due and a term that leads takes time to settle. None if there is none.
     pub fn sync_wake(&self, store: &Store, watch: bool) -> Option<Local>
         ensures { (doc : Doc) (q : Identity) (h : List Entry) → TermStands doc q h self.now → StoreStands h store.now
             → watch ≡ watches doc q.process h → leads q h ≡ true

@@ -10,7 +10,7 @@ use Rattle.std.proofs.lemmas.List.{map-append}
 use Rattle.std.proofs.lemmas.Map.Text.{is_eq-slice_cmp}
 use Rattle.std.proofs.lemmas.Slice.Eq.{bytes_eq-Decides}
 use Rattle.serde_json.specs.Data.{Data, null, boolean, number, string, array, object, Items, no_items, item, Members, no_members, member}
-use Rattle.serde_json.specs.Find.{get, get_member, as_number, as_object, as_u64, as_i64}
+use Rattle.serde_json.specs.Find.{get, get_member, as_number, as_u64, as_i64}
 use Rattle.kube_base.specs.Names.{fixed_names}
 use Rattle.kube_objects.specs.Document.{own_waits_each}
 use Rattle.kube_objects.specs.Own.{ReleasesByStop, ElectsByOwn, EvictsByOwn, JudgesByOwn, SettlesAtOnce, PassesTakeNoWork, ProbesByRun, StartsEmpty, AreUnstalled}
@@ -35,7 +35,7 @@ use Rattle.manifest_json.specs.declared.fault.Refusal.{Refusal}
 use Rattle.manifest_json.specs.Faults.{◌>>=◌}
 use Rattle.manifest_json.specs.Fields.{Texts}
 use Rattle.manifest_json.specs.Walk.{member_path}
-use Rattle.manifest_laws.proofs.Getting.{Gets, Has, done, refused, by_test, and_then, skip, of_option}
+use Rattle.manifest_laws.proofs.Getting.{Gets, Has, done, refused, by_test, and_then, skip, of_option, weaker}
 use Rattle.script_reader.specs.declared.choice.Preset.{Preset}
 use Rattle.script_reader.specs.declared.choice.Preset.TheVariants as presets
 use Rattle.script_reader.specs.declared.document.Document.{Document}
@@ -48,35 +48,25 @@ use Rattle.script_reader.specs.declared.table.Version.{Version}
 use Rattle.script_reader.specs.declared.table.Version.TheVariants as versions
 use Rattle.script_reader.specs.Choices.{preset_at}
 use Rattle.script_reader.specs.Documents.{doc_of}
-use Rattle.script_reader.specs.Fields.{under, default_of, required, flag_at, policy_at, name_at, needed_flag, needed_posted, needed_text, needed_whole, object_at, array_in, not_empty}
+use Rattle.script_reader.specs.Fields.{under, default_of, required, flag_at, name_at, needed_flag, needed_posted, needed_text, needed_whole, object_at, array_in, not_empty}
 use Rattle.script_reader.specs.Limits.{scale_of, event_limit}
 use Rattle.script_reader.specs.Rules.{judging_at, rules_at}
-use Rattle.script_reader.specs.Tables.{is_four, is_from_three, is_key_of, all_known, known_in, knows_members}
-use Rattle.script_reader.specs.Walk.{object_in, beats_at, timings_at, standard, periods_at, rates_at, fast_renew_of, settings_of, settings_at, named_at, clock_at, timings_of, controller_of, if_controller, controller_at, controllers_from, controllers_in, kubelets_in, objects_at, numbers_of, cast_of, scope_of, version_of, version_or, version_in, is_number_four, says_four, document_at, document_walk}
+use Rattle.script_reader.specs.Tables.{is_four, is_from_three, is_key_of, all_known, known_in}
+use Rattle.script_reader.specs.Walk.{timings_at, settings_at, named_at, clock_at, timings_of, controller_of, if_controller, controller_at, controllers_from, controllers_in, kubelets_in, objects_at, numbers_of, cast_of, scope_of, version_of, version_or, version_in, is_number_four, says_four, document_at, document_walk}
 use Rattle.script_reader.specs.Walk.{Cast, controller_named, kubelet_named, process_named, process_at, rate_at, delay_at, loss_at, crash_at, start_at, stop_at, watch_at, ready_at, pause_at, object_under, put_at, kind_at, space_of, remove_at, beside, what_at, type_of, type_at, is_too_soon, edits_election, if_event, event_at, events_from, events_in, events_at}
 use Rattle.document_laws.proofs.FieldRanges.{of_default, of_required}
-use Rattle.document_laws.proofs.OwnRules.{itself, tainting-default, ending-default}
-use Rattle.document_laws.proofs.ProcessRanges.{sound-in}
-use Rattle.document_laws.proofs.Scales.{top-same}
+use Rattle.document_laws.proofs.OwnRules.{tainting-default, ending-default, settings-by}
+use Rattle.document_laws.proofs.Scales.{Knows, object-is, top-same}
 use Rattle.document_laws.specs.Laws.{EarlierGoByOwn}
 
 -- ---- unknown keys
 
--- the value has no key that its table doesn't have
-abbrev Knows : Table → Data → Type 0
-Knows table d = knows_members table (as_object d) ≡ true
-
-object-known : (table : Table) (path : List ℕ) (value : Data) → Gets (Knows table) (object_in table path value)
-unfolding object_in
-object-known table path value =
-    skip (object_at WRONG_TYPE path value) (λ d. by_test (knows_members table (as_object d)) _ _ (λ e. done d e) (λ e. refused _))
-
 -- a key that a table doesn't have: no value whose keys are all known has it
 module _ (table : Table) (key : List ℕ) (unknown : is_key_of table key ≡ false) where
-  member-unknown : (ms : Members) → all_known table ms ≡ true → get_member key ms ≡ None
+  member-unknown : (ms : Members) → all_known (is_key_of table) ms ≡ true → get_member key ms ≡ None
   member-unknown no_members known = refl
   member-unknown (member l e ms) known =
-      let parts = and_parts (is_key_of table l) (all_known table ms) known in
+      let parts = and_parts (is_key_of table l) (all_known (is_key_of table) ms) known in
       by (slice_cmp nat_cmp key l) (is_eq-slice_cmp key l) parts.0 (member-unknown ms parts.1)
     where
       by : (o : Ordering) → is_eq o ≡ bytes_eq key l → is_key_of table l ≡ true → get_member key ms ≡ None
@@ -302,37 +292,26 @@ never false four kind o e k = k
 -- a version before 4
 module _ (version : Version) (earlier : is_four version ≡ false) where
   settings-own : (path : List ℕ) (value : Data) → Gets (λ r. GoByOwn r.0.rules × (r.1 ≡ presets.Own)) (settings_at version path value)
-  unfolding settings_at
-  settings-own path value =
-      and_then (object-known (tables.Settings version) path value) (λ d known.
-      let absent : HaveNone d = record {
-        rules = get-unknown (tables.Settings version) (codes "rules") (rules-unknown version earlier) d known;
-        retries = get-unknown (tables.Settings version) (codes "retries") (retries-unknown version earlier) d known;
-        respect = get-unknown (tables.Settings version) (codes "respect") (respect-unknown version earlier) d known;
-        first_sync = get-unknown (tables.Settings version) (codes "firstSyncMillis") (first_sync-unknown version earlier) d known;
-        probe = get-unknown (tables.Settings version) (codes "probe") (probe-unknown version earlier) d known;
-        judge = get-unknown (tables.Settings version) (codes "judge") (judge-unknown version earlier) d known;
-        first_sight = get-unknown (tables.Settings version) (codes "firstSight") (first_sight-unknown version earlier) d known;
-        queue = get-unknown (tables.Settings version) (codes "queue") (queue-unknown version earlier) d known;
-        bucket = get-unknown (tables.Settings version) (codes "bucket") (bucket-unknown version earlier) d known;
-        evict_from = get-unknown (tables.Settings version) (codes "evictFrom") (evict_from-unknown version earlier) d known;
-        evict_burst = get-unknown (tables.Settings version) (codes "evictBurst") (evict_burst-unknown version earlier) d known;
-        evict_rate = get-unknown (tables.Settings version) (codes "evictRate") (evict_rate-unknown version earlier) d known;
-        release = get-unknown (tables.Settings version) (codes "release") (release-unknown version earlier) d known;
-        in_release = get-unknown (tables.Settings version) (codes "inRelease") (in_release-unknown version earlier) d known;
-        ready_millis = get-unknown (tables.Settings version) (codes "readyMillis") (ready_millis-unknown version earlier) d known;
-        ready_burst = get-unknown (tables.Settings version) (codes "readyBurst") (ready_burst-unknown version earlier) d known;
+  settings-own path value = settings-by (λ rules preset. GoByOwn rules × (preset ≡ presets.Own)) version path value (λ known.
+      let absent : HaveNone value = record {
+        rules = get-unknown (tables.Settings version) (codes "rules") (rules-unknown version earlier) value known;
+        retries = get-unknown (tables.Settings version) (codes "retries") (retries-unknown version earlier) value known;
+        respect = get-unknown (tables.Settings version) (codes "respect") (respect-unknown version earlier) value known;
+        first_sync = get-unknown (tables.Settings version) (codes "firstSyncMillis") (first_sync-unknown version earlier) value known;
+        probe = get-unknown (tables.Settings version) (codes "probe") (probe-unknown version earlier) value known;
+        judge = get-unknown (tables.Settings version) (codes "judge") (judge-unknown version earlier) value known;
+        first_sight = get-unknown (tables.Settings version) (codes "firstSight") (first_sight-unknown version earlier) value known;
+        queue = get-unknown (tables.Settings version) (codes "queue") (queue-unknown version earlier) value known;
+        bucket = get-unknown (tables.Settings version) (codes "bucket") (bucket-unknown version earlier) value known;
+        evict_from = get-unknown (tables.Settings version) (codes "evictFrom") (evict_from-unknown version earlier) value known;
+        evict_burst = get-unknown (tables.Settings version) (codes "evictBurst") (evict_burst-unknown version earlier) value known;
+        evict_rate = get-unknown (tables.Settings version) (codes "evictRate") (evict_rate-unknown version earlier) value known;
+        release = get-unknown (tables.Settings version) (codes "release") (release-unknown version earlier) value known;
+        in_release = get-unknown (tables.Settings version) (codes "inRelease") (in_release-unknown version earlier) value known;
+        ready_millis = get-unknown (tables.Settings version) (codes "readyMillis") (ready_millis-unknown version earlier) value known;
+        ready_burst = get-unknown (tables.Settings version) (codes "readyBurst") (ready_burst-unknown version earlier) value known;
       } in
-      skip (beats_at path d) (λ beats.
-      skip (timings_at standard path d) (λ timings.
-      skip (periods_at path d) (λ periods.
-      skip (rates_at path d) (λ rates.
-      skip (flag_at false path (codes "fastRenew") d) (λ fast.
-      skip (policy_at path (codes "ratePolicy") d) (λ policy.
-      rw (preset-own path d absent)
-      (and_then (itself (rules_at presets.Own path d)) (λ rules given.
-      and_then (sound-in path timings rates (settings_of beats timings periods rates (fast_renew_of fast presets.Own (get (codes "fastRenew") d)) policy rules)) (λ s parts.
-      done (s, presets.Own) (rw parts.3 ((rules-own path d absent).at rules given), refl)))))))))))
+      rw (preset-own path value absent) (done presets.Own (weaker (rules-own path value absent) (λ rules goes. (goes, refl)))))
 
   -- ---- controllers
 
@@ -340,8 +319,8 @@ module _ (version : Version) (earlier : is_four version ≡ false) where
       → Gets (λ r. r.0.1 ≡ own_waits) (controller_at version settings presets.Own names path before value)
   unfolding controller_at
   controller-own settings names path before value =
-      and_then (object-known (tables.Controller version) path value) (λ d known.
-      let none = get-unknown (tables.Controller version) (codes "waits") (waits-unknown version earlier) d known in
+      and_then (object-is (tables.Controller version) path value) (λ d known.
+      let none = get-unknown (tables.Controller version) (codes "waits") (waits-unknown version earlier) d known.1 in
       skip (named_at names path (codes "name") d) (λ name.
       skip (clock_at path d) (λ clock.
       skip (flag_at true path (codes "watch") d) (λ watch.

@@ -1,7 +1,7 @@
 -- The Pods of sets are those that the sets say.
 use Rattle.std.proofs.Common.{◌≡◌, ℕ, zero, suc, ◌+◌, nat_le, nat_lt, ◌&&◌, List, [], ◌∷◌, ◌++◌, length, replicate, codes, Option, Some, None, option_and_then, unwrap_or, Result, Ok, ℤ, refl, sym, ap, subst, ◌∙◌, append_assoc}
 use Rattle.std.proofs.lemmas.List.{append-nil}
-use Rattle.serde_json.specs.Data.{Data, Items, Members, no_items, item}
+use Rattle.serde_json.specs.Data.{Data, Items, no_items, item}
 use Rattle.serde_json.specs.Find.{get, as_array, as_number, as_object, as_str, as_u64, as_i64}
 use Rattle.kube_objects.specs.declared.key.Key.{Key}
 use Rattle.kube_objects.specs.declared.key.Kind.TheVariants as kinds
@@ -18,9 +18,10 @@ use Rattle.manifest_laws.proofs.ReadItems.{alike-reads}
 use Rattle.script_reader.specs.declared.parts.Share.{Share}
 use Rattle.script_reader.specs.declared.table.Table.{Table}
 use Rattle.script_reader.specs.declared.table.Table.TheVariants as tables
-use Rattle.script_reader.specs.Fields.{under, default_of, required, whole_or, needed_whole, text_in, if_name, needed_name, name_at, array_in, not_empty, object_or}
+use Rattle.script_reader.specs.Fields.{under, default_of, required, whole_or, needed_whole, text_in, if_name, needed_name, name_at, array_in, not_empty}
 use Rattle.script_reader.specs.Sets.{Alike, share_at, shares_from, shares_in, shares_at, set_name_at, nodes_of, pods_of, if_short, pod_name, pod_of, pod_onto, pods_onto, if_room, set_at, sets_from, sets_in}
-use Rattle.script_reader.specs.Tables.{known_in, knows_members}
+use Rattle.script_reader.specs.Tables.{is_key_of, known_in, knows_members}
+use Rattle.document_laws.proofs.Scales.{object-same}
 use Rattle.document_laws.specs.WrittenOut.{some_text, some_number, some_items, Said, nodes_said, pods_said, set_said, sets_said, IsText, AreBorne, IsPod, ArePods}
 
 -- ---- texts and numbers under a key
@@ -73,13 +74,9 @@ not_empty-same : (path : List ℕ) (xs : Items) → Gets (λ ys. ys ≡ xs) (not
 not_empty-same path no_items = refused _
 not_empty-same path (item d rest) = done _ refl
 
--- an object with no unknown key is the value itself
-object-same : (path : List ℕ) (value : Data) (ms : Option Members) → Gets (λ d. d ≡ value) (object_or WRONG_TYPE path value ms)
-object-same path value None = refused _
-object-same path value (Some ms) = done value refl
-
+-- a value with no unknown key is itself
 known-same : (table : Table) (path : List ℕ) (d : Data) → Gets (λ k. k ≡ d) (known_in table path d)
-known-same table path d = by_test (knows_members table (as_object d)) _ _ (λ _. done d refl) (λ _. refused _)
+known-same table path d = by_test (knows_members (is_key_of table) (as_object d)) _ _ (λ _. done d refl) (λ _. refused _)
 
 -- what a walk gets, and that it gives it
 told : {A : Type 0} {P : A → Type 0} (walk : Result A Refusal) → Gets P walk → Gets (λ x. P x × (walk ≡ Ok x)) walk
@@ -106,7 +103,7 @@ share-grows g d s h = record { node = text-grows g _ s.node h.node; pods = h.pod
 share-said : (names : Texts) (path : List ℕ) (value : Data) → Reads names (λ ns s. IsShare ns value s) (share_at names path value)
 unfolding share_at
 share-said names path value =
-    and_then (object-same path value (as_object value)) (λ d same.
+    and_then (object-same WRONG_TYPE path value (as_object value)) (λ d same.
     and_then (known-same tables.Share path d) (λ known is.
     let here = is ∙ same in
     and_then (needed-said path (codes "node") known) (λ text said.
@@ -275,7 +272,7 @@ module _ (scale : Scale) where
       → Reads names (λ ns all. AddsPods ns items (set_said value) all) (set_at scale names path items value)
   unfolding set_at
   set-said names path items value =
-      and_then (object-same path value (as_object value)) (λ d same.
+      and_then (object-same WRONG_TYPE path value (as_object value)) (λ d same.
       and_then (known-same tables.PodSet path d) (λ keys is.
       let here = is ∙ same in
       and_then (name-said (codes "default") path (codes "namespace") keys) (λ text in_space.

@@ -1,30 +1,25 @@
 -- A document whose settings say nothing of releases, and whose rules aren't those of 1.36, has releases at stops alone: of a key that is missing the
 -- choice is the preset's.
-use Rattle.std.proofs.Common.{◌≡◌, ℕ, false, codes, List, [], Option, Some, None, Ok, refl, sym, ap, subst, ◌∙◌}
+use Rattle.std.proofs.Common.{◌≡◌, ℕ, codes, List, [], Option, Some, None, Ok, refl, sym, ap, subst, ◌∙◌}
 use Rattle.serde_json.specs.Data.{Data}
-use Rattle.serde_json.specs.Find.{get, as_object}
+use Rattle.serde_json.specs.Find.{get}
 use Rattle.kube_base.specs.Names.{fixed_names}
 use Rattle.kube_objects.specs.Own.{ReleasesByStop}
 use Rattle.kube_objects.specs.declared.rules.ReleaseActing.TheVariants.{Still}
 use Rattle.kube_objects.specs.declared.rules.ReleaseRule.TheVariants.{Stop}
 use Rattle.kube_objects.specs.declared.rules.Rules.{Rules}
-use Rattle.manifest_json.specs.declared.codes.TheConstants.{WRONG_TYPE}
 use Rattle.manifest_json.specs.Faults.{◌>>=◌}
-use Rattle.manifest_laws.proofs.Getting.{Gets, done, refused, by_test, and_then, skip}
+use Rattle.manifest_laws.proofs.Getting.{Gets, done, and_then, skip}
 use Rattle.script_reader.specs.declared.choice.Preset.{Preset}
 use Rattle.script_reader.specs.declared.choice.Preset.TheVariants as presets
-use Rattle.script_reader.specs.declared.table.Table.{Table}
-use Rattle.script_reader.specs.declared.table.Table.TheVariants as tables
 use Rattle.script_reader.specs.declared.table.Version.{Version}
 use Rattle.script_reader.specs.Choices.{choice_at, preset_at, retries_of, respect_of, probe_of, judge_of, first_sight_of, queue_of, bucket_of, evict_from_of}
 use Rattle.script_reader.specs.Documents.{doc_of}
-use Rattle.script_reader.specs.Fields.{default_of, required, flag_at, policy_at, whole_at}
+use Rattle.script_reader.specs.Fields.{default_of, required, whole_at}
 use Rattle.script_reader.specs.Rules.{rules_of, judging_at, tainting_at, ending_at, rules_at}
-use Rattle.script_reader.specs.Tables.{knows_members}
-use Rattle.script_reader.specs.Walk.{object_in, beats_at, timings_at, standard, periods_at, rates_at, fast_renew_of, settings_of, settings_at, controllers_in, kubelets_in, objects_at, numbers_of, cast_of, scope_of, version_in, document_at, document_walk, events_at}
-use Rattle.document_laws.proofs.OwnRules.{itself}
-use Rattle.document_laws.proofs.ProcessRanges.{sound-in}
-use Rattle.document_laws.proofs.Scales.{object-same, top-same}
+use Rattle.script_reader.specs.Walk.{settings_at, controllers_in, kubelets_in, objects_at, numbers_of, cast_of, scope_of, version_in, document_at, document_walk, events_at}
+use Rattle.document_laws.proofs.OwnRules.{settings-by}
+use Rattle.document_laws.proofs.Scales.{top-same}
 use Rattle.document_laws.specs.Laws.{UnsaidReleasesAreByStop}
 
 -- ---- rules
@@ -76,28 +71,11 @@ rules-stop preset path d silent other =
 
 -- ---- settings
 
-object-is : (table : Table) (path : List ℕ) (value : Data) → Gets (λ d. d ≡ value) (object_in table path value)
-unfolding object_in
-object-is table path value =
-    and_then (object-same WRONG_TYPE path value (as_object value)) (λ d same.
-    by_test (knows_members table (as_object d)) _ _ (λ _. done d same) (λ _. refused _))
-
 settings-stop : (version : Version) (path : List ℕ) (value : Data) → AreSilent value → ¬ (preset_at path value ≡ Ok presets.Upstream136)
     → Gets (λ r. AreByStop r.0.rules) (settings_at version path value)
-unfolding settings_at
-settings-stop version path value silent other =
-    and_then (object-is (tables.Settings version) path value) (λ d same.
-    let silent_here : AreSilent d = record { release = ap (get (codes "release")) same ∙ silent.release; in_release = ap (get (codes "inRelease")) same ∙ silent.in_release } in
-    skip (beats_at path d) (λ beats.
-    skip (timings_at standard path d) (λ timings.
-    skip (periods_at path d) (λ periods.
-    skip (rates_at path d) (λ rates.
-    skip (flag_at false path (codes "fastRenew") d) (λ fast.
-    skip (policy_at path (codes "ratePolicy") d) (λ policy.
-    and_then (itself (preset_at path d)) (λ preset given.
-    and_then (rules-stop preset path d silent_here (λ is. other (ap (preset_at path) (sym same) ∙ given ∙ ap Ok is))) (λ rules stops.
-    and_then (sound-in path timings rates (settings_of beats timings periods rates (fast_renew_of fast preset (get (codes "fastRenew") d)) policy rules)) (λ s parts.
-    done (s, preset) (rw parts.3 stops)))))))))))
+settings-stop version path value silent other = settings-by (λ rules preset. AreByStop rules) version path value (λ known. record {
+  at = λ preset given. rules-stop preset path value silent (λ is. other (given ∙ ap Ok is));
+})
 
 -- ---- the document
 

@@ -1,7 +1,7 @@
 -- The derived order of a map's keys, which are a number and a key, is the one that the definitions name.
-use Rattle.std.proofs.Common.{◌≡◌, ℕ, ◌≤◌, Bool, true, false, cond, not, ◌&&◌, ◌||◌, ◌==◌, Some, None, refl, ap, sym, ◌∙◌, subst, arith, Less, Equal, Greater}
+use Rattle.std.proofs.Common.{◌≡◌, ℕ, ◌≤◌, Bool, true, false, cond, Some, None, refl, ap, sym, ◌∙◌, subst, arith, Less, Equal, Greater}
 use Rattle.std.proofs.lemmas.Bool.Decides.{nat_tests}
-use Rattle.std.specs.Ordering.{nat_cmp, ordering_then, is_eq, is_gt}
+use Rattle.std.specs.Ordering.{nat_cmp, ordering_then, is_gt}
 use Rattle.std.specs.declared.cmp.Ordering.{Ordering}
 use Rattle.std.specs.BTreeSet as set
 use Rattle.std.specs.BTreeSet.{BTreeSet}
@@ -14,47 +14,8 @@ use Rattle.kube_objects.specs.Keys.{key_cmp, key_eq}
 use Rattle.kube_objects.proofs.KeyOrder.{key_itself, key_order, same_key}
 use Rattle.key_map.specs.Values.{value_at}
 use Rattle.key_map.specs.declared.map.KeyMap.{KeyMap}
-use Rattle.evict_queue.specs.Order.{timed_cmp, is_entry}
-
--- by number and then by an order of keys
-abbrev pub pairs_by : (Key → Key → Ordering) → ℕ × Key → ℕ × Key → Ordering
-pairs_by cmp a b = ordering_then (nat_cmp a.0 b.0) (cmp a.1 b.1)
-
-then_eq : (o p : Ordering) → is_eq (ordering_then o p) ≡ (is_eq o && is_eq p)
-then_eq Less p = refl
-then_eq Equal p = refl
-then_eq Greater p = refl
-
-nat_cmp_eq : (a b : ℕ) → is_eq (nat_cmp a b) ≡ (a == b)
-nat_cmp_eq a b = grind (arith, nat_tests)
-
--- the order doesn't tell an entry from itself alone
-pub entry_eq : (due : ℕ) (key : Key) (d : ℕ) (k : Key) → is_eq (timed_cmp (due, key) (d, k)) ≡ is_entry due key d k
-entry_eq due key d k = then_eq (nat_cmp due d) (key_cmp key k) ∙ ap (λ b. b && key_eq key k) (nat_cmp_eq due d)
-
-cond_or : (b c : Bool) → cond b true c ≡ (b || c)
-cond_or true c = refl
-cond_or false c = refl
-
-cond_and : (b c : Bool) → cond b false c ≡ (not b && c)
-cond_and true c = refl
-cond_and false c = refl
-
--- an entry was added to the ordered map
-pub added : (m n : BTreeSet (ℕ × Key)) (due : ℕ) (key : Key) → set.Updates (pairs_by (key_ord.cmp-value).it) m n (due, key) true
-    → (d : ℕ) (k : Key) → set.contains timed_cmp n (d, k) ≡ (is_entry due key d k || set.contains timed_cmp m (d, k))
-added m n due key u d k =
-    (subst (λ cmp. set.Updates (pairs_by cmp) m n (due, key) true) key_order u).0 (d, k)
-    ∙ cond_or (is_eq (timed_cmp (due, key) (d, k))) (set.contains timed_cmp m (d, k))
-    ∙ ap (λ b. b || set.contains timed_cmp m (d, k)) (entry_eq due key d k)
-
--- an entry was taken out of it
-pub taken : (m n : BTreeSet (ℕ × Key)) (due : ℕ) (key : Key) → set.Updates (pairs_by (key_ord.cmp-value).it) m n (due, key) false
-    → (d : ℕ) (k : Key) → set.contains timed_cmp n (d, k) ≡ (not (is_entry due key d k) && set.contains timed_cmp m (d, k))
-taken m n due key u d k =
-    (subst (λ cmp. set.Updates (pairs_by cmp) m n (due, key) false) key_order u).0 (d, k)
-    ∙ cond_and (is_eq (timed_cmp (due, key) (d, k))) (set.contains timed_cmp m (d, k))
-    ∙ ap (λ b. not b && set.contains timed_cmp m (d, k)) (entry_eq due key d k)
+use Rattle.key_map.proofs.Pairs.{pairs_by}
+use Rattle.evict_queue.specs.Order.{timed_cmp}
 
 -- no entry is below the first
 pub none_below : (m : BTreeSet (ℕ × Key)) (p : ℕ × Key) → set.IsLowerBound (pairs_by (key_ord.cmp-value).it) m p

@@ -62,7 +62,7 @@ impl Dues {
         }
     }
 
-    /// Sets the due of a pod for which there is room, and answers the due before.
+    /// Sets the due of a pod for which there is room, and returns the due before.
     pub(crate) fn put(&mut self, key: Key, due: Due) -> Due
         requires { IsSome (room_of self.old key) }
         ensures due { result ≡ due_of self.old key }

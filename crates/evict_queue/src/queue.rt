@@ -38,7 +38,7 @@ impl EvictQueue {
         }
     }
 
-    /// Replaces the pod's due. Where memory is wanting no due changes.
+    /// Replaces the pod's due. If memory runs out no due changes.
     pub fn set(&mut self, pod: Key, due: Due) -> Result<(), NoMemory>
         ensures ok { OnOk result ((key : Key) → due_in self.new key ≡ (if key_eq pod key then due else due_in self.old key)) }
         ensures err { OnErr result ((key : Key) → due_in self.new key ≡ due_in self.old key) }
@@ -63,8 +63,8 @@ impl EvictQueue {
         change(&mut self.dues, &mut self.timed, list.as_slice())
     }
 
-    /// Takes out the pod with the least due time, and of equal ones the least key, where that time is at most `now`;
-    /// none exactly where no due time is. It takes one step where any pod has a due time, and no memory.
+    /// Takes out the pod with the least due time, and of equal ones the least key, if that time is at most `now`;
+    /// none exactly if no due time is. It takes one step if any pod has a due time, and no memory.
     pub fn next_due<L>(&mut self, now: u128, steps: &mut Steps<L>) -> Option<Key>
         ensures due { IfSome result (λ pod. (time : ℕ) × (due_in self.old pod ≡ At time) × (time ≤ now)) }
         ensures first { IfSome result (λ pod. (time other : ℕ) (key : Key)
@@ -87,7 +87,7 @@ impl EvictQueue {
         }
     }
 
-    /// The least due time; none exactly where no pod has one. It takes no memory and shows no pod.
+    /// The least due time; none exactly if no pod has one. It takes no memory and shows no pod.
     pub fn least(&self) -> Option<u128>
         ensures there { IfSome result (λ time. (key : Key) × (due_in self.now key ≡ At time)) }
         ensures least { IfSome result (λ time. (other : ℕ) (key : Key) → due_in self.now key ≡ At other → time ≤ other) }

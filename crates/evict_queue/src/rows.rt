@@ -48,7 +48,7 @@ impl Rows {
         self.map.get(pod).copied()
     }
 
-    /// The pod has this row from now on, or none. Where memory is wanting no row changes.
+    /// The pod has this row from now on, or none. If memory runs out no row changes.
     pub fn set(&mut self, pod: Key, row: Option<Row>) -> Result<(), NoMemory>
         ensures ok { OnOk result ((key : Key) → row_in self.new key ≡ (if key_eq pod key then row else row_in self.old key)) }
         ensures err { OnErr result ((key : Key) → row_in self.new key ≡ row_in self.old key) }
@@ -84,7 +84,7 @@ fn goes_on(row: Option<Row>, going: Going, due: u128) -> Option<Row>
 }
 
 /// The row of a pod after a tick, by its row before it and by what is seen at the tick's end of how long it bears its node's taints; none
-/// where its node isn't seen, which leaves the row as it is. A new one is counted from the tick's time of day.
+/// if its node isn't seen, which leaves the row as it is. A new one is counted from the tick's time of day.
 pub fn next_row(row: Option<Row>, sight: Option<Bears>, wall: Wall) -> Option<Row>
     requires { IsInReach sight }
     ensures { result ≡ next_row row sight wall.0 }

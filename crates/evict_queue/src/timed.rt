@@ -37,14 +37,14 @@ impl Timed {
         Ok(())
     }
 
-    /// Takes a pod at a due time out, where it is there.
+    /// Takes a pod at a due time out, if it is there.
     pub(crate) fn remove(&mut self, due: u128, key: Key)
         ensures { (d : ℕ) (k : Key) → has_entry self.new d k ≡ (not (is_entry due key d k) && has_entry self.old d k) }
     {
         let _ = self.set.remove(&(due, key));
     }
 
-    /// The first pod with its due time. It is the one call that shows an entry, and counts one step where it does.
+    /// The first pod with its due time. It is the one call that shows an entry, and counts one step if it does.
     pub(crate) fn first<L>(&self, steps: &mut Steps<L>) -> Option<(u128, Key)>
         ensures there { IfSome result (λ p. has_entry self.now p.0 p.1 ≡ true) }
         ensures first { IfSome result (λ p. (d : ℕ) (k : Key) → has_entry self.now d k ≡ true → is_gt (timed_cmp p (d, k)) ≡ false) }

@@ -30,16 +30,18 @@ use Rattle.kube_objects.specs.Newest.{newest, when, only_if, join, has, or_else}
 use Rattle.kube_objects.specs.Seen.{pod_in, seen, seen_node, seen_pod, is_accepted, fresh_says, is_fresh, synced_says, is_synced, is_refused, stale_tick, stale_says, is_stale, is_pod, pod_keys}
 use Rattle.kube_objects.specs.Sightings.{sighted_due}
 use Rattle.kube_objects.specs.Stored.{Held, node_key, holds, tick_write, write_of, last_write, stored, next_version}
-use Rattle.kube_objects.specs.Tick.{add, for_each, has_settled, sync, pass, cleaned, tainted, evict_due, evict_on, evict_seen, evict_sighted, evict_by, evict, evict_within, evicted, tick, add_delete, phases, due_on_seen, due_seen, due_by, insert_due, and_due, dues, has_room}
+use Rattle.kube_objects.specs.Tick.{add, for_each, has_settled, sync, pass, cleaned, tainted, evict_due, evict_on, evict_seen, evict_sighted, evict_by, evict, evict_within, evicted, tick, add_delete, phases, due_on_seen, due_seen, due_by, dues, has_room}
 use Rattle.kube_objects.specs.Tolerations.{due}
 use Rattle.kube_objects.specs.Tries.{as_answer, try_delete, try_delete_alone}
 use Rattle.kube_objects.specs.Wire.{loses_requests}
 use Rattle.history.specs.Evictions.{stored_node, stored_pod, due_on, due_of, pod_due, due_where, stored_due, IsDue, NoneDue, NoneDueWithin}
+use Rattle.kube_objects.proofs.KeyOrder.{key_itself}
+use Rattle.history_laws.specs.Tails.{Among}
+use Rattle.history_laws.proofs.Named.{named_pod}
 use Rattle.history_laws.proofs.Plainly.{upper, none_is, false_is, true_is, same_self, same_is}
 use Rattle.history_laws.proofs.Sightings.{sighted_same}
-use Rattle.history_laws.proofs.Ticks.{IsTry, IsDelete, IsSightedDelete, IsDeleteBy, HasRoom, MadeTick, IsPodKey, pods_only, dues_only, Each, evict_step, walk_pass, walk_cleaned, walk_tainted}
+use Rattle.history_laws.proofs.Ticks.{IsTry, IsDelete, IsSightedDelete, IsDeleteBy, HasRoom, MadeTick, IsPodKey, pods_of_dues, pods_only, dues_only, Each, evict_step, walk_pass, walk_cleaned, walk_tainted}
 use Rattle.history_laws.proofs.Walk.{Made}
-use Rattle.eviction_laws.proofs.KeyNames.{key_self, InKeys, named_pod}
 use Rattle.eviction_laws.proofs.Cache.{Mirrors, mirrors_sync, mirrors_more, unfresh, fresh, fresh_synced}
 use Rattle.eviction_laws.proofs.Early.{versioned_is}
 
@@ -222,7 +224,7 @@ delete_keeps now pod k q other given node_given at a h kind old = by_answer a
 -- an accepted delete leaves no pod
 delete_clears : (now : ℕ) (pod : Key) (k : ℕ) (q : Identity) (given node_given : Version) (at : ℕ) (v : Version) (h : List Entry) → Clear now pod (add k q (Delete pod given node_given at (Some (answer.Done v))) h)
 delete_clears now pod k q given node_given at v h =
-    subst (λ b. IsDue now (due_of (as_kind pod_in (join (upper (holds h k (actor_of q) (when b None)) (last_write pod h)))) (add k q (Delete pod given node_given at (Some (answer.Done v))) h)) → ⊥) (sym (key_self pod)) (λ d. d)
+    subst (λ b. IsDue now (due_of (as_kind pod_in (join (upper (holds h k (actor_of q) (when b None)) (last_write pod h)))) (add k q (Delete pod given node_given at (Some (answer.Done v))) h)) → ⊥) (sym (key_itself pod)) (λ d. d)
 
 -- ---- what the term has seen of a pod
 
@@ -248,7 +250,7 @@ sighted_keeps doc now pod k q other given node_given at a h kind old = by_answer
 sighted_clears : (doc : Doc) (now : ℕ) (pod : Key) (k : ℕ) (q : Identity) (given node_given : Version) (at : ℕ) (v : Version) (h : List Entry) → ClearSighted doc q now pod (add k q (Delete pod given node_given at (Some (answer.Done v))) h)
 sighted_clears doc now pod k q given node_given at v h =
     let g = add k q (Delete pod given node_given at (Some (answer.Done v))) h in
-    subst (λ b. IsDue now (due_where (as_kind pod_in (join (upper (holds h k (actor_of q) (when b None)) (last_write pod h)))) (sighted_due doc q pod g)) → ⊥) (sym (key_self pod)) (λ d. d)
+    subst (λ b. IsDue now (due_where (as_kind pod_in (join (upper (holds h k (actor_of q) (when b None)) (last_write pod h)))) (sighted_due doc q pod g)) → ⊥) (sym (key_itself pod)) (λ d. d)
 
 abbrev ClearBy : EvictRule → Doc → Identity → ℕ → Key → List Entry → Type 0
 ClearBy rule doc q now pod h = IsDue now (stored_due rule doc q pod h) → ⊥
@@ -386,7 +388,7 @@ module _ (doc : Doc) (k : ℕ) (q : Identity) where
   evict_all_keeps pod [] h kinds old = old
   evict_all_keeps pod (x ∷ xs) h kinds old = evict_all_keeps pod xs (evict doc k q x h) kinds.1 (evict_keeps pod x h kinds.0 old)
 
-  evict_all : ((g : List Entry) → HasRoom doc k q g) → (pod : Key) (keys : List Key) (h : List Entry) → Each IsPodKey keys → Fine q h → InKeys pod keys → Timely pod (for_each (evict doc k q) keys h)
+  evict_all : ((g : List Entry) → HasRoom doc k q g) → (pod : Key) (keys : List Key) (h : List Entry) → Each IsPodKey keys → Fine q h → Among pod keys → Timely pod (for_each (evict doc k q) keys h)
   evict_all room pod [] h kinds s at = absurd at
   evict_all room pod (x ∷ xs) h kinds s (inl is) = evict_all_keeps pod xs (evict doc k q x h) kinds.1 (subst (λ x. Timely pod (evict doc k q x h)) is (evict_clears pod h s))
   evict_all room pod (x ∷ xs) h kinds s (inr at) = evict_all room pod xs (evict doc k q x h) kinds.1 (evict_fine x h kinds.0 (room h) s) at
@@ -410,38 +412,6 @@ module _ (doc : Doc) (k : ℕ) (q : Identity) where
 
   abbrev IsPodDue : ℕ × Key → Type 0
   IsPodDue x = IsPodKey x.1
-
-  abbrev InDues : Key → List (ℕ × Key) → Type 0
-  InDues pod [] = ⊥
-  InDues pod (x ∷ xs) = (pod ≡ x.1) ⊎ InDues pod xs
-
-  insert_in : (at : ℕ) (pod : Key) (xs : List (ℕ × Key)) → InDues pod (insert_due at pod xs)
-  insert_in at pod [] = inl refl
-  insert_in at pod (x ∷ xs) = by_order (insert_in at pod xs) (nat_le at x.0)
-    where
-      by_order : InDues pod (insert_due at pod xs) → (b : Bool) → InDues pod (elim b [ true ↦ (at, pod) ∷ x ∷ xs | false ↦ x ∷ insert_due at pod xs ])
-      by_order later true = inl refl
-      by_order later false = inr later
-
-  insert_keeps : (at : ℕ) (pod other : Key) (xs : List (ℕ × Key)) → InDues other xs → InDues other (insert_due at pod xs)
-  insert_keeps at pod other [] mine = absurd mine
-  insert_keeps at pod other (x ∷ xs) mine = by_order (insert_keeps at pod other xs) (nat_le at x.0) mine
-    where
-      by_order : (InDues other xs → InDues other (insert_due at pod xs)) → (b : Bool) → (other ≡ x.1) ⊎ InDues other xs → InDues other (elim b [ true ↦ (at, pod) ∷ x ∷ xs | false ↦ x ∷ insert_due at pod xs ])
-      by_order later true mine = inr mine
-      by_order later false (inl is) = inl is
-      by_order later false (inr mine) = inr (later mine)
-
-  due_in_dues : (pod : Key) (at : ℕ) (keys : List Key) (h : List Entry) → due_by doc.settings.rules.evict_from doc q pod h ≡ At at → InKeys pod keys → InDues pod (dues doc q keys h)
-  due_in_dues pod at [] h due mine = absurd mine
-  due_in_dues pod at (x ∷ xs) h due (inl is) =
-      subst (λ x. InDues pod (and_due x (due_by doc.settings.rules.evict_from doc q x h) (dues doc q xs h))) is
-      (subst (λ d. InDues pod (and_due pod d (dues doc q xs h))) (sym due) (insert_in at pod (dues doc q xs h)))
-  due_in_dues pod at (x ∷ xs) h due (inr mine) = by_due (due_in_dues pod at xs h due mine) (due_by doc.settings.rules.evict_from doc q x h)
-    where
-      by_due : InDues pod (dues doc q xs h) → (d : Due) → InDues pod (and_due x d (dues doc q xs h))
-      by_due later Never = later
-      by_due later (At other) = insert_keeps other x pod (dues doc q xs h) later
 
   -- a pod that is due never as it is seen isn't due as it is stored
   never_due : (pod : Key) (h : List Entry) → Fine q h → due_by doc.settings.rules.evict_from doc q pod h ≡ Never → Timely pod h
@@ -499,13 +469,13 @@ module _ (doc : Doc) (k : ℕ) (q : Identity) where
   within_clears : (x : ℕ × Key) (h : List Entry) → Fine q h → has_room doc q k 0 h ≡ true → Timely x.1 (evict_within doc k q x h)
   within_clears x h s room = subst (λ b. Timely x.1 (if b then evict doc k q x.1 h else h)) (sym room) (evict_clears x.1 h s)
 
-  within_all : (pod : Key) (xs : List (ℕ × Key)) (h : List Entry) → Each IsPodDue xs → Fine q h → has_room doc q k 0 (for_each (evict_within doc k q) xs h) ≡ true → InDues pod xs
+  within_all : (pod : Key) (at : ℕ) (xs : List (ℕ × Key)) (h : List Entry) → Each IsPodDue xs → Fine q h → has_room doc q k 0 (for_each (evict_within doc k q) xs h) ≡ true → Among (at, pod) xs
       → Timely pod (for_each (evict_within doc k q) xs h)
-  within_all pod [] h kinds s room mine = absurd mine
-  within_all pod (x ∷ xs) h kinds s room (inl is) =
+  within_all pod at [] h kinds s room mine = absurd mine
+  within_all pod at (x ∷ xs) h kinds s room (inl is) =
       within_all_keeps pod xs (evict_within doc k q x h) kinds.1
-      (subst (λ p. Timely p (evict_within doc k q x h)) (sym is) (within_clears x h s (room_was x h (room_before xs (evict_within doc k q x h) room))))
-  within_all pod (x ∷ xs) h kinds s room (inr mine) = within_all pod xs (evict_within doc k q x h) kinds.1 (within_fine x h kinds.0 s) room mine
+      (subst (λ (y : ℕ × Key). Timely y.1 (evict_within doc k q x h)) (sym is) (within_clears x h s (room_was x h (room_before xs (evict_within doc k q x h) room))))
+  within_all pod at (x ∷ xs) h kinds s room (inr mine) = within_all pod at xs (evict_within doc k q x h) kinds.1 (within_fine x h kinds.0 s) room mine
 
   within_clear : (pod : Key) (h : List Entry) → IsPodKey pod → Fine q h → has_room doc q k 0 (for_each (evict_within doc k q) (dues doc q (pod_keys h) h) h) ≡ true
       → Timely pod (for_each (evict_within doc k q) (dues doc q (pod_keys h) h) h)
@@ -517,9 +487,9 @@ module _ (doc : Doc) (k : ℕ) (q : Identity) where
       pods : Each IsPodDue all
       pods = dues_only doc q h (pod_keys h) (pods_only h)
 
-      by_due : InKeys pod (pod_keys h) → (d : Due) → due_by doc.settings.rules.evict_from doc q pod h ≡ d → Timely pod (for_each (evict_within doc k q) all h)
+      by_due : Among pod (pod_keys h) → (d : Due) → due_by doc.settings.rules.evict_from doc q pod h ≡ d → Timely pod (for_each (evict_within doc k q) all h)
       by_due mine Never is = within_all_keeps pod all h pods (never_due pod h s is)
-      by_due mine (At at) is = within_all pod all h pods s room (due_in_dues pod at (pod_keys h) h is mine)
+      by_due mine (At at) is = within_all pod at all h pods s room (pods_of_dues doc q h (pod_keys h) pod at is mine)
 
       by_stored : (o : Option Held) → stored pod h ≡ o → Timely pod (for_each (evict_within doc k q) all h)
       by_stored None is = within_all_keeps pod all h pods (none_stored pod h is)

@@ -1,4 +1,3 @@
-pub mod KeyNames
 pub mod Cache
 pub mod Early
 pub mod Current

@@ -156,7 +156,7 @@ keep_answers doc w high k s h arriving inv slow r =
     moves = moves_of doc x h left.tops
 
     least : 1 ≤ reply_delay s.who.process h
-    least = (inv.delays s.who.process).1
+    least = (inv.core.delays s.who.process).1
 
     late : (b : Bool) → IfSome (arrival b k (reply_delay s.who.process h)) (Late w s.who.process k)
     late true = tt

@@ -29,10 +29,10 @@ use Rattle.lease_laws.proofs.EachKind.{elsewhere, top_stays}
 use Rattle.lease_laws.proofs.Histories.{first_right, bears_own, keeps}
 use Rattle.lease_laws.proofs.Invariant.{OnTop, Inv}
 use Rattle.lease_laws.proofs.Quiet.{stored_tick, keep_quiet, quiet_tick, deletes_elsewhere}
-use Rattle.lease_laws.proofs.Steps.{AtMost, InvWithin, sound_of}
+use Rattle.lease_laws.proofs.Steps.{AtMost, InvWithin, sound_of, success_is}
 use Rattle.gap_laws.specs.Gaps.{IsDelayed}
 use Rattle.gap_laws.proofs.Waits.{Slow, Late, is_release, BaseWaited, SentWell, Topped, Took, LedFrom, TermFrom, Waits}
-use Rattle.gap_laws.proofs.Steps.{Still, none_for, keep_still, keep_sends, brought, keep_counted, success_is, keep_leads, shown_late, told_late, followed_base, attempt_base, release_base}
+use Rattle.gap_laws.proofs.Steps.{Still, none_for, keep_still, keep_sends, brought, keep_counted, keep_leads, shown_late, told_late, followed_base, attempt_base, release_base}
 use Rattle.gap_laws.proofs.Answers.{keep_answers}
 
 -- ---- before beat 0

@@ -231,10 +231,10 @@ module _ (doc : Doc) (premise : Premise doc) (sound : IsSound doc) (rules : Rele
       earlier d n s acting within at = ⊎_elim (λ some. gave_never some above) covered (subst (λ q. Covered doc premise.high (view start) q s.b.call.sent) s.who ((right.answer (subst (λ (q : Identity). is_controller doc q.process ≡ true) (sym s.who) last.0)).covered s.so))
         where
           right : BackRight doc premise.high j (view start) s.e.beat s.b
-          right = subst (λ o. IfSome o (BackRight doc premise.high j (view start) s.e.beat)) s.is (inv.entries s.e (in_tail s.e (s.e ∷ s.before) start at (inl refl))).1
+          right = subst (λ o. IfSome o (BackRight doc premise.high j (view start) s.e.beat)) s.is (inv.core.entries s.e (in_tail s.e (s.e ∷ s.before) start at (inl refl))).1
 
           held : HeldRight doc j (view start) y
-          held = subst (λ o. IfSome o (HeldRight doc j (view start))) top inv.held
+          held = subst (λ o. IfSome o (HeldRight doc j (view start))) top inv.core.held
 
           by_top : CoveredBy doc premise.high q s.b.call.sent (Some y) → ⊥
           by_top (inl own) = differ (some_is p q (sym by ∙ own.0))
@@ -264,7 +264,7 @@ module _ (doc : Doc) (premise : Premise doc) (sound : IsSound doc) (rules : Rele
   mine_at y top by = cases y.object refl (held.fit p by)
     where
       held : HeldRight doc j (view start) y
-      held = subst (λ o. IfSome o (HeldRight doc j (view start))) top inv.held
+      held = subst (λ o. IfSome o (HeldRight doc j (view start))) top inv.core.held
 
       cases : (o : Object) → y.object ≡ o → FitObject doc (view start) p o → Mine doc p y.beat y
       cases (object.Lease lease) is (inl fit) = record { by = by; since = omega arith; lease = lease; object = is; holder = fit.0; duration = fit.1 }
@@ -299,7 +299,7 @@ module _ (doc : Doc) (premise : Premise doc) (sound : IsSound doc) (rules : Rele
           omega (
             arith,
             at_last y.beat y top own refl (y, top, inl (mine_at y top own)) at_start,
-            by_deadline y top (deadline doc p start) (inv.led p first.0) (and_right (is_present (alive p.process start) p.incarnation) (is_before (local doc p.process j) (deadline doc p start)) (term_of doc rules p j start first.1)),
+            by_deadline y top (deadline doc p start) (inv.core.led p first.0) (and_right (is_present (alive p.process start) p.incarnation) (is_before (local doc p.process j) (deadline doc p start)) (term_of doc rules p j start first.1)),
           )
 
 pub others_wait : OthersWait

@@ -3,7 +3,7 @@ use Rattle.std.proofs.Common.{◌≡◌, ◌≤◌, ℕ, ◌+◌, ◌&&◌, Bool
 use Rattle.std.proofs.lemmas.Bool.{eqb-true, ltb-false}
 use Rattle.kube_base.specs.declared.numbers.Version.{Version}
 use Rattle.kube_objects.specs.declared.call.Reply.{Reply}
-use Rattle.kube_objects.specs.declared.call.Reply.TheVariants.{Found, Done, Absent, Exists, Conflict, Unchanged}
+use Rattle.kube_objects.specs.declared.call.Reply.TheVariants.{Found, Done, Absent}
 use Rattle.kube_objects.specs.declared.call.Request.{Request}
 use Rattle.kube_objects.specs.declared.call.Request.TheVariants.{Get, Create, Update, PostStatus}
 use Rattle.kube_objects.specs.declared.deed.Actor.{Actor}
@@ -14,7 +14,7 @@ use Rattle.kube_objects.specs.declared.lease.Lease.{Lease}
 use Rattle.kube_objects.specs.declared.object.Object.TheVariants as object
 use Rattle.kube_objects.specs.Clocks.{local}
 use Rattle.kube_objects.specs.Document.{Doc, is_controller, lease_seconds, call_timeout, retry_period, renew_deadline}
-use Rattle.kube_objects.specs.Elector.{moment, Shown, told, shows, shown, newly, is_known, observed, observed_at, succeeds, leads, lead_says, deadline_says, deadline, is_blocked, is_valid, renewed, updated, created, Fails, Asks, Succeeds, follow_get, is_done, not_done, follow_write, follow_on, attempt_from, attempt, release_from, given_up, respected}
+use Rattle.kube_objects.specs.Elector.{moment, Shown, told, shows, shown, newly, is_known, observed, observed_at, succeeds, leads, lead_says, deadline_says, deadline, is_blocked, is_valid, renewed, updated, created, Fails, Asks, follow_get, not_done, follow_write, follow_on, attempt_from, attempt, release_from, given_up, respected}
 use Rattle.kube_objects.specs.Entry.{Entry, Identity, Call, CallKind, Plain, Fast, Release, Fact, Sends, Delivers, Leads, Expires, entry, Look, Emptying, ReleaseBegins}
 use Rattle.kube_objects.specs.Identities.{identity, is_by, is_same, is_own, is_other}
 use Rattle.kube_objects.specs.InFlight.{is_due}
@@ -32,7 +32,7 @@ use Rattle.history_laws.proofs.Plainly.{upper, for_new, if_some, same_is, same_s
 use Rattle.history_laws.proofs.Walk.{Coming, after_reply}
 use Rattle.lease_laws.proofs.Invariant.{view, OnTop, Wrote, Saw, Within, Asked, AnswerRight, SentRight, BackRight, NumberedIn, Inv}
 use Rattle.lease_laws.proofs.Pauses.{within_success}
-use Rattle.lease_laws.proofs.Steps.{no_ask, no_success, asks_is}
+use Rattle.lease_laws.proofs.Steps.{IsSuccess, no_ask, no_success, asks_is}
 use Rattle.lease_laws.proofs.Waited.{respected_holder}
 use Rattle.lease_laws.specs.Respects.{respected_time}
 use Rattle.gap_laws.proofs.Waits.{Slow, Late, late_early, is_release, Arrives, Waited, WaitedFor, BaseWaited, SentWell, Took, Answered, Topped, TopsOrPut, Success, LedFrom, TermFrom, Waits, each_position, position, Moves, moved, more_success}
@@ -41,7 +41,7 @@ use Rattle.gap_laws.proofs.Waits.{Slow, Late, late_early, is_release, Arrives, W
 
 -- versions that calls and showings know were given
 pub sent_given : (doc : Doc) (high k : ℕ) (h : List Entry) → Inv doc high k h → (e : Entry) → In e h → (s : Sent) → sent_of e.actor e.fact ≡ Some s → SentRight doc high k (view h) s
-sent_given doc high k h s e at x is = subst (λ o. IfSome o (SentRight doc high k (view h))) is (s.entries e at).0
+sent_given doc high k h s e at x is = subst (λ o. IfSome o (SentRight doc high k (view h))) is (s.core.entries e at).0
 
 base_more : (doc : Doc) (w : Slow) (high : ℕ) (x : Entry) (h : List Entry) (q : Identity) (d : ℕ) (kind : CallKind) (r : Request) → Moves x h → Asked doc high (view h) q d kind r → BaseWaited doc w q d (stored election h) r → BaseWaited doc w q d (stored election (x ∷ h)) r
 base_more doc w high x h q d kind (Get key) moves asked old = tt
@@ -61,7 +61,7 @@ sends_more doc w high k x h moves inv s e at = cases (sent_of e.actor e.fact) re
 
 pub shown_more : (doc : Doc) (w : Slow) (high k : ℕ) (x : Entry) (h : List Entry) → Moves x h → Inv doc high k h → Waits doc w k h → (q : Identity) → is_controller doc q.process ≡ true
     → IfSome (shown q h) (λ y. OnTop (stored election (x ∷ h)) y.0 (λ z. Late w q.process z.beat (or_zero (observed q h))))
-shown_more doc w high k x h moves inv s q role = cases (shown q h) (inv.shown q role) (s.shown q role)
+shown_more doc w high k x h moves inv s q role = cases (shown q h) (inv.core.shown q role) (s.shown q role)
   where
     cases : (o : Option Shown) → IfSome o (λ y. Saw (view h) y.0 y.1 (or_zero (observed q h))) → IfSome o (λ y. OnTop (stored election h) y.0 (λ z. Late w q.process z.beat (or_zero (observed q h))))
         → IfSome o (λ y. OnTop (stored election (x ∷ h)) y.0 (λ z. Late w q.process z.beat (or_zero (observed q h))))
@@ -134,7 +134,7 @@ keep_sends doc w high k step q kind r h inv base slow s =
     }
   where
     least : 1 ≤ request_delay q.process h
-    least = (inv.delays q.process).0
+    least = (inv.core.delays q.process).0
 
     -- what comes later where the store stands still is no sooner
     stalled : (o : Option ℕ) → IfSome o (Arrives w q.process k kind) → IfSome (at_store doc o) (Arrives w q.process k kind)
@@ -195,8 +195,8 @@ late_now w p s k (Some t) now late = subst (Late w p s) (eqb-true t k now) late
 
 pub brought : (doc : Doc) (w : Slow) (high k : ℕ) (h : List Entry) → Inv doc high k h → Waits doc w k h → (b : Back) (waiting : Call) → Coming k h b → CountedFor doc b.who k b.call.number h waiting → Brought doc w high k h b waiting
 brought doc w high k h inv s b waiting coming is =
-    let right : BackRight doc high k (view h) coming.e.beat b = subst (λ o. IfSome o (BackRight doc high k (view h) coming.e.beat)) coming.is (inv.entries coming.e coming.stands).1 in
-    let numbered : NumberedIn h b.who b.call = subst (λ o. IfSome o (λ b. NumberedIn h b.who b.call)) coming.is (inv.numbers coming.e coming.stands).1 in
+    let right : BackRight doc high k (view h) coming.e.beat b = subst (λ o. IfSome o (BackRight doc high k (view h) coming.e.beat)) coming.is (inv.core.entries coming.e coming.stands).1 in
+    let numbered : NumberedIn h b.who b.call = subst (λ o. IfSome o (λ b. NumberedIn h b.who b.call)) coming.is (inv.core.numbers coming.e coming.stands).1 in
     let same : waiting ≡ b.call = numbered.one waiting is.waits is.number in
     let at = position coming.e h coming.stands in
     record {
@@ -295,55 +295,6 @@ keep_counted doc w high k h b waiting inv r s =
 
 -- ---- a lead
 
--- a success, of the version that it gives
-abbrev pub IsSuccess : Request → Reply → Version → Type 0
-IsSuccess request reply version = (succeeds request reply ≡ true) × (reply ≡ Done version)
-
-pub success_is : (doc : Doc) (k : ℕ) (h : List Entry) (q : Identity) (way : CallKind) (request : Request) (reply : Reply) (version : Version) → follow_on doc q k way request reply h ≡ Succeeds version → IsSuccess request reply version
-success_is doc k h q way request reply version is = cases request is
-  where
-    fails : Fails ≡ Succeeds version → ⊥
-    fails is = cc
-
-    asked : (r : Request) → Asks r ≡ Succeeds version → ⊥
-    asked r is = cc
-
-    refused : (way : CallKind) → not_done way ≡ Succeeds version → ⊥
-    refused Plain is = fails is
-    refused Fast is = asked (Get election) is
-    refused Release is = fails is
-    refused (Look begun) is = fails is
-    refused (Emptying begun) is = fails is
-
-    done : (v : Version) → Succeeds v ≡ Succeeds version → Done v ≡ Done version
-    done v is = cc
-
-    write : (reply : Reply) → follow_write way reply ≡ Succeeds version → (is_done reply ≡ true) × (reply ≡ Done version)
-    write (Done v) is = (refl, done v is)
-    write (Found v l) is = absurd (refused way is)
-    write Absent is = absurd (refused way is)
-    write Exists is = absurd (refused way is)
-    write (Conflict v) is = absurd (refused way is)
-    write Unchanged is = absurd (refused way is)
-
-    found : (b : Bool) (r : Request) → cond b Fails (Asks r) ≡ Succeeds version → ⊥
-    found true r is = fails is
-    found false r is = asked r is
-
-    get : (reply : Reply) → follow_get q (moment doc q k) (observed_at doc q h) reply ≡ Succeeds version → ⊥
-    get Absent is = asked (Create election (created q (moment doc q k))) is
-    get (Found v lease) is = found (is_blocked q (local doc q.process k) (observed_at doc q h) (respected (moment doc q k).respect (moment doc q k).seconds lease)) (Update election v (updated q (moment doc q k) lease)) is
-    get (Done v) is = fails is
-    get Exists is = fails is
-    get (Conflict v) is = fails is
-    get Unchanged is = fails is
-
-    cases : (request : Request) → follow_on doc q k way request reply h ≡ Succeeds version → IsSuccess request reply version
-    cases (Get key) is = absurd (get reply is)
-    cases (Create key lease) is = write reply is
-    cases (Update key given lease) is = write reply is
-    cases (PostStatus name status at) is = absurd (fails is)
-
 pub keep_leads : (doc : Doc) (w : Slow) (high k : ℕ) (h : List Entry) (b : Back) (waiting : Call) (version : Version) → Inv doc high k (after_reply k b waiting h) → Brought doc w high k h b waiting → IsSuccess waiting.request b.reply version
     → Waits doc w k (after_reply k b waiting h) → Waits doc w k (entry k 3 b.who (Leads version) ∷ after_reply k b waiting h)
 keep_leads doc w high k h b waiting version inv r so s =
@@ -396,7 +347,7 @@ abbrev pub ShownLate : Doc → Slow → List Entry → Identity → Shown → Ty
 ShownLate doc w h q x = Saw (view h) x.0 x.1 (or_zero (observed q h)) × OnTop (stored election h) x.0 (λ y. Late w q.process y.beat (or_zero (observed q h)))
 
 pub shown_late : (doc : Doc) (w : Slow) (high k : ℕ) (h : List Entry) → Inv doc high k h → Waits doc w k h → (q : Identity) → is_controller doc q.process ≡ true → IfSome (shown q h) (ShownLate doc w h q)
-shown_late doc w high k h inv s q role = both (shown q h) (inv.shown q role) (s.shown q role)
+shown_late doc w high k h inv s q role = both (shown q h) (inv.core.shown q role) (s.shown q role)
   where
     both : (o : Option Shown) → IfSome o (λ x. Saw (view h) x.0 x.1 (or_zero (observed q h))) → IfSome o (λ x. OnTop (stored election h) x.0 (λ y. Late w q.process y.beat (or_zero (observed q h)))) → IfSome o (ShownLate doc w h q)
     both None a b = tt
@@ -440,19 +391,12 @@ followed_base doc w k h q way request reply next seen saw is = cases request saw
     Based = BaseWaited doc w q k (stored election h)
 
     refused : (way : CallKind) → not_done way ≡ Asks next → Based next
-    refused Plain is = absurd (no_ask next is)
     refused Fast is = subst Based (asks_is (Get election) next is) tt
-    refused Release is = absurd (no_ask next is)
-    refused (Look begun) is = absurd (no_ask next is)
-    refused (Emptying begun) is = absurd (no_ask next is)
+    refused kind is = absurd (no_ask next is)
 
     write : (reply : Reply) → follow_write way reply ≡ Asks next → Based next
     write (Done v) is = absurd (no_success v next is)
-    write (Found v l) is = refused way is
-    write Absent is = refused way is
-    write Exists is = refused way is
-    write (Conflict v) is = refused way is
-    write Unchanged is = refused way is
+    write reply is = refused way is
 
     found : (v : Version) (lease : Lease) → ShownLate doc w h q (v, lease) → (b : Bool) → is_blocked q (local doc q.process k) (observed_at doc q h) (respected (moment doc q k).respect (moment doc q k).seconds lease) ≡ b → cond b Fails (Asks (Update election v (updated q (moment doc q k) lease))) ≡ Asks next → Based next
     found v lease saw true blocked is = absurd (no_ask next is)
@@ -463,10 +407,7 @@ followed_base doc w k h q way request reply next seen saw is = cases request saw
     get : (key : Key) (reply : Reply) → IfSome (told (Get key) reply) (ShownLate doc w h q) → follow_get q (moment doc q k) (observed_at doc q h) reply ≡ Asks next → Based next
     get key Absent saw is = subst Based (asks_is (Create election (created q (moment doc q k))) next is) tt
     get key (Found v lease) saw is = found v lease saw (is_blocked q (local doc q.process k) (observed_at doc q h) (respected (moment doc q k).respect (moment doc q k).seconds lease)) refl is
-    get key (Done v) saw is = absurd (no_ask next is)
-    get key Exists saw is = absurd (no_ask next is)
-    get key (Conflict v) saw is = absurd (no_ask next is)
-    get key Unchanged saw is = absurd (no_ask next is)
+    get key reply saw is = absurd (no_ask next is)
 
     cases : (request : Request) → IfSome (told request reply) (ShownLate doc w h q) → follow_on doc q k way request reply h ≡ Asks next → Based next
     cases (Get key) saw is = get key reply saw is

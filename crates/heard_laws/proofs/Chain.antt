@@ -30,7 +30,7 @@ use Rattle.history_laws.proofs.Order.{entries_are_ordered}
 use Rattle.history_laws.proofs.Plainly.{upper, none_is, true_is, false_is, same_self}
 use Rattle.history_laws.proofs.Tailed.{tail_all, tail_trans, tails_meet, in_tail, later_tail, two_adds, same_head, begun_tail}
 use Rattle.history_laws.proofs.Versions.{versions_are_given}
-use Rattle.eviction_laws.proofs.KeyNames.{key_self}
+use Rattle.kube_objects.proofs.KeyOrder.{key_itself}
 use Rattle.span_laws.specs.Spans.{RunsAtMost}
 use Rattle.call_laws.specs.Answering.{with_events, with_answers, IsAnswered}
 use Rattle.call_laws.specs.Waiting.{IsClosed}
@@ -111,7 +111,7 @@ or_right_true false b is = is
 lease_tells : (name : ℕ) (call : Call) (answered_as : Reply) (comes : Option ℕ) (wrote : Option Object) (x : Object) → key_of call.request ≡ node_lease name → wrote ≡ Some x → tells_of name (Answers call answered_as comes wrote) ≡ true
 lease_tells name call answered_as comes wrote x key is =
     or_right_true (has (at_key (node_key name) (request_write call.request wrote))) (has (at_key (node_lease name) (request_write call.request wrote)))
-    (ap (λ o. has (at_key (node_lease name) (request_write call.request o))) is ∙ ap (λ k. has (at_key (node_lease name) (Some (k, Some x)))) key ∙ ap (λ b. has (when b (Some x))) (key_self (node_lease name)))
+    (ap (λ o. has (at_key (node_lease name) (request_write call.request o))) is ∙ ap (λ k. has (at_key (node_lease name) (Some (k, Some x)))) key ∙ ap (λ b. has (when b (Some x))) (key_itself (node_lease name)))
 
 delivers_call : (c d : Call) (a b : Reply) → Delivers c a true ≡ Delivers d b true → c ≡ d
 delivers_call c d a b is = cc

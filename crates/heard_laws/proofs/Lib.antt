@@ -1,4 +1,3 @@
-pub mod Written
 pub mod Words
 pub mod Said
 pub mod Heard

@@ -40,7 +40,7 @@ use Rattle.history_laws.proofs.Plainly.{upper, some_is, none_is, true_is, false_
 use Rattle.history_laws.proofs.Tailed.{tail_all, tail_trans, tail_of_empty, same_head}
 use Rattle.history_laws.proofs.Ticks.{walk_tick}
 use Rattle.history_laws.proofs.Walk.{after_reply, Keeps, no_release, walk_history}
-use Rattle.eviction_laws.proofs.KeyNames.{key_is}
+use Rattle.kube_objects.proofs.KeyOrder.{same_key}
 use Rattle.lease_laws.proofs.Steps.{sound_of}
 use Rattle.call_laws.proofs.Above.{place_of}
 use Rattle.call_laws.proofs.Making.{MadeAs, MadeAnswer, are_made}
@@ -252,7 +252,7 @@ other_lease : (x name : ℕ) → (x ≡ name → ⊥) → key_eq (node_lease x) 
 other_lease x name differs = by_test (key_eq (node_lease x) (node_lease name)) refl
   where
     by_test : (b : Bool) → key_eq (node_lease x) (node_lease name) ≡ b → b ≡ false
-    by_test true is = absurd (differs (ap (λ (key : Key). key.name) (key_is (node_lease x) (node_lease name) is)))
+    by_test true is = absurd (differs (ap (λ (key : Key). key.name) (same_key (node_lease x) (node_lease name) is)))
     by_test false is = refl
 
 -- a request for another key doesn't
@@ -346,7 +346,7 @@ module _ (doc : Doc) (sound : IsSound doc) (rules : ReleasesByStop doc) (e name 
       by_test : (b : Bool) → key_eq key (node_lease name) ≡ b → when b (Some put) ≡ Some (Some wrote) → IsLease wrote
       by_test true same is =
           let put_is : put ≡ wrote = some_is put wrote (some_is (Some put) (Some wrote) is) in
-          subst IsLease put_is (is_lease put (sym (ap (λ (key : Key). key.kind) (key_is key (node_lease name) same)) ∙ of))
+          subst IsLease put_is (is_lease put (sym (ap (λ (key : Key). key.kind) (same_key key (node_lease name) same)) ∙ of))
       by_test false same is = absurd (none_is (Some wrote) is)
 
   -- a write of a Lease, where it is one

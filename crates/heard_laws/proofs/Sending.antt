@@ -27,7 +27,7 @@ use Rattle.history_laws.specs.Tails.{In, IsTail}
 use Rattle.history_laws.proofs.Counting.{counted_is}
 use Rattle.history_laws.proofs.Expired.{expired_none}
 use Rattle.history_laws.proofs.Plainly.{upper, some_is, none_is, true_is, false_is, same_is, same_self, added_more}
-use Rattle.history_laws.proofs.Rounds.{Runs, RunsOwn, runs_more, runs_empty, goes_on}
+use Rattle.history_laws.proofs.Rounds.{Runs, RunsOwn, no_round, runs_more, runs_empty, goes_on}
 use Rattle.history_laws.proofs.Tailed.{tail_all, tail_trans, tail_of_empty, same_head, same_rest, begun_tail}
 use Rattle.history_laws.proofs.Ticks.{walk_tick}
 use Rattle.history_laws.proofs.Walk.{after_reply, Keeps, no_release, walk_history}
@@ -107,13 +107,6 @@ right_sends doc k step q kind request h made s =
 -- a controller's request
 right_other : (doc : Doc) (k step : ℕ) (q : Identity) (kind : CallKind) (request : Request) (h : List Entry) → is_controller doc q.process ≡ true → KubeletRight doc h → KubeletRight doc (send doc k step q kind request h)
 right_other doc k step q kind request h role s = right_sends doc k step q kind request h (λ other. absurd (true_is (sym role ∙ other))) s
-
-no_round : (q : Identity) (h : List Entry) → has_round q h ≡ false → Runs q h → call_in q h ≡ None
-no_round q h none runs = by_call (call_in q h) refl
-  where
-    by_call : (o : Option Call) → call_in q h ≡ o → o ≡ None
-    by_call None waits = refl
-    by_call (Some c) waits = absurd (true_is (sym (runs.0 c waits) ∙ none))
 
 right_keeps : (doc : Doc) → IsSound doc → Keeps doc (λ k step h. KubeletRight doc h)
 right_keeps doc sound = record {

@@ -1,5 +1,5 @@
 -- What is told of a node stays as it is but by what tells of it: under the project's own rules.
-use Rattle.std.proofs.Common.{◌≡◌, ◌∙◌, ◌⊎◌, ℕ, ◌==◌, ◌||◌, not, Bool, true, false, cond, List, [], ◌∷◌, Option, Some, None, refl, sym, ap, subst, inl, inr, ⊎_elim}
+use Rattle.std.proofs.Common.{◌≡◌, ◌∙◌, ◌⊎◌, ℕ, ◌==◌, not, Bool, true, false, cond, List, [], ◌∷◌, Option, Some, None, refl, sym, ap, subst, inl, inr, ⊎_elim}
 use Rattle.std.proofs.lemmas.Bool.{eqb-true, cases_eq}
 use Rattle.kube_base.specs.declared.numbers.Version.{Version}
 use Rattle.kube_objects.specs.declared.call.Answer.{Answer}
@@ -26,23 +26,15 @@ use Rattle.kube_objects.specs.Wire.{loses_requests}
 use Rattle.history.specs.Evictions.{stored_node}
 use Rattle.history.specs.History.{put_all, history}
 use Rattle.history_laws.specs.Tails.{IsTail}
-use Rattle.history_laws.proofs.Plainly.{upper, false_is, true_is}
+use Rattle.history_laws.proofs.Plainly.{upper, false_is, true_is, or_left, or_right}
+use Rattle.history_laws.proofs.Ticks.{IsOver, WritesOver, over_tick}
 use Rattle.history_laws.proofs.Walk.{Keeps, no_release, walk_history}
 use Rattle.eviction_laws.proofs.Early.{stored_as_seen}
-use Rattle.eviction_laws.proofs.KeyNames.{key_is, key_self}
+use Rattle.kube_objects.proofs.KeyOrder.{same_key, key_itself}
 use Rattle.heard_laws.specs.Heard.{is_about, tells_of}
-use Rattle.heard_laws.proofs.Written.{IsOver, WritesOver, over_tick}
 use Rattle.outage_laws.proofs.Marked.{other_node}
 
 -- ---- keys
-
-or_left : (a b : Bool) → (a || b) ≡ false → a ≡ false
-or_left true b is = absurd (true_is is)
-or_left false b is = refl
-
-or_right : (a b : Bool) → (a || b) ≡ false → b ≡ false
-or_right true b is = absurd (true_is is)
-or_right false b is = is
 
 node_no_lease : (a b : ℕ) → key_eq (node_key a) (node_lease b) ≡ false
 node_no_lease a b = refl
@@ -51,7 +43,7 @@ pod_is_none : (pod key : Key) → is_pod pod.kind ≡ true → is_pod key.kind �
 pod_is_none pod key kind other = by_test (key_eq pod key) refl
   where
     by_test : (b : Bool) → key_eq pod key ≡ b → b ≡ false
-    by_test true is = absurd (true_is (sym kind ∙ ap (λ (key : Key). is_pod key.kind) (key_is pod key is) ∙ other))
+    by_test true is = absurd (true_is (sym kind ∙ ap (λ (key : Key). is_pod key.kind) (same_key pod key is) ∙ other))
     by_test false is = refl
 
 -- ---- what is told of a node
@@ -126,7 +118,7 @@ written_node name other k who written node given h here heartbeat x beat actor w
     over =
         let top : stored_node other (x ∷ h) ≡ Some (next_version h, written) =
         ap (λ o. as_kind node_in (join (upper (holds h x.beat x.actor (at_key (node_key other) o)) (last_write (node_key other) h)))) write
-        ∙ ap (λ b. as_kind node_in (join (upper (holds h x.beat x.actor (when b (Some (object.Node written)))) (last_write (node_key other) h)))) (key_self (node_key other)) in
+        ∙ ap (λ b. as_kind node_in (join (upper (holds h x.beat x.actor (when b (Some (object.Node written)))) (last_write (node_key other) h)))) (key_itself (node_key other)) in
         record {
           found = ap has top ∙ sym (ap has here);
           heartbeat = ap node_heartbeat top ∙ heartbeat ∙ sym (ap node_heartbeat here);

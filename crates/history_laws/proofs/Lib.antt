@@ -3,6 +3,7 @@ pub mod Expired
 pub mod Counting
 pub mod Rounds
 pub mod Ticks
+pub mod Named
 pub mod Walk
 pub mod Tailed
 pub mod Versions

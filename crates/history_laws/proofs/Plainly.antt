@@ -1,5 +1,5 @@
 -- Small facts of membership, options, tests and identities.
-use Rattle.std.proofs.Common.{◌≡◌, ℕ, ◌+◌, ◌==◌, ◌&&◌, not, Bool, true, false, List, ◌∷◌, Option, Some, None, IfSome, refl, sym, subst, inl, inr, arith, ◌≤◌}
+use Rattle.std.proofs.Common.{◌≡◌, ℕ, ◌+◌, ◌==◌, ◌&&◌, ◌||◌, not, Bool, true, false, List, ◌∷◌, Option, Some, None, IfSome, refl, sym, subst, inl, inr, arith, ◌≤◌}
 use Rattle.std.proofs.lemmas.Bool.{eqb-true}
 use Rattle.std.proofs.lemmas.Bool.Decides.{nat_tests}
 use Rattle.kube_objects.specs.Entry.{Entry, Identity}
@@ -44,6 +44,18 @@ and_right false b h = absurd (false_is h)
 pub and_both : (a b : Bool) → a ≡ true → b ≡ true → (a && b) ≡ true
 and_both true b ha hb = hb
 and_both false b ha hb = absurd (false_is ha)
+
+pub or_left : (a b : Bool) → (a || b) ≡ false → a ≡ false
+or_left true b is = is
+or_left false b is = refl
+
+pub or_right : (a b : Bool) → (a || b) ≡ false → b ≡ false
+or_right true b is = absurd (true_is is)
+or_right false b is = is
+
+pub or_none : (a b : Bool) → a ≡ false → b ≡ false → (a || b) ≡ false
+or_none true b left right = left
+or_none false b left right = right
 
 pub not_true : (a : Bool) → not a ≡ true → a ≡ false
 not_true true h = absurd (false_is h)

@@ -12,7 +12,7 @@ use Rattle.kube_objects.specs.Kubelet.{is_post, ends_round, round_says, has_roun
 use Rattle.kube_objects.specs.Newest.{newest, when, join, or_else}
 use Rattle.kube_objects.specs.Process.{open_as, call_says, last_call, call_in}
 use Rattle.kube_objects.specs.Turns.{expired_in, just_expired}
-use Rattle.history_laws.proofs.Plainly.{upper, some_is, none_is, false_is}
+use Rattle.history_laws.proofs.Plainly.{upper, some_is, none_is, false_is, true_is}
 
 abbrev RunsIn : Option Call → Bool → (ℕ → Option Call) → Type 0
 RunsIn waiting runs late = ((c : Call) → waiting ≡ Some c → runs ≡ true) × ((k : ℕ) (c : Call) → late k ≡ Some c → is_post c.request ≡ true → runs ≡ true)
@@ -20,6 +20,14 @@ RunsIn waiting runs late = ((c : Call) → waiting ≡ Some c → runs ≡ true)
 -- a round runs while a call waits, and after the expiry of a post
 abbrev pub Runs : Identity → List Entry → Type 0
 Runs q h = RunsIn (call_in q h) (has_round q h) (λ k. just_expired q k h)
+
+-- so where none runs no call waits
+pub no_round : (q : Identity) (h : List Entry) → has_round q h ≡ false → Runs q h → call_in q h ≡ None
+no_round q h none runs = by_call (call_in q h) refl
+  where
+    by_call : (o : Option Call) → call_in q h ≡ o → o ≡ None
+    by_call None waits = refl
+    by_call (Some c) waits = absurd (true_is (sym (runs.0 c waits) ∙ none))
 
 -- what an own entry must show
 abbrev pub RunsOwn : Identity → List Entry → Fact → Type 0

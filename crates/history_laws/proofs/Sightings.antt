@@ -184,7 +184,7 @@ due_more doc q pod k t h same = ap (due_in_row doc q) (row_more q pod k t h same
 
 -- ---- a row from one tick to the next
 
-one_alike : (a b c : Bears) → is_one_row a b ≡ true → is_one_row a c ≡ is_one_row b c
+pub one_alike : (a b c : Bears) → is_one_row a b ≡ true → is_one_row a c ≡ is_one_row b c
 one_alike NotAtAll NotAtAll c one = refl
 one_alike (For m) (For n) Untainted one = refl
 one_alike (For m) (For n) NotAtAll one = refl
@@ -199,7 +199,7 @@ one_alike (For m) Untainted c one = absurd (true_is (sym one))
 one_alike (For m) NotAtAll c one = absurd (true_is (sym one))
 one_alike (For m) Ever c one = absurd (true_is (sym one))
 
-one_self : (a b : Bears) → is_one_row a b ≡ true → is_one_row a a ≡ true
+pub one_self : (a b : Bears) → is_one_row a b ≡ true → is_one_row a a ≡ true
 one_self a b one = by_kind a one
   where
     by_kind : (a : Bears) → is_one_row a b ≡ true → is_one_row a a ≡ true
@@ -208,7 +208,7 @@ one_self a b one = by_kind a one
     by_kind Untainted one = one
     by_kind Ever one = one
 
-one_swap : (a b : Bears) → is_one_row a b ≡ true → is_one_row b a ≡ true
+pub one_swap : (a b : Bears) → is_one_row a b ≡ true → is_one_row b a ≡ true
 one_swap a b one = sym (one_alike a b a one) ∙ one_self a b one
 
 begins_alike : (q : Identity) (pod : Key) (a b : Bears) → is_one_row a b ≡ true → (h : List Entry) → row_begins q pod a h ≡ row_begins q pod b h

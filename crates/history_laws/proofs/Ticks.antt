@@ -1,5 +1,5 @@
 -- One walk through a tick, for every property that each of its entries keeps.
-use Rattle.std.proofs.Common.{◌≡◌, ◌≤◌, ℕ, ◌==◌, ◌&&◌, ◌||◌, not, nat_lt, nat_le, if◌then◌else◌, Bool, true, false, List, [], ◌∷◌, Option, Some, None, refl, sym, ◌∙◌, arith}
+use Rattle.std.proofs.Common.{◌≡◌, ◌≤◌, inl, inr, subst, ℕ, ◌==◌, ◌&&◌, ◌||◌, not, nat_lt, nat_le, if◌then◌else◌, Bool, true, false, List, [], ◌∷◌, Option, Some, None, refl, sym, ◌∙◌, arith}
 use Rattle.std.specs.Prelude.{if◌then◌else◌}
 use Rattle.std.specs.List.{list_any}
 use Rattle.std.specs.declared.cmp.Ordering.{Ordering}
@@ -8,6 +8,8 @@ use Rattle.kube_base.specs.declared.numbers.Version.{Version}
 use Rattle.kube_objects.specs.declared.call.Answer.{Answer}
 use Rattle.kube_objects.specs.declared.key.Key.{Key}
 use Rattle.kube_objects.specs.declared.node.Node.{Node}
+use Rattle.kube_objects.specs.declared.node.Ready.{Ready}
+use Rattle.kube_objects.specs.declared.node.Taint.{Taint}
 use Rattle.kube_objects.specs.declared.node.ZoneState.{ZoneState}
 use Rattle.kube_objects.specs.declared.node.ZoneState.TheVariants.{Normal, Partial, Full}
 use Rattle.kube_objects.specs.declared.pod.Due.{Due}
@@ -19,10 +21,10 @@ use Rattle.kube_objects.specs.declared.rules.JudgeRule.{JudgeRule}
 use Rattle.kube_objects.specs.declared.rules.JudgeRule.TheVariants as judge_rules
 use Rattle.kube_objects.specs.declared.settings.RatePolicy.{RatePolicy}
 use Rattle.kube_objects.specs.declared.settings.RatePolicy.TheVariants.{Standard, Gentle, Halt}
-use Rattle.kube_objects.specs.Clocks.{wall}
+use Rattle.kube_objects.specs.Clocks.{wall, whole_second}
 use Rattle.kube_objects.specs.Document.{Doc}
 use Rattle.kube_objects.specs.Entry.{Entry, Identity, Place, Tick, Sync, Pass, Mark, Mode, Zone, Untaint, Swap, Head, Delete, Skip}
-use Rattle.kube_objects.specs.Health.{is_pass_due, is_pass_tick, before_pass, mark_of}
+use Rattle.kube_objects.specs.Health.{is_pass_due, is_pass_tick, before_pass, is_silent, is_unknown, marked, ready_heartbeat, with_mark}
 use Rattle.kube_objects.specs.InForce.{watches}
 use Rattle.kube_objects.specs.Deletes.{no_version}
 use Rattle.kube_objects.specs.Judgement.{Passed, passes, has_turned_on, judged, is_new, is_healthy, is_crossed, queue}
@@ -33,13 +35,14 @@ use Rattle.kube_objects.specs.Seen.{seen_node, seen_pod, is_fresh, is_synced, is
 use Rattle.kube_objects.specs.Sightings.{sighted_due}
 use Rattle.kube_objects.specs.Stored.{Write, write_of, node_key}
 use Rattle.kube_objects.specs.Tainting.{Wants, Nothing, Wanted, Whatever, wants, wants_ready, has_condition, is_opposite, waits, Queued, head_of}
-use Rattle.kube_objects.specs.Tick.{has_settled, is_stripped, cleaned_by, judge, judge_seen, judge_all, add_crossed, tainted_by, push, push_as, push_seen, push_first}
+use Rattle.kube_objects.specs.Tick.{has_settled, is_stripped, new_taint, crossed, cleaned_by, judge, judge_seen, judge_all, add_crossed, tainted_by, push, push_as, push_seen, push_first}
 use Rattle.kube_objects.specs.Tick.{evict_by, evict_sighted, evict_within, due_by, insert_due, and_due, dues, has_room}
 use Rattle.kube_objects.specs.Tick.{add, for_each, sync, mark_as, mark_seen, mark, is_same_mode, mode_as, set_mode, zone_as, zone, set_zones, marks, pass, clean_as, clean_seen, clean, cleaned, taint_as, taint_head, taint, tainted, evict_due, evict_on, evict_seen, evict, evicted, tick, whole_pass, add_untaint, add_swap, taint_first, add_delete, phases}
 use Rattle.kube_objects.specs.Tokens.{rated, is_rated, has_token}
 use Rattle.kube_objects.specs.Tolerations.{due}
 use Rattle.kube_objects.specs.Tries.{try_node, try_delete, try_delete_alone}
 use Rattle.kube_objects.specs.Zones.{state_rate, partial_rate, full_rate, rate_of}
+use Rattle.history_laws.specs.Tails.{Among}
 use Rattle.history_laws.proofs.Plainly.{true_is}
 
 -- a try to write a node as the cache has it
@@ -91,6 +94,45 @@ MadeTick doc k q (Swap name wanted given node answer) h = IsTry q name given ans
 MadeTick doc k q (Head place name wanted given node answer) h = (has_token doc q k place h ≡ true) × IsTry q name given answer h
 MadeTick doc k q (Delete pod given node_given at answer) h = IsDeleteBy doc.settings.rules.evict_from doc k q pod given node_given at answer h × HasRoom doc k q h
 MadeTick doc k q (Skip place name) h = has_token doc q k place h ≡ true
+
+-- a try to write a node over what the cache has, with its heartbeat
+pub record IsOver (q : Identity) (name : ℕ) (given : Version) (written : Node) (answer : Option Answer) (h : List Entry) : Type 0 where
+  pub node : Node
+  pub sees : seen_node q name h ≡ Some (given, node)
+  pub tried : answer ≡ try_node q name given h
+  pub heartbeat : ready_heartbeat written.ready ≡ ready_heartbeat node.ready
+
+-- what a tick's entry writes
+abbrev pub WritesOver : Identity → Tick → List Entry → Type 0
+WritesOver q (Mark name given written answer) h = IsOver q name given written answer h
+WritesOver q (Untaint name given written answer) h = IsOver q name given written answer h
+WritesOver q (Swap name wanted given written answer) h = IsOver q name given written answer h
+WritesOver q (Head place name wanted given written answer) h = IsOver q name given written answer h
+WritesOver q (Delete pod given node_given due answer) h = is_pod pod.kind ≡ true
+WritesOver q _ h = Unit {0}
+
+-- ---- the entries of each phase
+
+-- marks, the mode and zones' rates, which follow the entry of a pass
+abbrev pub is_looking : Tick → Bool
+is_looking (Mark name given written a) = true
+is_looking (Mode on) = true
+is_looking (Zone place state rate) = true
+is_looking _ = false
+
+abbrev pub is_cleaning : Tick → Bool
+is_cleaning (Untaint name given written a) = true
+is_cleaning (Swap name wanted given written a) = true
+is_cleaning _ = false
+
+abbrev pub is_heading : Tick → Bool
+is_heading (Head place name wanted given written a) = true
+is_heading (Skip place name) = true
+is_heading _ = false
+
+abbrev pub is_deleting : Tick → Bool
+is_deleting (Delete pod given node_given at a) = true
+is_deleting _ = false
 
 -- ---- rates
 
@@ -161,10 +203,40 @@ and_due_each : (pod : Key) (d : Due) (xs : List (ℕ × Key)) → IsPodKey pod �
 and_due_each pod Never xs new old = old
 and_due_each pod (At at) xs new old = insert_due_each at pod xs new old
 
+-- a due that is put among others is there, and so are they
+due_in : (at : ℕ) (pod : Key) (ys : List (ℕ × Key)) → Among (at, pod) (insert_due at pod ys)
+due_in at pod [] = inl refl
+due_in at pod (y ∷ ys) = by_order (due_in at pod ys) (nat_le at y.0)
+  where
+    by_order : Among (at, pod) (insert_due at pod ys) → (b : Bool) → Among (at, pod) (elim b [ true ↦ (at, pod) ∷ y ∷ ys | false ↦ y ∷ insert_due at pod ys ])
+    by_order later true = inl refl
+    by_order later false = inr later
+
+due_keeps : (at : ℕ) (pod : Key) (ys : List (ℕ × Key)) (x : ℕ × Key) → Among x ys → Among x (insert_due at pod ys)
+due_keeps at pod [] x there = absurd there
+due_keeps at pod (y ∷ ys) x there = by_order (due_keeps at pod ys x) (nat_le at y.0) there
+  where
+    by_order : (Among x ys → Among x (insert_due at pod ys)) → (b : Bool) → Among x (y ∷ ys) → Among x (elim b [ true ↦ (at, pod) ∷ y ∷ ys | false ↦ y ∷ insert_due at pod ys ])
+    by_order later true there = inr there
+    by_order later false (inl is) = inl is
+    by_order later false (inr there) = inr (later there)
+
 -- pods with their dues are pods
 pub dues_only : (doc : Doc) (q : Identity) (h : List Entry) (pods : List Key) → Each IsPodKey pods → Each (λ x. IsPodKey x.1) (dues doc q pods h)
 dues_only doc q h [] all = tt
 dues_only doc q h (pod ∷ pods) all = and_due_each pod (due_by doc.settings.rules.evict_from doc q pod h) (dues doc q pods h) all.0 (dues_only doc q h pods all.1)
+
+-- each pod that is due ever has one
+pub pods_of_dues : (doc : Doc) (q : Identity) (h : List Entry) (pods : List Key) (pod : Key) (at : ℕ) → due_by doc.settings.rules.evict_from doc q pod h ≡ At at → Among pod pods → Among (at, pod) (dues doc q pods h)
+pods_of_dues doc q h [] pod at due there = absurd there
+pods_of_dues doc q h (p ∷ pods) pod at due (inl is) =
+    subst (λ p. Among (at, pod) (and_due p (due_by doc.settings.rules.evict_from doc q p h) (dues doc q pods h))) is
+    (subst (λ d. Among (at, pod) (and_due pod d (dues doc q pods h))) (sym due) (due_in at pod (dues doc q pods h)))
+pods_of_dues doc q h (p ∷ pods) pod at due (inr there) = by_due (pods_of_dues doc q h pods pod at due there) (due_by doc.settings.rules.evict_from doc q p h)
+  where
+    by_due : Among (at, pod) (dues doc q pods h) → (d : Due) → Among (at, pod) (and_due p d (dues doc q pods h))
+    by_due later Never = later
+    by_due later (At other) = due_keeps other p (dues doc q pods h) (at, pod) later
 
 -- what the delete of one pod keeps that is due by what is stored, the look at the pod keeps
 pub evict_added : (doc : Doc) (k : ℕ) (q : Identity) (P : List Entry → Type 0) (pod : Key) (h : List Entry) → IsPodKey pod → P h
@@ -290,9 +362,10 @@ push_step doc k q P place h p skips heads = by_token (has_token doc q k place h)
     by_token false token = p
     by_token true token = by_first token (queue doc q place (passes q h))
 
-each_of : {A : Type 0} (P : List Entry → Type 0) (f : A → List Entry → List Entry) → ((a : A) (h : List Entry) → P h → P (f a h)) → (xs : List A) (h : List Entry) → P h → P (for_each f xs h)
-each_of P f keeps [] h p = p
-each_of P f keeps (x ∷ xs) h p = each_of P f keeps xs (f x h) (keeps x h p)
+-- what a step for each of some things keeps
+pub every : {A : Type 0} (f : A → List Entry → List Entry) (P : List Entry → Type 0) → ((a : A) (h : List Entry) → P h → P (f a h)) → (xs : List A) (h : List Entry) → P h → P (for_each f xs h)
+every f P keeps [] h p = p
+every f P keeps (x ∷ xs) h p = every f P keeps xs (f x h) (keeps x h p)
 
 -- what the look at each node keeps, by either rule, the phase of untaints and swaps keeps
 pub cleaned_each : (doc : Doc) (k : ℕ) (q : Identity) (P : List Entry → Type 0) → ((name : ℕ) (h : List Entry) → P h → P (clean doc k q name h))
@@ -301,14 +374,14 @@ cleaned_each doc k q P cleans judges h p = by_rule doc.settings.rules.judge
   where
     by_passes : (xs : List Passed) → P (judge_all doc k q xs h)
     by_passes [] = p
-    by_passes (x ∷ xs) = each_of P (judge doc k q x) (judges x) (node_names h) h p
+    by_passes (x ∷ xs) = every (judge doc k q x) P (judges x) (node_names h) h p
 
     by_pass : (b : Bool) → P (if b then judge_all doc k q (passes q h) h else h)
     by_pass false = p
     by_pass true = by_passes (passes q h)
 
     by_rule : (rule : JudgeRule) → P (cleaned_by rule doc k q h)
-    by_rule judge_rules.Tick = each_of P (clean doc k q) cleans (node_names h) h p
+    by_rule judge_rules.Tick = every (clean doc k q) P cleans (node_names h) h p
     by_rule judge_rules.Pass = by_pass (is_pass_tick k q h)
 
 -- and what the look at each zone keeps, the phase of queued taints
@@ -317,8 +390,177 @@ pub tainted_each : (doc : Doc) (k : ℕ) (q : Identity) (P : List Entry → Type
 tainted_each doc k q P taints pushes h p = by_rule doc.settings.rules.judge
   where
     by_rule : (rule : JudgeRule) → P (tainted_by rule doc k q h)
-    by_rule judge_rules.Tick = each_of P (taint doc k q) taints (places (nodes q h)) h p
-    by_rule judge_rules.Pass = each_of P (push doc k q) pushes (places (nodes q (before_pass q h))) h p
+    by_rule judge_rules.Tick = every (taint doc k q) P taints (places (nodes q h)) h p
+    by_rule judge_rules.Pass = every (push doc k q) P pushes (places (nodes q (before_pass q h))) h p
+
+-- ---- marks, the mode, zones and, by the rule of ticks, untaints, swaps and heads
+
+-- what the mark of one node keeps, the look at the node keeps
+pub mark_step : (doc : Doc) (k : ℕ) (q : Identity) (P : List Entry → Type 0) (name : ℕ) (h : List Entry) → P h
+    → ((x : Version × Node) → seen_node q name h ≡ Some x → P (add k q (Mark name x.0 (with_mark (whole_second (wall doc q.process k)) x.1) (try_node q name x.0 h)) h)) → P (mark doc k q name h)
+mark_step doc k q P name h p marks = by_seen (seen_node q name h) refl
+  where
+    by_test : (x : Version × Node) → seen_node q name h ≡ Some x → (b : Bool) → P (mark_as k q name x.0 (when b (with_mark (whole_second (wall doc q.process k)) x.1)) h)
+    by_test x is false = p
+    by_test x is true = marks x is
+
+    by_seen : (o : Option (Version × Node)) → seen_node q name h ≡ o → P (mark_seen doc k q name o h)
+    by_seen None is = p
+    by_seen (Some x) is = by_test x is (not (is_unknown x.1.ready) && is_silent doc q k name x.1.ready h)
+
+pub mode_step : (doc : Doc) (k : ℕ) (q : Identity) (P : List Entry → Type 0) (h : List Entry) → P h → ((on : Bool) → P (add k q (Mode on) h)) → P (set_mode doc k q h)
+mode_step doc k q P h p modes = by_mode (all_full doc (nodes q h))
+  where
+    by_test : (on b : Bool) → P (if b then h else add k q (Mode on) h)
+    by_test on true = p
+    by_test on false = modes on
+
+    by_mode : (on : Bool) → P (mode_as k q on h)
+    by_mode on = by_test on (is_same_mode on (mode q h))
+
+pub zone_step : (doc : Doc) (k : ℕ) (q : Identity) (P : List Entry → Type 0) (seen : List Node) (place : Place) (h : List Entry) → P h
+    → ((s : ZoneState) (rate : ℕ) → IsRate doc rate → P (add k q (Zone place s rate) h)) → P (zone doc k q seen place h)
+zone_step doc k q P seen place h p zones = by_state (state_in doc seen place) (rate_in doc (mode q h) seen place) (rate_most doc (mode q h) (state_in doc seen place) (size_in place seen))
+  where
+    by_test : (s : ZoneState) (rate : ℕ) → IsRate doc rate → (b : Bool) → P (if b then h else add k q (Zone place s rate) h)
+    by_test s rate most true = p
+    by_test s rate most false = zones s rate most
+
+    by_state : (s : ZoneState) (rate : ℕ) → IsRate doc rate → P (zone_as k q place s rate h)
+    by_state s rate most = by_test s rate most (is_rated s rate (rated q place h))
+
+-- an untaint, or the swap of a node that wants this taint
+pub clean_step : (doc : Doc) (k : ℕ) (q : Identity) (P : List Entry → Type 0) (name : ℕ) (h : List Entry) → P h
+    → ((x : Version × Node) → seen_node q name h ≡ Some x → P (add_untaint k q name x.0 x.1 h))
+    → ((x : Version × Node) → seen_node q name h ≡ Some x → (wanted : ℕ) → wants (is_stripped doc.settings.rules.first_sight k q name h || mode q h) x.1 ≡ Wanted wanted
+    → P (add_swap doc k q name x.0 x.1 wanted h)) → P (clean doc k q name h)
+clean_step doc k q P name h p untaints swaps = by_stale (is_stale q (node_key name) h) (seen_node q name h) refl
+  where
+    by_untaint : (x : Version × Node) → seen_node q name h ≡ Some x → (b : Bool) → P (if b then add_untaint k q name x.0 x.1 h else h)
+    by_untaint x is false = p
+    by_untaint x is true = untaints x is
+
+    by_swap : (x : Version × Node) (wanted : ℕ) → P (add_swap doc k q name x.0 x.1 wanted h) → (b : Bool) → P (if b then add_swap doc k q name x.0 x.1 wanted h else h)
+    by_swap x wanted swapped false = p
+    by_swap x wanted swapped true = swapped
+
+    by_wants : (x : Version × Node) → seen_node q name h ≡ Some x → (w : Wants) → wants (is_stripped doc.settings.rules.first_sight k q name h || mode q h) x.1 ≡ w → P (clean_as doc k q name x.0 x.1 w h)
+    by_wants x is Nothing want = by_untaint x is (has_condition x.1)
+    by_wants x is (Wanted wanted) want = by_swap x wanted (swaps x is wanted want) (list_any (is_opposite wanted) x.1.taints)
+    by_wants x is Whatever want = p
+
+    by_stale : (b : Bool) (o : Option (Version × Node)) → seen_node q name h ≡ o → P (clean_seen doc k q name b o h)
+    by_stale true o is = p
+    by_stale false None is = p
+    by_stale false (Some x) is = by_wants x is (wants (is_stripped doc.settings.rules.first_sight k q name h || mode q h) x.1) refl
+
+-- a zone's head, whose node waits for this taint
+pub taint_step : (doc : Doc) (k : ℕ) (q : Identity) (P : List Entry → Type 0) (place : Place) (h : List Entry) → P h
+    → ((name wanted : ℕ) (x : Version × Node) → has_token doc q k place h ≡ true → waits q place name h ≡ Some wanted → seen_node q name h ≡ Some x → P (taint_as doc k q place name (Some wanted) (Some x) h)) → P (taint doc k q place h)
+taint_step doc k q P place h p heads = by_token (has_token doc q k place h) refl
+  where
+    by_seen : has_token doc q k place h ≡ true → (name : ℕ) (w : Option ℕ) → waits q place name h ≡ w → (o : Option (Version × Node)) → seen_node q name h ≡ o → P (taint_as doc k q place name w o h)
+    by_seen token name None waiting o is = p
+    by_seen token name (Some wanted) waiting None is = p
+    by_seen token name (Some wanted) waiting (Some x) is = heads name wanted x token waiting is
+
+    by_head : has_token doc q k place h ≡ true → (o : Option Queued) → P (taint_head doc k q place o h)
+    by_head token None = p
+    by_head token (Some head) = by_seen token head.1 (waits q place head.1 h) refl (seen_node q head.1 h) refl
+
+    by_token : (b : Bool) → has_token doc q k place h ≡ b → P (if b then taint_first doc k q place h else h)
+    by_token false token = p
+    by_token true token = by_head token (head_of q place (node_names h) h)
+
+-- ---- what each entry of a phase keeps, the phase keeps
+
+-- a mark leaves the heartbeat
+marked_heartbeat : (at : ℕ) (o : Option Ready) → (marked at o).heartbeat ≡ ready_heartbeat o
+marked_heartbeat at None = refl
+marked_heartbeat at (Some r) = refl
+
+-- so does a swap of a pass
+crossed_heartbeat : (new : Bool) (taint : Taint) (node : Node) → ready_heartbeat (crossed new taint node).ready ≡ ready_heartbeat node.ready
+crossed_heartbeat true taint node = refl
+crossed_heartbeat false taint node = refl
+
+module _ (doc : Doc) (k : ℕ) (q : Identity) (P : List Entry → Type 0) where
+  pub kept_sync : ((h : List Entry) → P h → P (add k q Sync h)) → (h : List Entry) → P h → P (sync doc k q h)
+  kept_sync more h p = by_test (has_settled doc k q h && (watches doc q.process h && not (is_fresh q h)))
+    where
+      by_test : (b : Bool) → P (if b then add k q Sync h else h)
+      by_test true = more h p
+      by_test false = p
+
+  -- a pass, of what its entry and the rest keep
+  pub kept_pass : ((h : List Entry) → P h → P (add k q Pass h)) → ((h : List Entry) → P h → P (set_zones doc k q (set_mode doc k q (marks doc k q h)))) → (h : List Entry) → P h → P (pass doc k q h)
+  kept_pass passes rest h p = by_test (is_pass_due doc k q h)
+    where
+      by_test : (b : Bool) → P (if b then whole_pass doc k q h else h)
+      by_test false = p
+      by_test true = rest (add k q Pass h) (passes h p)
+
+  -- a tick, of what its phases keep
+  pub kept_tick : ((h : List Entry) → P h → P (sync doc k q h)) → ((h : List Entry) → P h → P (pass doc k q h)) → ((h : List Entry) → P h → P (cleaned doc k q h))
+      → ((h : List Entry) → P h → P (tainted doc k q h)) → ((h : List Entry) → P h → P (evicted doc k q h)) → (h : List Entry) → P h → P (tick doc k q h)
+  kept_tick syncs passes cleans taints evicts h p = by_test (is_synced q (sync doc k q h))
+    where
+      by_test : (b : Bool) → P (if b then phases doc k q (sync doc k q h) else (sync doc k q h))
+      by_test false = syncs h p
+      by_test true =
+          let a = sync doc k q h in
+          let b = pass doc k q a in
+          let c = cleaned doc k q b in
+          evicts (tainted doc k q c) (taints c (cleans b (passes a (syncs h p))))
+
+  module _ (more : (t : Tick) (h : List Entry) → is_looking t ≡ true → MadeTick doc k q t h → WritesOver q t h → P h → P (add k q t h)) where
+    kept_mark : (name : ℕ) (h : List Entry) → P h → P (mark doc k q name h)
+    kept_mark name h p =
+        mark_step doc k q P name h p
+        (λ x is. more _ h refl (x.1, is, refl) (record { node = x.1; sees = is; tried = refl; heartbeat = marked_heartbeat (whole_second (wall doc q.process k)) x.1.ready }) p)
+
+    pub kept_marks : (h : List Entry) → P h → P (marks doc k q h)
+    kept_marks h p = every (mark doc k q) P kept_mark (node_names h) h p
+
+    pub kept_mode : (h : List Entry) → P h → P (set_mode doc k q h)
+    kept_mode h p = mode_step doc k q P h p (λ on. more (Mode on) h refl tt tt p)
+
+    pub kept_zone : (seen : List Node) (place : Place) (h : List Entry) → P h → P (zone doc k q seen place h)
+    kept_zone seen place h p = zone_step doc k q P seen place h p (λ s rate most. more (Zone place s rate) h refl most tt p)
+
+    pub kept_zones : (h : List Entry) → P h → P (set_zones doc k q h)
+    kept_zones h p = every (zone doc k q (nodes q h)) P (kept_zone (nodes q h)) (places (nodes q h)) h p
+
+    -- marks, mode and zones, after the entry of the pass
+    pub kept_rest : (h : List Entry) → P h → P (set_zones doc k q (set_mode doc k q (marks doc k q h)))
+    kept_rest h p = kept_zones (set_mode doc k q (marks doc k q h)) (kept_mode (marks doc k q h) (kept_marks h p))
+
+  module _ (more : (t : Tick) (h : List Entry) → is_cleaning t ≡ true → MadeTick doc k q t h → WritesOver q t h → P h → P (add k q t h)) where
+    pub kept_clean : (name : ℕ) (h : List Entry) → P h → P (clean doc k q name h)
+    kept_clean name h p =
+        clean_step doc k q P name h p (λ x is. more _ h refl (x.1, is, refl) (record { node = x.1; sees = is; tried = refl; heartbeat = refl }) p)
+        (λ x is wanted want. more _ h refl (x.1, is, refl) (record { node = x.1; sees = is; tried = refl; heartbeat = refl }) p)
+
+    kept_judge : (x : Passed) (name : ℕ) (h : List Entry) → P h → P (judge doc k q x name h)
+    kept_judge x name h p =
+        judge_step doc k q P x name h p (λ z is. more _ h refl (z.1, is, refl) (record { node = z.1; sees = is; tried = refl; heartbeat = refl }) p)
+        (λ y z was is wanted wants. more _ h refl (z.1, is, refl) (record { node = z.1; sees = is; tried = refl; heartbeat = crossed_heartbeat (is_new doc q name x.before) (new_taint doc k q wanted) z.1 }) p)
+
+    pub kept_cleaned : (h : List Entry) → P h → P (cleaned doc k q h)
+    kept_cleaned h p = cleaned_each doc k q P kept_clean kept_judge h p
+
+  module _ (more : (t : Tick) (h : List Entry) → is_heading t ≡ true → MadeTick doc k q t h → WritesOver q t h → P h → P (add k q t h)) where
+    kept_taint : (place : Place) (h : List Entry) → P h → P (taint doc k q place h)
+    kept_taint place h p =
+        taint_step doc k q P place h p (λ name wanted x token waiting is. more _ h refl (token, (x.1, is, refl)) (record { node = x.1; sees = is; tried = refl; heartbeat = refl }) p)
+
+    kept_push : (place : Place) (h : List Entry) → P h → P (push doc k q place h)
+    kept_push place h p =
+        push_step doc k q P place h p (λ name token. more (Skip place name) h refl token tt p)
+        (λ name x token is wanted wants. more _ h refl (token, (x.1, is, refl)) (record { node = x.1; sees = is; tried = refl; heartbeat = refl }) p)
+
+    pub kept_tainted : (h : List Entry) → P h → P (tainted doc k q h)
+    kept_tainted h p = tainted_each doc k q P kept_taint kept_push h p
 
 -- ---- the walk
 
@@ -327,111 +569,17 @@ module _ (doc : Doc) (k : ℕ) (q : Identity) (P : List Entry → Type 0) (more 
   each f Q keeps [] h all p = p
   each f Q keeps (x ∷ xs) h all p = each f Q keeps xs (f x h) all.1 (keeps x h all.0 p)
 
-  every : {A : Type 0} (f : A → List Entry → List Entry) → ((a : A) (h : List Entry) → P h → P (f a h)) → (xs : List A) (h : List Entry) → P h → P (for_each f xs h)
-  every f keeps [] h p = p
-  every f keeps (x ∷ xs) h p = every f keeps xs (f x h) (keeps x h p)
-
   pub walk_sync : (h : List Entry) → P h → P (sync doc k q h)
-  walk_sync h p = by_test (has_settled doc k q h && (watches doc q.process h && not (is_fresh q h)))
-    where
-      by_test : (b : Bool) → P (if b then add k q Sync h else h)
-      by_test true = more Sync h tt p
-      by_test false = p
-
-  walk_mark : (name : ℕ) (h : List Entry) → P h → P (mark doc k q name h)
-  walk_mark name h p = by_seen (seen_node q name h) refl
-    where
-      by_mark : (x : Version × Node) → seen_node q name h ≡ Some x → (o : Option Node) → P (mark_as k q name x.0 o h)
-      by_mark x is None = p
-      by_mark x is (Some written) = more (Mark name x.0 written (try_node q name x.0 h)) h (x.1, is, refl) p
-
-      by_seen : (o : Option (Version × Node)) → seen_node q name h ≡ o → P (mark_seen doc k q name o h)
-      by_seen None is = p
-      by_seen (Some x) is = by_mark x is (mark_of doc q k name x.1 h)
-
-  walk_mode : (h : List Entry) → P h → P (set_mode doc k q h)
-  walk_mode h p = by_mode (all_full doc (nodes q h))
-    where
-      by_test : (on b : Bool) → P (if b then h else add k q (Mode on) h)
-      by_test on true = p
-      by_test on false = more (Mode on) h tt p
-
-      by_mode : (on : Bool) → P (mode_as k q on h)
-      by_mode on = by_test on (is_same_mode on (mode q h))
-
-  walk_zone : (seen : List Node) (place : Place) (h : List Entry) → P h → P (zone doc k q seen place h)
-  walk_zone seen place h p = by_state (state_in doc seen place) (rate_in doc (mode q h) seen place) (rate_most doc (mode q h) (state_in doc seen place) (size_in place seen))
-    where
-      by_test : (s : ZoneState) (rate : ℕ) → IsRate doc rate → (b : Bool) → P (if b then h else add k q (Zone place s rate) h)
-      by_test s rate most true = p
-      by_test s rate most false = more (Zone place s rate) h most p
-
-      by_state : (s : ZoneState) (rate : ℕ) → IsRate doc rate → P (zone_as k q place s rate h)
-      by_state s rate most = by_test s rate most (is_rated s rate (rated q place h))
-
-  walk_zones : (h : List Entry) → P h → P (set_zones doc k q h)
-  walk_zones h p = every (zone doc k q (nodes q h)) (λ place g p. walk_zone (nodes q h) place g p) (places (nodes q h)) h p
+  walk_sync = kept_sync doc k q P (λ h p. more Sync h tt p)
 
   pub walk_pass : (h : List Entry) → P h → P (pass doc k q h)
-  walk_pass h p = by_test (is_pass_due doc k q h)
-    where
-      by_test : (b : Bool) → P (if b then whole_pass doc k q h else h)
-      by_test false = p
-      by_test true =
-          let passed = add k q Pass h in
-          let marked = marks doc k q passed in
-          walk_zones (set_mode doc k q marked) (walk_mode marked (every (mark doc k q) walk_mark (node_names passed) passed (more Pass h tt p)))
-
-  walk_clean : (name : ℕ) (h : List Entry) → P h → P (clean doc k q name h)
-  walk_clean name h p = by_stale (is_stale q (node_key name) h) (seen_node q name h) refl
-    where
-      by_untaint : (x : Version × Node) → seen_node q name h ≡ Some x → (b : Bool) → P (if b then add_untaint k q name x.0 x.1 h else h)
-      by_untaint x is false = p
-      by_untaint x is true = more _ h (x.1, is, refl) p
-
-      by_swap : (x : Version × Node) → seen_node q name h ≡ Some x → (wanted : ℕ) (b : Bool) → P (if b then add_swap doc k q name x.0 x.1 wanted h else h)
-      by_swap x is wanted false = p
-      by_swap x is wanted true = more _ h (x.1, is, refl) p
-
-      by_wants : (x : Version × Node) → seen_node q name h ≡ Some x → (w : Wants) → P (clean_as doc k q name x.0 x.1 w h)
-      by_wants x is Nothing = by_untaint x is (has_condition x.1)
-      by_wants x is (Wanted wanted) = by_swap x is wanted (list_any (is_opposite wanted) x.1.taints)
-      by_wants x is Whatever = p
-
-      by_stale : (b : Bool) (o : Option (Version × Node)) → seen_node q name h ≡ o → P (clean_seen doc k q name b o h)
-      by_stale true o is = p
-      by_stale false None is = p
-      by_stale false (Some x) is = by_wants x is (wants (is_stripped doc.settings.rules.first_sight k q name h || mode q h) x.1)
-
-  walk_judge : (x : Passed) (name : ℕ) (h : List Entry) → P h → P (judge doc k q x name h)
-  walk_judge x name h p =
-      judge_step doc k q P x name h p (λ z is. more _ h (z.1, is, refl) p) (λ y z was is wanted wants. more _ h (z.1, is, refl) p)
+  walk_pass = kept_pass doc k q P (λ h p. more Pass h tt p) (kept_rest doc k q P (λ t h kind made over p. more t h made p))
 
   pub walk_cleaned : (h : List Entry) → P h → P (cleaned doc k q h)
-  walk_cleaned h p = cleaned_each doc k q P walk_clean walk_judge h p
-
-  walk_taint : (place : Place) (h : List Entry) → P h → P (taint doc k q place h)
-  walk_taint place h p = by_token (has_token doc q k place h) refl
-    where
-      by_seen : has_token doc q k place h ≡ true → (name : ℕ) (wanted : Option ℕ) (o : Option (Version × Node)) → seen_node q name h ≡ o → P (taint_as doc k q place name wanted o h)
-      by_seen token name None o is = p
-      by_seen token name (Some wanted) None is = p
-      by_seen token name (Some wanted) (Some x) is = more _ h (token, (x.1, is, refl)) p
-
-      by_head : has_token doc q k place h ≡ true → (o : Option Queued) → P (taint_head doc k q place o h)
-      by_head token None = p
-      by_head token (Some head) = by_seen token head.1 (waits q place head.1 h) (seen_node q head.1 h) refl
-
-      by_token : (b : Bool) → has_token doc q k place h ≡ b → P (if b then taint_first doc k q place h else h)
-      by_token false token = p
-      by_token true token = by_head token (head_of q place (node_names h) h)
-
-  walk_push : (place : Place) (h : List Entry) → P h → P (push doc k q place h)
-  walk_push place h p =
-      push_step doc k q P place h p (λ name token. more (Skip place name) h token p) (λ name x token is wanted wants. more _ h (token, (x.1, is, refl)) p)
+  walk_cleaned = kept_cleaned doc k q P (λ t h kind made over p. more t h made p)
 
   pub walk_tainted : (h : List Entry) → P h → P (tainted doc k q h)
-  walk_tainted h p = tainted_each doc k q P walk_taint walk_push h p
+  walk_tainted = kept_tainted doc k q P (λ t h kind made over p. more t h made p)
 
   walk_evict : (pod : Key) (h : List Entry) → IsPodKey pod → HasRoom doc k q h → P h → P (evict doc k q pod h)
   walk_evict pod h kind room p = evict_step doc k q P pod h kind p (λ given node_given at a made. more (Delete pod given node_given at a) h (made, room) p)
@@ -454,12 +602,16 @@ module _ (doc : Doc) (k : ℕ) (q : Identity) (P : List Entry → Type 0) (more 
           each (evict_within doc k q) (λ x. IsPodKey x.1) walk_within (dues doc q (pod_keys h) h) h (dues_only doc q h (pod_keys h) (pods_only h)) p
 
   pub walk_tick : (h : List Entry) → P h → P (tick doc k q h)
-  walk_tick h p = by_test (is_synced q (sync doc k q h))
-    where
-      by_test : (b : Bool) → P (if b then phases doc k q (sync doc k q h) else (sync doc k q h))
-      by_test false = walk_sync h p
-      by_test true =
-          let a = sync doc k q h in
-          let b = pass doc k q a in
-          let c = cleaned doc k q b in
-          walk_evicted (tainted doc k q c) (walk_tainted c (walk_cleaned b (walk_pass a (walk_sync h p))))
+  walk_tick = kept_tick doc k q P walk_sync walk_pass walk_cleaned walk_tainted walk_evicted
+
+-- what each entry keeps that writes over what the cache has, a tick keeps
+module _ (doc : Doc) (k : ℕ) (q : Identity) (P : List Entry → Type 0) (more : (t : Tick) (h : List Entry) → WritesOver q t h → P h → P (add k q t h)) where
+  over_evict : (pod : Key) (h : List Entry) → IsPodKey pod → P h → P (evict doc k q pod h)
+  over_evict pod h kind p = evict_step doc k q P pod h kind p (λ given node_given at a made. more (Delete pod given node_given at a) h kind p)
+
+  pub over_tick : (h : List Entry) → P h → P (tick doc k q h)
+  over_tick =
+      kept_tick doc k q P (kept_sync doc k q P (λ h p. more Sync h tt p))
+      (kept_pass doc k q P (λ h p. more Pass h tt p) (kept_rest doc k q P (λ t h kind made over p. more t h over p)))
+      (kept_cleaned doc k q P (λ t h kind made over p. more t h over p))
+      (kept_tainted doc k q P (λ t h kind made over p. more t h over p)) (evicted_each doc k q P over_evict)

@@ -17,7 +17,7 @@ use Rattle.kube_objects.specs.declared.script.What.TheVariants as what
 use Rattle.kube_objects.specs.Clocks.{local, wall}
 use Rattle.kube_objects.specs.Document.{Doc, processes, is_controller, is_up_first}
 use Rattle.kube_objects.specs.Elector.{Follow, Fails, Asks, Succeeds, follow_on, leads, deadline, timer, attempt, release as releases_of, acts, acts_by, acts_on, shown, release_from}
-use Rattle.kube_objects.specs.Entry.{Entry, Identity, Call, CallKind, Plain, Fast, Release, Look, Emptying, Fact, Event as Happens, Starts, Crashes, Stops, Stalls, Ends, ReleaseBegins, ReleaseStops, Delivers, Expires, Leads, Ticks, actor_of, entry, script_entry}
+use Rattle.kube_objects.specs.Entry.{Entry, Identity, Call, CallKind, Plain, Fast, Release, Look, Emptying, Fact, Event as Happens, Starts, Crashes, Stops, Stalls, Ends, ReleaseBegins, ReleaseStops, Delivers, Expires, Sends, Leads, Ticks, actor_of, entry, script_entry}
 use Rattle.kube_objects.specs.Identities.{identity}
 use Rattle.kube_objects.specs.Kubelet.{node_of, is_post, has_round, next_request, post, send_next, is_post_call, round_if, is_round_due, round_timer, round}
 use Rattle.kube_objects.specs.Newest.{has, only_if}
@@ -278,6 +278,22 @@ all_turns doc A P more = record {
   seeks = λ k p i call h role up awake expired late s. more k _ h refl refl (tt, refl, tt) s;
   posts = λ k p i h role up awake none s. more k _ h refl refl (tt, refl, tt) s;
   ticks = λ k q h acting s. walk_tick doc k q (P k) (λ t g made s. more k _ g refl refl (tt, tt, tt) s) h s;
+}
+
+-- a property that only a tick may touch
+pub ticked_turns : (doc : Doc) (A : Identity → ℕ → Type 0) (P : List Entry → Type 0)
+    → ((k p : ℕ) (h : List Entry) → P h → P (start k 4 p h)) → ((k : ℕ) (q : Identity) (call : Call) (h : List Entry) → P h → P (entry k 4 q (Expires call) ∷ h))
+    → ((k : ℕ) (q : Identity) (h : List Entry) → P h → P (entry k 4 q Ends ∷ h)) → ((k : ℕ) (q : Identity) (call : Call) (arrives : Option ℕ) (h : List Entry) → P h → P (entry k 4 q (Sends call arrives) ∷ h))
+    → ((k : ℕ) (q : Identity) (h : List Entry) → A q k → P h → P (tick doc k q h)) → KeepsTurn doc A (λ k h. P h)
+ticked_turns doc A P starts expires ends sends ticks = record {
+  restarts = starts;
+  expires = λ k p i call h up waits late of s. expires k (identity p i) call h s;
+  ends = λ k p i at h role up is before stop s. ends k (identity p i) h s;
+  polls = λ k p i h role up awake waits s. sends k (identity p i) _ _ h s;
+  attempts = λ k p i h role up awake waits s. sends k (identity p i) _ _ h s;
+  seeks = λ k p i call h role up awake expired late s. sends k (identity p i) _ _ h s;
+  posts = λ k p i h role up awake none s. sends k (identity p i) _ _ h s;
+  ticks = ticks;
 }
 
 -- a property that every new entry keeps, whatever its kind

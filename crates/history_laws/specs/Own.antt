@@ -1,7 +1,6 @@
--- In a document that goes by the project's own rules in all that nothing runs yet and whose store never stands still, each definition of a tick
--- that asks for a rule is the one that asks for none, where its terms settle at once, nodes are silent by the run and judged at each tick,
--- buckets start empty, its passes' writes take no time and it evicts by them too; where it elects by them, so is each of elections and of the
--- lease premise. Source: profile.
+-- In a document whose stops send a single update and whose store never stands still, each definition of a tick that asks for a rule is the one that
+-- asks for none, where its terms settle at once, nodes are silent by the run and judged at each tick, buckets start empty, its passes' writes take
+-- no time and it evicts by the project's own rules; where it elects by them too, so is each of elections and of the lease premise. Source: profile.
 use Rattle.std.specs.Prelude.{◌≡◌, ℕ, ◌+◌, ◌*◌, ◌&&◌, not, nat_lt, if◌then◌else◌, Bool, true, List, ◌∷◌}
 use Rattle.kube_objects.specs.declared.call.Reply.{Reply}
 use Rattle.kube_objects.specs.declared.key.Key.{Key}

@@ -2,6 +2,11 @@
 use Rattle.std.specs.Prelude.{◌≡◌, ◌⊎◌, List, [], ◌∷◌}
 use Rattle.kube_objects.specs.Entry.{Entry}
 
+-- one of some things
+abbrev pub Among : {A : Type 0} → A → List A → Type 0
+Among x [] = ⊥
+Among x (y ∷ ys) = (x ≡ y) ⊎ Among x ys
+
 -- an entry stands in a history
 abbrev pub In : Entry → List Entry → Type 0
 In e [] = ⊥

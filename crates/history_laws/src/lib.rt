@@ -14,7 +14,7 @@ pub fn versions_are_writes()
     ensures contents { VersionsAreContents }
 {}
 
-/// The numbers of an incarnation's requests count them, so they differ; it sends at most two requests in a beat, and at most one where a stop
+/// The numbers of an incarnation's requests count them, so they differ; it sends at most two requests in a beat, and at most one if a stop
 /// sends a single update. While a release runs a call of it waits, and of whoever is up and releases nothing none does.
 pub fn calls_are_numbered()
     ensures count { NumbersCount }
@@ -42,7 +42,7 @@ pub fn entries_are_ordered()
 {}
 
 /// In a document that goes by the project's own rules but for those of elections and of a term's first sync, and whose store never stands still,
-/// each definition of a tick that asks for a rule is the one that asks for none, where its terms settle at once; where it elects by them too, so
+/// each definition of a tick that asks for a rule is the one that asks for none, if its terms settle at once; if it elects by them too, so
 /// is each of elections and of the lease premise.
 pub fn own_rules_change_nothing()
     ensures { OwnRulesChangeNothing }

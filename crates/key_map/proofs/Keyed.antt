@@ -12,12 +12,12 @@ use Rattle.key_map.specs.Values.{shelf_of, value_at}
 use Rattle.key_map.specs.declared.map.KeyMap.{KeyMap}
 use Rattle.key_map.specs.declared.shelf.Shelf.{Shelf}
 
-then_eq : (o p : Ordering) → is_eq (ordering_then o p) ≡ (is_eq o && is_eq p)
+pub then_eq : (o p : Ordering) → is_eq (ordering_then o p) ≡ (is_eq o && is_eq p)
 then_eq Less p = refl
 then_eq Equal p = refl
 then_eq Greater p = refl
 
-number_eq : (a b : ℕ) → is_eq (nat_cmp a b) ≡ (a == b)
+pub number_eq : (a b : ℕ) → is_eq (nat_cmp a b) ≡ (a == b)
 number_eq a b = grind (arith, nat_tests)
 
 -- a namespace and a name that the order of keys doesn't tell apart are the same

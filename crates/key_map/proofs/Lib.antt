@@ -1,3 +1,4 @@
 pub mod Lists
 pub mod Shelves
 pub mod Keyed
+pub mod Pairs

@@ -6,11 +6,11 @@ use Rattle.std.proofs.lemmas.Option.{slice_get_read, slice_get_within}
 use Rattle.std.specs.HashMap.{HashMap, get, Updates}
 use Rattle.std.specs.List.{slice_get}
 use Rattle.std.specs.Map.{lookup}
+use Rattle.kube_base.proofs.Lists.{get-end, get-set_other, get-set_same}
 use Rattle.key_map.specs.declared.shelf.Row.{Row}
 use Rattle.key_map.specs.declared.shelf.Shelf.{Shelf}
 use Rattle.key_map.specs.Held.{aside, held, value_in, value_of}
 use Rattle.key_map.specs.Rows.{if_for, is_for, own_row, place_in, place_of}
-use Rattle.key_map.proofs.Lists.{get_last, get_set_other, get_set_same}
 
 -- ---- tests
 
@@ -97,7 +97,7 @@ module _ {V : Type 0} where
           within (Some r) e h = slice_get_within rows i r e
 
       written : slice_get (set rows i row) i ≡ Some row
-      written = get_set_same rows i row here
+      written = get-set_same rows i row here
 
       by_same : (t : Bool) → same a b s n ≡ t → value_in (set rows i row) (own_row places (set rows i row) s n) w ≡ cond t row.value (value_in rows (own_row places rows s n) w)
       by_same true e =
@@ -112,11 +112,11 @@ module _ {V : Type 0} where
               ap (λ t. value_in (set rows i row) (cond t (Some j) None) w) (ap (λ k. is_for (slice_get (set rows i row) k) s n) f ∙ ap (λ o. is_for o s n) written ∙ is_not_for (Some row) a b s n is e)
               ∙ sym (ap (λ t. value_in rows (cond t (Some j) None) w) (ap (λ k. is_for (slice_get rows k) s n) f ∙ is_not_for (slice_get rows i) a b s n (own_is places rows a b i own).1 e))
           by_row j (inr ne) =
-              ap (λ t. value_in (set rows i row) (cond t (Some j) None) w) (ap (λ o. is_for o s n) (get_set_other rows i j row ne))
+              ap (λ t. value_in (set rows i row) (cond t (Some j) None) w) (ap (λ o. is_for o s n) (get-set_other rows i j row ne))
               ∙ by_test (is_for (slice_get rows j) s n)
             where
               by_test : (t : Bool) → value_in (set rows i row) (cond t (Some j) None) w ≡ value_in rows (cond t (Some j) None) w
-              by_test true = ap value_of (get_set_other rows i j row ne)
+              by_test true = ap value_of (get-set_other rows i j row ne)
               by_test false = refl
 
           by_place : (o : Option ℕ) → value_in (set rows i row) (if_for (set rows i row) o s n) w ≡ value_in rows (if_for rows o s n) w
@@ -146,7 +146,7 @@ module _ {V : Type 0} where
       more = rows ++ row ∷ []
 
       at_last : is_for (slice_get more (length rows)) s n ≡ same row.space row.name s n
-      at_last = ap (λ o. is_for o s n) (get_last rows row)
+      at_last = ap (λ o. is_for o s n) (get-end rows row)
 
       by_name : (t : Bool) → (row.name == n) ≡ t
           → value_in more (own_row wider more s n) w ≡ cond (same row.space row.name s n) row.value (value_in rows (own_row places rows s n) w)
@@ -160,7 +160,7 @@ module _ {V : Type 0} where
           bare = subst (λ m. place_in places m ≡ None) (grind (arith, nat_tests, e)) none
 
           by_test : (t : Bool) → value_in more (cond t (Some (length rows)) None) w ≡ cond t row.value w
-          by_test true = ap value_of (get_last rows row)
+          by_test true = ap value_of (get-end rows row)
           by_test false = refl
       by_name false e =
           ap (λ o. value_in more (if_for more o s n) w) (wide n ∙ ap (λ t. cond t (Some (length rows)) (place_in places n)) e)

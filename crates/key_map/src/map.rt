@@ -30,7 +30,7 @@ impl<V> KeyMap<V> {
         }
     }
 
-    /// The value under a key; None exactly where there is none.
+    /// The value under a key; None exactly if there is none.
     pub fn get(&self, key: &Key) -> Option<&V>
         ensures { option_copied result ≡ value_at self.now key.now }
     {
@@ -49,7 +49,7 @@ impl<V> KeyMap<V> {
 }
 
 impl<V: Drop> KeyMap<V> {
-    /// Puts a value under a key, and answers what was there. Where memory is wanting nothing changes, and nothing is under the key.
+    /// Puts a value under a key, and returns what was there. If memory runs out nothing changes, and nothing is under the key.
     pub fn insert(&mut self, key: Key, value: V) -> Result<Option<V>, NoMemory>
         ensures old { IfOk result (λ old. old ≡ value_at self.old key) }
         ensures put { OnOk result ((k : Key) → value_at self.new k ≡ (if key_eq key k then Some value else value_at self.old k)) }
@@ -63,7 +63,7 @@ impl<V: Drop> KeyMap<V> {
         }
     }
 
-    /// Takes out what is under a key, and answers it; None exactly where there is nothing.
+    /// Takes out what is under a key, and returns it; None exactly if there is nothing.
     pub fn remove(&mut self, key: &Key) -> Option<V>
         ensures old { result ≡ value_at self.old key.now }
         ensures taken { (k : Key) → value_at self.new k ≡ (if key_eq key.now k then None else value_at self.old k) }

@@ -6,7 +6,7 @@ use kube_base::NoMemory;
 use std::alloc::Global;
 use std::collections::HashMap;
 
-/// The one namespace and name that a row is for, and their value, where there is one.
+/// The one namespace and name that a row is for, and their value, if there is one.
 #[derive(Drop)]
 struct Row<V> {
     space: u32,
@@ -98,7 +98,7 @@ impl<V> Shelf<V> {
         }
     }
 
-    /// The value under a namespace and a name; None exactly where there is none.
+    /// The value under a namespace and a name; None exactly if there is none.
     pub(crate) fn get(&self, space: u32, name: u32) -> Option<&V>
         ensures { option_copied result ≡ held self.now space name }
     {
@@ -112,7 +112,7 @@ impl<V> Shelf<V> {
 impl<V: Drop> Shelf<V> {
     ghost use Rattle.key_map.specs.Held.{held};
 
-    /// Puts a value under a namespace and a name, and answers what was there. Where memory is wanting nothing changes, and nothing is there.
+    /// Puts a value under a namespace and a name, and returns what was there. If memory runs out nothing changes, and nothing is there.
     pub(crate) fn insert(&mut self, space: u32, name: u32, value: V) -> Result<Option<V>, NoMemory>
         ensures old { IfOk result (λ old. old ≡ held self.old space name) }
         ensures put { OnOk result ((s n : ℕ)
@@ -126,7 +126,7 @@ impl<V: Drop> Shelf<V> {
         }
     }
 
-    /// Takes out what is under a namespace and a name, and answers it; None exactly where there is nothing.
+    /// Takes out what is under a namespace and a name, and returns it; None exactly if there is nothing.
     pub(crate) fn remove(&mut self, space: u32, name: u32) -> Option<V>
         ensures old { result ≡ held self.old space name }
         ensures taken { (s n : ℕ) → held self.new s n ≡ (if (space == s) && (name == n) then None else held self.old s n) }

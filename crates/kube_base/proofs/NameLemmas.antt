@@ -130,6 +130,23 @@ held-IsUtf8 (n ∷ ns) zero text all e =
     subst IsUtf8 same (IsUtf8-from_is_utf8 n (both (is_utf8 n) (list_all is_utf8 ns) all).0)
 held-IsUtf8 (n ∷ ns) (suc i) text all e = held-IsUtf8 ns i text (both (is_utf8 n) (list_all is_utf8 ns) all).1 e
 
+-- a text that isn't UTF-8 is nowhere
+absent_place : (names : List (List ℕ)) (text : List ℕ) → list_all is_utf8 names ≡ true → (IsUtf8 text → ⊥) → position_or_len (bytes_eq text) names ≡ length names
+absent_place [] text all wrong = refl
+absent_place (n ∷ ns) text all wrong = by (bytes_eq text n) refl (absent_place ns text (both (is_utf8 n) (list_all is_utf8 ns) all).1 wrong)
+  where
+    by : (b : Bool) → bytes_eq text n ≡ b → position_or_len (bytes_eq text) ns ≡ length ns → cond (not (bytes_eq text n)) (1 + position_or_len (bytes_eq text) ns) 0 ≡ length (n ∷ ns)
+    by false e rest = rw (e, rest) (omega arith)
+    by true e rest =
+        let same : text ≡ n = (bytes_eq-Decides text n).0 e in
+        absurd (wrong (subst IsUtf8 (sym same) (IsUtf8-from_is_utf8 n (both (is_utf8 n) (list_all is_utf8 ns) all).0)))
+
+pub number_of-absent : (names : List (List ℕ)) (text : List ℕ) → list_all is_utf8 names ≡ true → (IsUtf8 text → ⊥) → number_of names text ≡ None
+unfolding number_of
+number_of-absent names text all wrong =
+    let past : nat_lt (length names) (length names) ≡ false = grind arith in
+    rw (absent_place names text all wrong, past) refl
+
 -- the fixed names, numbered one after another
 abbrev pub ten_names : List (List ℕ)
 ten_names =

@@ -8,6 +8,7 @@ mod name;
 mod name_hash;
 mod names;
 mod numbers;
+mod shared_list;
 mod steps;
 mod times;
 
@@ -21,5 +22,6 @@ pub use name::Name;
 pub use name_hash::NameHash;
 pub use names::Names;
 pub use numbers::{Beat, Local, NodeId, ProcId, Version, Wall};
+pub use shared_list::SharedList;
 pub use steps::Steps;
 pub use times::{read_time, whole_second, write_micros, write_seconds};

@@ -42,6 +42,13 @@ impl<T> ListOf<T> {
     {
         self.items.as_slice()
     }
+
+    /// The allocator, and the items in order.
+    pub(crate) fn into_items(self) -> (Global, Vec<T>)
+        ensures { result.1.items ≡ self }
+    {
+        (self.alloc, self.items)
+    }
 }
 
 impl<T: Drop> ListOf<T> {
@@ -56,6 +63,14 @@ impl<T: Drop> ListOf<T> {
 }
 
 impl<T: Copy + Drop> ListOf<T> {
+    /// These items.
+    pub fn of(alloc: Global, items: &[T]) -> Result<ListOf<T>, NoMemory>
+        ensures { IfOk result (λ list. list ≡ items.now) }
+    {
+        let items = Vec::from_slice(alloc, items)?;
+        Ok(ListOf { alloc, items })
+    }
+
     /// A copy equals its source.
     pub fn copy(&self) -> Result<ListOf<T>, NoMemory>
         ensures { IfOk result (λ copy. copy ≡ self.now) }

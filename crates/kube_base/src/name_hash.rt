@@ -7,7 +7,7 @@ use std::hash::{BuildHasher, DefaultHasher, Hasher};
 /// What hashes the names of a table: SipHash-1-3 (Aumasson and Bernstein, "SipHash: a fast short-input PRF"), begun from a key of 64 bits.
 ///
 /// A key of the input in which the names stand is for names that a stranger chooses: another name gives another key, by which all names are
-/// hashed anew. A table answers the same under any key: no contract of a table speaks of its hash, since none speaks of time.
+/// hashed anew. A table returns the same under any key: no contract of a table speaks of its hash, since none speaks of time.
 #[derive(Clone, Copy)]
 pub struct NameHash {
     /// The hasher behind the key, from which each hash begins.

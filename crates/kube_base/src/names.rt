@@ -1,5 +1,5 @@
 // Numbers for names.
-ghost use Rattle.std.specs.Prelude.{◌≡◌, ◌<◌, ◌-◌, ◌^◌, length, map, slice_get, option_copied, IfOk, IfSome, OnOk, OnErr};
+ghost use Rattle.std.specs.Prelude.{◌≡◌, ◌<◌, ◌-◌, ◌^◌, length, map, slice_get, option_copied, string_bytes, IfOk, IfSome, OnOk, OnErr};
 ghost use Rattle.std.specs.Str.{IsUtf8};
 ghost use Rattle.kube_base.specs.Names.{fixed_names, number_of, number_in, with_name, AreNames, EachOnce};
 
@@ -14,18 +14,18 @@ use std::marker::Model;
 #[derive(Drop)]
 pub struct Names {
     alloc: Global,
-    texts: IndexSet<Vec<u8>, NameHash>,
+    texts: IndexSet<String, NameHash>,
 }
 
 impl Model for Names {
-    ghost use Rattle.std.specs.Prelude.{ℕ, List, map};
+    ghost use Rattle.std.specs.Prelude.{ℕ, List, map, string_bytes};
     ghost use Rattle.kube_base.specs.Names.{AreNames};
 
     ghost Value = { List (List ℕ) };
 
-    ghost view = { λ n. map (λ text. text.items) n.texts.keys };
+    ghost view = { λ n. map string_bytes n.texts.keys };
 
-    ghost invariant = { λ n. AreNames (map (λ text. text.items) n.texts.keys) };
+    ghost invariant = { λ n. AreNames (map string_bytes n.texts.keys) };
 }
 
 impl Names {
@@ -41,16 +41,16 @@ impl Names {
         ensures { IfOk result (λ names. names ≡ fixed_names) }
     {
         let mut texts = IndexSet::with_hasher(alloc, hash);
-        add(alloc, &mut texts, b"")?;
-        add(alloc, &mut texts, b"KubeletReady")?;
-        add(alloc, &mut texts, b"KubeletNotReady")?;
-        add(alloc, &mut texts, b"NodeStatusUnknown")?;
-        add(alloc, &mut texts, b"NodeStatusNeverUpdated")?;
-        add(alloc, &mut texts, b"node.kubernetes.io/not-ready")?;
-        add(alloc, &mut texts, b"node.kubernetes.io/unreachable")?;
-        add(alloc, &mut texts, b"kube-system")?;
-        add(alloc, &mut texts, b"kube-controller-manager")?;
-        add(alloc, &mut texts, b"kube-node-lease")?;
+        add(alloc, &mut texts, "")?;
+        add(alloc, &mut texts, "KubeletReady")?;
+        add(alloc, &mut texts, "KubeletNotReady")?;
+        add(alloc, &mut texts, "NodeStatusUnknown")?;
+        add(alloc, &mut texts, "NodeStatusNeverUpdated")?;
+        add(alloc, &mut texts, "node.kubernetes.io/not-ready")?;
+        add(alloc, &mut texts, "node.kubernetes.io/unreachable")?;
+        add(alloc, &mut texts, "kube-system")?;
+        add(alloc, &mut texts, "kube-controller-manager")?;
+        add(alloc, &mut texts, "kube-node-lease")?;
         Ok(Names { alloc, texts })
     }
 
@@ -64,25 +64,47 @@ impl Names {
     }
 
     /// The number of the name. A new name gets the next number.
-    pub fn number(&mut self, bytes: &[u8]) -> Result<u32, NoMemory>
+    pub fn number(&mut self, text: &str) -> Result<u32, NoMemory>
         requires few { length self.old < 2 ^ 32 - 1 }
-        requires text { IsUtf8 bytes.now }
-        ensures number { IfOk result (λ number. number ≡ number_in self.old bytes.now) }
-        ensures held { OnOk result (self.new ≡ with_name self.old bytes.now) }
+        ensures number { IfOk result (λ number. number ≡ number_in self.old text.now) }
+        ensures held { OnOk result (self.new ≡ with_name self.old text.now) }
         ensures err { OnErr result (self.new ≡ self.old) }
     {
-        if let Some(index) = self.texts.get_index_of(bytes) {
+        if let Some(index) = self.texts.get_index_of(text) {
             return Ok(index as u32);
         }
-        let index = add(self.alloc, &mut self.texts, bytes)?;
+        let index = add(self.alloc, &mut self.texts, text)?;
         Ok(index as u32)
+    }
+
+    /// The same of a name that is handed over: a new one is kept as it is, with no copy.
+    pub fn number_given(&mut self, text: String) -> Result<u32, NoMemory>
+        requires few { length self.old < 2 ^ 32 - 1 }
+        ensures number { IfOk result (λ number. number ≡ number_in self.old (string_bytes text)) }
+        ensures held { OnOk result (self.new ≡ with_name self.old (string_bytes text)) }
+        ensures err { OnErr result (self.new ≡ self.old) }
+    {
+        let (index, _) = self.texts.insert_full(text)?;
+        Ok(index as u32)
+    }
+
+    /// Makes room for so many more names beforehand, so that their table needn't grow step by step.
+    pub fn make_room(&mut self, more: usize) -> Result<(), NoMemory>
+        ensures { self.new ≡ self.old }
+    {
+        self.texts.reserve(more)?;
+        Ok(())
     }
 
     /// The number of a name that is held.
     pub fn find(&self, bytes: &[u8]) -> Option<u32>
         ensures { result ≡ number_of self.now bytes.now }
     {
-        match self.texts.get_index_of(bytes) {
+        let texts = &self.texts;
+        let Ok(text) = str::from_utf8(bytes) else {
+            return None;
+        };
+        match texts.get_index_of(text) {
             Some(index) => Some(index as u32),
             None => None,
         }
@@ -94,23 +116,19 @@ impl Names {
         ensures utf8 { IfSome result (λ bytes. IsUtf8 bytes.now) }
     {
         match self.texts.get_index(number as usize) {
-            Some(text) => Some(text.as_slice()),
+            Some(text) => Some(text.as_bytes()),
             None => None,
         }
     }
 }
 
 /// Adds a text, and tells its place.
-fn add(
-    alloc: Global,
-    texts: &mut IndexSet<Vec<u8>, NameHash>,
-    text: &[u8],
-) -> Result<usize, NoMemory>
-    ensures place { IfOk result (λ place. place ≡ number_in (map (λ t. t.items) texts.old.keys) text.now) }
-    ensures held { OnOk result (map (λ t. t.items) texts.new.keys ≡ with_name (map (λ t. t.items) texts.old.keys) text.now) }
-    ensures err { OnErr result (map (λ t. t.items) texts.new.keys ≡ map (λ t. t.items) texts.old.keys) }
+fn add(alloc: Global, texts: &mut IndexSet<String, NameHash>, text: &str) -> Result<usize, NoMemory>
+    ensures place { IfOk result (λ place. place ≡ number_in (map string_bytes texts.old.keys) text.now) }
+    ensures held { OnOk result (map string_bytes texts.new.keys ≡ with_name (map string_bytes texts.old.keys) text.now) }
+    ensures err { OnErr result (map string_bytes texts.new.keys ≡ map string_bytes texts.old.keys) }
 {
-    let owned = Vec::from_slice(alloc, text)?;
+    let owned = String::from_str(alloc, text)?;
     let (index, _) = texts.insert_full(owned)?;
     Ok(index)
 }
@@ -128,7 +146,7 @@ mod tests {
         assert_eq!(rt; names.len(), 10);
         for (text, wanted) in [("n1", 10), ("n1", 10), ("", 0), ("kube-system", 7)] {
             assert!(rt; names.len() < 12);
-            let number = names.number(text.as_bytes()).ok().ok_or("memory")?;
+            let number = names.number(text).ok().ok_or("memory")?;
             assert_eq!(rt; number, wanted, "{text}");
         }
         assert_eq!(rt; names.find(b"n1"), Some(10));

@@ -15,7 +15,7 @@ use std::alloc::Global;
 /// The time of a text `YYYY-MM-DDTHH:MM:SS`, with one to nine digits after a dot if there is one, then `Z` or an offset such as
 /// `+05:30`. Digits after the sixth are dropped.
 ///
-/// `None` exactly where the text has another form, the calendar has no such date, or the instant lies outside 1970 to 2261.
+/// `None` exactly if the text has another form, the calendar has no such date, or the instant lies outside 1970 to 2261.
 #[tactic(auto, unfolding(crate::specs::Times::time_of))]
 pub fn read_time(text: &[u8]) -> Option<Wall>
     ensures { result ≡ time_of text.now }
@@ -269,7 +269,7 @@ fn other(text: &[u8]) -> Option<usize>
     text.iter().position(|byte| !byte.is_ascii_digit())
 }
 
-/// A digit of the fraction, 0 where it is missing.
+/// A digit of the fraction, 0 if it is missing.
 #[tactic(auto, unfolding(crate::specs::Times::fraction_digit))]
 fn fraction_digit(text: &[u8], digits: usize, place: usize) -> u32
     requires { place < 6 }

@@ -9,7 +9,7 @@ pub enum Actor {
     Proc(ProcId, u32),
 }
 
-/// What was done. The last number of `Create` and `Update` is the transitions of the written Lease, 0 where it has none.
+/// What was done. The last number of `Create` and `Update` is the transitions of the written Lease, 0 if it has none.
 #[derive(Clone, Copy, Debug, PartialEq, Eq)]
 pub enum Act {
     Start,

@@ -25,7 +25,7 @@ pub trait Feed {
     fn change(&self, position: u64) -> Option<Key>
         ensures { result ≡ slice_get (changed self.now) position };
 
-    /// The object stored now under a key. None exactly where the key isn't stored.
+    /// The object stored now under a key. None exactly if the key isn't stored.
     fn object(&self, key: &Key) -> Option<(Version, &Object)>
         ensures { shown_pair result ≡ shown self.now key.now };
 
@@ -60,7 +60,7 @@ pub trait Changed {
     fn key(&self, place: u64) -> Option<Key>
         ensures { result ≡ slice_get (keys self.now) place };
 
-    /// The object stored now under the key at a place. None exactly from `count` on, or where that key isn't stored.
+    /// The object stored now under the key at a place. None exactly from `count` on, or if that key isn't stored.
     fn object(&self, place: u64) -> Option<(Version, &Object)>
         ensures { shown_pair result ≡ shown_at (shown self.now) (slice_get (keys self.now) place) };
 

@@ -24,7 +24,7 @@ pub use key::{Key, KeyList, Kind, NumberList, order};
 pub use lease::{Holder, Lease};
 pub use node::{Effect, Node, Ready, ReadyStatus, Taint, Taints, ZoneState};
 pub use object::{Items, Object};
-pub use pod::{Bears, Due, DueList, Operator, Pod, Toleration, Tolerations};
+pub use pod::{Bears, Due, DueList, Operator, Pod, Toleration, TolerationList, Tolerations};
 pub use rules::{
     BucketRule, EvictRule, JudgeRule, ProbeRule, QueueRule, ReleaseActing, ReleaseRule,
     RespectRule, RetryRule, Rules, SightRule,

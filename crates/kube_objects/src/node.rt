@@ -40,7 +40,7 @@ pub struct Taint {
 /// A node's taints in order.
 pub type Taints = ListOf<Taint>;
 
-/// A Node. Region and zone are the numbers of its label values, 0 where it has none.
+/// A Node. Region and zone are the numbers of its label values, 0 if it has none.
 #[derive(Debug, Drop)]
 pub struct Node {
     pub region: u32,

@@ -2,7 +2,7 @@
 ghost use Rattle.std.specs.Prelude.{◌≡◌, IfOk};
 
 use crate::{Effect, Key};
-use kube_base::{ListOf, NoMemory};
+use kube_base::{ListOf, NoMemory, SharedList};
 
 /// How a toleration compares its value.
 #[derive(Clone, Copy, Debug, PartialEq, Eq)]
@@ -21,10 +21,13 @@ pub struct Toleration {
     pub seconds: Option<i64>,
 }
 
-/// A pod's tolerations in order.
-pub type Tolerations = ListOf<Toleration>;
+/// A pod's tolerations in order. Pods of one set share theirs.
+pub type Tolerations = SharedList<Toleration>;
 
-/// A Pod. Its node is the number of a name, 0 where it is not scheduled.
+/// Tolerations in order, which can be added.
+pub type TolerationList = ListOf<Toleration>;
+
+/// A Pod. Its node is the number of a name, 0 if it is not scheduled.
 #[derive(Debug, Drop)]
 pub struct Pod {
     pub node: u32,

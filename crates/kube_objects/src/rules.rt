@@ -3,7 +3,7 @@ ghost use Rattle.std.specs.Prelude.{◌≡◌};
 ghost use Rattle.kube_objects.specs.Rules.{own_rules};
 
 /// When a leader's attempt after a failed one comes: a retry period after it; at whole retry periods after its first failure; or after its first
-/// attempt, at once where one came meanwhile. A candidate goes by its waits under each.
+/// attempt, at once if one came meanwhile. A candidate goes by its waits under each.
 #[derive(Clone, Copy)]
 pub enum RetryRule {
     After,
@@ -103,7 +103,7 @@ pub struct Rules {
 }
 
 impl Rules {
-    /// The project's own rules, which hold where a document says nothing else.
+    /// The project's own rules, which hold if a document says nothing else.
     pub fn own() -> Rules
         ensures { result ≡ own_rules }
     {

@@ -30,7 +30,7 @@ pub struct Settings {
     pub secondary_rate: u32,
     pub large_zone: u32,
     pub unhealthy_percent: u32,
-    /// Whether a leader renews without a Get where it can.
+    /// Whether a leader renews without a Get if it can.
     pub fast_renew: bool,
     pub rate_policy: RatePolicy,
     pub rules: Rules,

@@ -9,7 +9,7 @@ use crate::borrowed_source::BorrowedSource;
 use byte_edge::BorrowedSink;
 use kube_base::Steps;
 use replay_top::run;
-use run_edge::{Status, Verdict};
+use run_edge::Status;
 use std::alloc::Global;
 use std::sync::ledger::Blank;
 use zone_state::{Policies, full, partial};
@@ -65,15 +65,12 @@ pub(crate) fn run_in_memory(
     }
 }
 
-/// The exit status of a run in memory, whose source doesn't fail, and whose sink fails only where no memory could hold the text.
+/// The exit status of a run in memory, whose source doesn't fail, and whose sink fails only if no memory could hold the text.
 fn exit_status(status: Status) -> u32
     ensures { result ≡ exit_status_of status }
 {
     match status {
-        Status::Answered(Verdict::Done | Verdict::Safe) => 0,
-        Status::Answered(Verdict::Unsafe | Verdict::Refused) => 1,
-        Status::Answered(Verdict::Usage) => 2,
-        Status::SourceFault => 3,
-        Status::SinkFault | Status::OutOfMemory => OUT_OF_MEMORY,
+        Status::SinkFault => OUT_OF_MEMORY,
+        _ => u32::from(run_edge::exit_status(status)),
     }
 }

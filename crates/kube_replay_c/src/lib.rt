@@ -17,7 +17,7 @@ use std::alloc::Global;
 /// Words that aren't UTF-8.
 const BAD_WORDS: u32 = 6;
 
-/// Does what the words say, a text with a space between two, with the input. It answers the exit status of the program, puts the first
+/// Does what the words say, a text with a space between two, with the input. It returns the exit status of the program, puts the first
 /// bytes of what the program would write into the buffer, and tells how many were put and how many there are in all.
 #[unsafe(no_mangle)]
 pub extern "C" fn kube_replay_run(

@@ -68,8 +68,8 @@ impl Kubelet {
         }
     }
 
-    /// A turn. A call without a reply within its timeout is forgotten; where it was a post, the Get of the Lease is sent. Otherwise a
-    /// round begins, with a post of this status, where none runs and it is time. None where nothing is sent.
+    /// A turn. A call without a reply within its timeout is forgotten; if it was a post, the Get of the Lease is sent. Otherwise a
+    /// round begins, with a post of this status, if none runs and it is time. None if nothing is sent.
     pub fn on_timer(&mut self, now: Local, wall: Wall, status: ReadyStatus) -> Option<Ask>
         requires now { now.0 ≤ most_local }
         ensures same { IsSame self.old self.new }
@@ -87,8 +87,8 @@ impl Kubelet {
     }
 
     /// A reply, and what follows it. Only one to the call that waits, with its number and within its timeout, counts. A post is
-    /// followed by the Get of the Lease, whatever the reply; the Get by a Create where the Lease is absent and by an Update of the
-    /// version found. None where nothing is sent.
+    /// followed by the Get of the Lease, whatever the reply; the Get by a Create if the Lease is absent and by an Update of the
+    /// version found. None if nothing is sent.
     pub fn on_reply(&mut self, number: u64, reply: Reply, now: Local, wall: Wall) -> Option<Ask>
         requires now { now.0 ≤ most_local }
         ensures stays { counts_in self.old number now.0 ≡ false → (result ≡ None) × (self.new ≡ self.old) }
@@ -162,7 +162,7 @@ impl Kubelet {
         posted
     }
 
-    /// After a post that expired, the Get; else a round begins where none runs and it is time.
+    /// After a post that expired, the Get; else a round begins if none runs and it is time.
     fn round(&mut self, lost: bool, now: Local, wall: Wall, status: ReadyStatus) -> Option<Ask>
         requires now { now.0 ≤ most_local }
         ensures same { IsSame self.old self.new }

@@ -18,7 +18,7 @@ pub(crate) struct Attempts {
     pub(crate) place: usize,
     /// When the attempt began that is under way.
     pub(crate) began: Option<Reading>,
-    /// Where the last attempt failed, the reading from which a leader counts its retry periods.
+    /// If the last attempt failed, the reading from which a leader counts its retry periods.
     pub(crate) origin: Option<Reading>,
 }
 

@@ -60,7 +60,7 @@ impl Candidate {
         }
     }
 
-    /// A turn: a call that has expired is forgotten, then an attempt starts where it is time. It never leads. After each failed attempt
+    /// A turn: a call that has expired is forgotten, then an attempt starts if it is time. It never leads. After each failed attempt
     /// it waits by the next of its waits, in thousandths of its retry period.
     pub fn on_timer(mut self, waits: &[u32], now: Local, wall: Wall) -> CandidateNext
         requires now { now.0 ≤ most_local }
@@ -124,7 +124,7 @@ impl Candidate {
         }
     }
 
-    /// As `on_reply`, in place. Where it wins, what it kept goes into the answer, and this is one that has just started.
+    /// As `on_reply`, in place. If it wins, what it kept goes into the answer, and this is one that has just started.
     pub fn hear(
         &mut self,
         waits: &[u32],

@@ -98,7 +98,7 @@ impl Elector {
         fast
     }
 
-    /// After an update without a Get that expired, the Get; else an attempt where it is time.
+    /// After an update without a Get that expired, the Get; else an attempt if it is time.
     pub(crate) fn attempt(
         &mut self,
         expired: bool,
@@ -146,7 +146,7 @@ impl Elector {
         self.ask(Request::Get(Key::ELECTION), false, now)
     }
 
-    /// An update without a Get where the record last shown is one's own and valid.
+    /// An update without a Get if the record last shown is one's own and valid.
     fn renew(&mut self, now: Local, wall: Wall) -> Ask
         requires now { now.0 ≤ most_local }
         ensures same { IsSame self.old self.new }
@@ -196,7 +196,7 @@ impl Elector {
 
     // ---- replies
 
-    /// What a reply is followed by; None where it doesn't count. led says whether the process leads; the waits are those of a candidate.
+    /// What a reply is followed by; None if it doesn't count. led says whether the process leads; the waits are those of a candidate.
     pub(crate) fn receive(
         &mut self,
         led: bool,

@@ -45,7 +45,7 @@ pub enum ReleasingNext {
 }
 
 impl Releasing {
-    /// Begins to release what a leader had last; None where there is nothing to be asked, so that it is over as it begins.
+    /// Begins to release what a leader had last; None if there is nothing to be asked, so that it is over as it begins.
     pub(crate) fn begin(
         mut elector: Elector,
         ending: bool,
@@ -75,7 +75,7 @@ impl Releasing {
         Some((releasing, Ask { number, request }))
     }
 
-    /// A turn: the release is over where its call has expired, or where a renew deadline is over since it began.
+    /// A turn: the release is over if its call has expired, or if a renew deadline is over since it began.
     pub fn on_timer(self, now: Local) -> ReleasingNext
         requires now { now.0 ≤ most_local }
         ensures turns { (doc : Doc) (q : Identity) (h : List Entry) (k : ℕ) → ReleasingStands doc q h self
@@ -89,7 +89,7 @@ impl Releasing {
     }
 
     /// A reply. Only one to the call that waits, with its number, within its timeout and within a renew deadline, counts. A look's is
-    /// followed by the emptying where that may be; every other one ends the release. Nothing is shown by it.
+    /// followed by the emptying if that may be; every other one ends the release. Nothing is shown by it.
     pub fn on_reply(mut self, number: u64, reply: Reply, now: Local, wall: Wall) -> ReleasingNext
         requires now { now.0 ≤ most_local }
         ensures uncounted { (doc : Doc) (q : Identity) (h : List Entry) (k : ℕ)
@@ -126,7 +126,7 @@ impl Releasing {
         self
     }
 
-    /// The leadership that it has until the release is over, where it acts.
+    /// The leadership that it has until the release is over, if it acts.
     pub fn acting(&self) -> Option<Acting<'_>>
         ensures acts { (doc : Doc) (q : Identity) (h : List Entry) (k : ℕ) → ReleasingStands doc q h self.now
             → alive q.process h ≡ Some q.incarnation
@@ -243,7 +243,7 @@ impl Releasing {
     }
 }
 
-/// The update that empties what was last shown, where it is one's own.
+/// The update that empties what was last shown, if it is one's own.
 pub(crate) fn vacating(elector: &Elector, wall: Wall) -> Option<Request>
     ensures { result ≡ release_from (identity_of elector.now) wall.0 (shown_of elector.now.seen) }
 {

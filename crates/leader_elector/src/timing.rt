@@ -4,7 +4,7 @@ ghost use Rattle.std.specs.Prelude.{◌≤◌};
 use kube_objects::{ReleaseActing, ReleaseRule, RespectRule, RetryRule};
 
 /// A lease duration in seconds; renew deadline, retry period and timeout of a call in units of 10^-12 s;
-/// whether a leader renews without a Get where it can; when it tries again after a failure, and whose lease duration is respected; how it
+/// whether a leader renews without a Get if it can; when it tries again after a failure, and whose lease duration is respected; how it
 /// releases its Lease, and whether it acts meanwhile.
 #[derive(Clone, Copy)]
 pub struct Timing {

@@ -195,7 +195,8 @@ unasked doc q c k h up none s a = ⊎_elim (λ over. over.1 up) none (s.gone a)
 
 -- ---- kinds that give nothing up
 
-attempt_keeps : (doc : Doc) (q : Identity) (k : ℕ) (h : List Entry) → gives_up (attempt doc q k h).0 ≡ false
+-- an attempt gives up nothing
+pub attempt_keeps : (doc : Doc) (q : Identity) (k : ℕ) (h : List Entry) → gives_up (attempt doc q k h).0 ≡ false
 attempt_keeps doc q k h = by_test (doc.settings.fast_renew && leads q h)
   where
     by_own : (b : Bool) (x : Shown) → gives_up (cond {A = CallKind × Request} b (Fast, Update election x.0 (renewed q (moment doc q k) x.1)) (Plain, Get election)).0 ≡ false

@@ -9,8 +9,8 @@ use Rattle.kube_objects.specs.declared.rules.ReleaseRule.{ReleaseRule}
 use Rattle.kube_objects.specs.declared.rules.ReleaseRule.TheVariants as rules
 use Rattle.kube_objects.specs.Clocks.{local, wall}
 use Rattle.kube_objects.specs.Document.{Doc, processes, is_controller}
-use Rattle.kube_objects.specs.Elector.{deadline, shown, acts_by, acts_on, release_from}
-use Rattle.kube_objects.specs.Entry.{Entry, Identity, Call, CallKind, Fact, First, Event, Starts, Crashes, Stops, Stalls, Ends, ReleaseBegins, ReleaseEnds, StepsDown, ReleaseStops, Sends, Answers, Delivers, Expires, Leads, Ticks, actor_of, entry}
+use Rattle.kube_objects.specs.Elector.{deadline, shown, acts_by, release_from}
+use Rattle.kube_objects.specs.Entry.{Entry, Identity, Call, CallKind, Fact, Starts, Crashes, Stops, Ends, ReleaseBegins, ReleaseEnds, StepsDown, Expires, actor_of, entry}
 use Rattle.kube_objects.specs.Identities.{identity, is_by, of_process}
 use Rattle.kube_objects.specs.Newest.{newest, when, has, join, or_else}
 use Rattle.kube_objects.specs.Pauses.{is_paused}
@@ -22,10 +22,10 @@ use Rattle.history.specs.Steps.{if_up, restart_if, restart, expire, finish, turn
 use Rattle.history_laws.proofs.Plainly.{upper, some_is, none_is, true_is, added_more}
 use Rattle.history_laws.proofs.Lives.{Over}
 use Rattle.history_laws.proofs.Releasing.{ended_over, begun_runs}
-use Rattle.history_laws.proofs.Ticks.{walk_tick}
 use Rattle.history_laws.proofs.Walk.{StartIsNext, IsNext, IsStop, Anyone, KeepsTurn, KeepsReleaseTurn, all_turns, all_release_turns, keeps_end_as, walk_any_turn, walk_any_after_end}
 use Rattle.lease_laws.proofs.Born.{no_deadline}
 use Rattle.lease_laws.proofs.Steps.{NotPast}
+use Rattle.lease_laws.proofs.Turns.{deadline_turn}
 
 -- an incarnation that was there; if it is up its release runs
 abbrev Closed : Identity → List Entry → Type 0
@@ -72,28 +72,7 @@ closed_more q x h next s = (omega (arith, s.0, added_more (is_start x.fact && ha
     cases who Ends next = λ up. s.1 (gone_other q who (life q.process h) up).0
     cases who ReleaseEnds next = ended who
     cases who (ReleaseBegins at_deadline) next = λ up. begun (is_by q who) (s.1 up)
-    cases who StepsDown next = s.1
-    cases who ReleaseStops next = s.1
-    cases who (Stalls beats) next = s.1
-    cases who (First key object) next = s.1
-    cases who (Event what version) next = s.1
-    cases who (Sends call arrives) next = s.1
-    cases who (Answers call reply comes written) next = s.1
-    cases who (Delivers call reply counted) next = s.1
-    cases who (Expires call) next = s.1
-    cases who (Leads version) next = s.1
-    cases who (Ticks tick) next = s.1
-
--- ---- a deadline, which no turn sets
-
-module _ (doc : Doc) (k step : ℕ) (q p : Identity) where
-  deadline_and_end : (b : Bool) (h : List Entry) → deadline doc q (and_end k step p b h) ≡ deadline doc q h
-  deadline_and_end true h = refl
-  deadline_and_end false h = refl
-
-  deadline_first : (o : Option (CallKind × Request)) (h : List Entry) → deadline doc q (send_first doc k step p o h) ≡ deadline doc q h
-  deadline_first None h = deadline_and_end (acts_on doc p h) h
-  deadline_first (Some call) h = refl
+    cases who d next = s.1
 
 -- the incarnation is over or releases, or its deadline isn't past
 abbrev Timely : Doc → ℕ → Identity → List Entry → Type 0
@@ -105,37 +84,9 @@ closed_turns doc q = all_turns doc Anyone (λ k h. Closed q h) (λ k x h beat st
 closed_release : (doc : Doc) (q : Identity) → KeepsReleaseTurn doc (λ k h. Closed q h)
 closed_release doc q = all_release_turns doc (λ k h. Closed q h) (λ k x h beat step next s. closed_more q x h next s)
 
--- a deadline that isn't past a reading
-module _ (doc : Doc) (q : Identity) (n : ℕ) where
-  abbrev Until : List Entry → Type 0
-  Until h = IfSome (deadline doc q h) (λ d. n ≤ d)
-
-  same_until : (g h : List Entry) → deadline doc q g ≡ deadline doc q h → Until h → Until g
-  same_until g h same s = subst (λ o. IfSome o (λ d. n ≤ d)) (sym same) s
-
-  until_turns : KeepsTurn doc Anyone (λ k h. Until h)
-  until_turns = record {
-    restarts = λ k p h s. s;
-    expires = λ k p i call h up waits late of s. s;
-    ends = λ k p i at h role up is before stop s. s;
-    polls = λ k p i h role up awake waits s. s;
-    attempts = λ k p i h role up awake waits s. s;
-    seeks = λ k p i call h role up awake expired late s. s;
-    posts = λ k p i h role up awake none s. s;
-    ticks = λ k p h acting s. walk_tick doc k p Until (λ t g made s. s) h s;
-  }
-
-  until_release : KeepsReleaseTurn doc (λ k h. Until h)
-  until_release = record {
-    closes = λ k p i begun call h up waits late of s. same_until (end_release doc k 4 (identity p i) h) h (deadline_and_end doc k 4 q (identity p i) (acts_on doc (identity p i) h) h) s;
-    begins = λ k p i at h role up awake is before other fresh s.
-        let r = identity p i in
-        let g = and_end k 4 r (not (acts_by doc.settings.rules.in_release true)) h in
-        same_until (begin_release doc k 4 r true g) h
-        (deadline_first doc k 4 q r (first_call doc.settings.rules.release k (release_from r (wall doc r.process k) (shown r g))) (entry k 4 r (ReleaseBegins true) ∷ g)
-        ∙ deadline_and_end doc k 4 q r (not (acts_by doc.settings.rules.in_release true)) h)
-        s;
-  }
+-- no turn sets a deadline
+until_turn : (doc : Doc) (q : Identity) (n k p : ℕ) (h : List Entry) → IfSome (deadline doc q h) (λ d. n ≤ d) → IfSome (deadline doc q (turn doc k p h)) (λ d. n ≤ d)
+until_turn doc q n k p h s = subst (λ o. IfSome o (λ d. n ≤ d)) (sym (deadline_turn doc q k p h)) s
 
 -- ---- the own turn
 
@@ -219,7 +170,7 @@ module _ (doc : Doc) (k : ℕ) (q : Identity) (role : is_controller doc q.proces
       h = at_turn doc q.process k
 
       until : IfSome (deadline doc q h) (λ d. local doc q.process k ≤ d) → Timely doc k q (turn doc k q.process h)
-      until s = inr (walk_any_turn doc (λ j g. Until doc q (local doc q.process k) g) (until_turns doc q (local doc q.process k)) (until_release doc q (local doc q.process k)) k q.process h s)
+      until s = inr (until_turn doc q (local doc q.process k) k q.process h s)
 
       closed : Closed q h → Timely doc k q (turn doc k q.process h)
       closed s = inl (walk_any_turn doc (λ j g. Closed q g) (closed_turns doc q) (closed_release doc q) k q.process h s)
@@ -252,7 +203,7 @@ module _ (doc : Doc) (k : ℕ) (q : Identity) (role : is_controller doc q.proces
       let p = suc q.process + n in
       subst (λ m. Timely doc k q (turns doc k m h)) e
       (⊎_elim (λ c. inl (walk_any_turn doc (λ j g. Closed q g) (closed_turns doc q) (closed_release doc q) k p (turns doc k p h) c))
-      (λ u. inr (walk_any_turn doc (λ j g. Until doc q (local doc q.process k) g) (until_turns doc q (local doc q.process k)) (until_release doc q (local doc q.process k)) k p (turns doc k p h) u))
+      (λ u. inr (until_turn doc q (local doc q.process k) k p (turns doc k p h) u))
       (timely_on n h s))
 
   timely_after : Timely doc k q (history doc (suc k))

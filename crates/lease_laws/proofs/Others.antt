@@ -1,7 +1,7 @@
 -- An entry of another leaves what is read of an identity.
 use Rattle.std.proofs.Common.{◌≡◌, ◌<◌, ◌≤◌, ℕ, ◌+◌, ◌&&◌, Bool, true, false, List, ◌∷◌, Option, Some, None, IfSome, refl, sym, ap, ◌∙◌, subst, inl, inr, arith}
 use Rattle.kube_objects.specs.Clocks.{local}
-use Rattle.kube_objects.specs.Document.{Doc, retry_period, renew_deadline}
+use Rattle.kube_objects.specs.Document.{Doc, is_controller, retry_period, renew_deadline}
 use Rattle.kube_objects.specs.Elector.{lead_says, leads, deadline_says, deadline, succeeds}
 use Rattle.kube_objects.specs.Entry.{Entry, Identity, Call, Fact, First, Event, Starts, Crashes, Stops, Stalls, Ends, ReleaseBegins, ReleaseEnds, StepsDown, ReleaseStops, Sends, Answers, Delivers, Expires, Leads, Ticks, actor_of, entry}
 use Rattle.kube_objects.specs.Identities.{is_same, of_process}
@@ -9,6 +9,7 @@ use Rattle.kube_objects.specs.Newest.{newest, added, when, has, join, or_else}
 use Rattle.kube_objects.specs.Pauses.{can_at}
 use Rattle.kube_objects.specs.Process.{alive, is_start, starts, is_stop, stops, open_as, call_says, last_call, call_in, releasing_says, is_releasing, ending_says, is_ending}
 use Rattle.history_laws.proofs.Plainly.{upper, if_some, same_is, added_more}
+use Rattle.history_laws.proofs.Walk.{IsStop}
 use Rattle.lease_laws.proofs.Invariant.{gives_up, gives, gave, Turned, Looking, Free, Unborn, Living}
 
 -- what is read of an identity is the same in a later history
@@ -29,14 +30,22 @@ free_same doc q g h same (inr free) = inr (sym same ∙ free)
 pub looking_same : (doc : Doc) (q : Identity) (g h : List Entry) → is_releasing q g ≡ is_releasing q h → gave q g ≡ gave q h → (o : Option Call) → IfSome o (Looking doc q h) → IfSome o (Looking doc q g)
 looking_same doc q g h releasing gave o = if_some o (Looking doc q h) (Looking doc q g) (λ c l. record { releasing = λ e of. releasing ∙ l.releasing e of; get = l.get; unasked = λ look. gave ∙ l.unasked look; looks = l.looks })
 
-pub living_same : (doc : Doc) (k : ℕ) (q : Identity) (g h : List Entry) → Same doc q g h → Living doc k q h → Living doc k q g
-living_same doc k q g h same l = record {
-  counted = omega (arith, l.counted, same.starts);
-  unstopped = λ free. let both = l.unstopped (free_same doc q g h same.releasing free) in (same.stops ∙ both.0, same.gave ∙ both.1);
-  ending = λ is. let both = l.ending (sym same.ending ∙ is) in (same.releasing ∙ both.0, same.stops ∙ both.1);
-  looking = subst (λ o. IfSome o (Looking doc q g)) (sym same.call) (looking_same doc q g h same.releasing same.gave (call_in q h) l.looking);
-  turned = λ role other is. subst (λ o. IfSome o (Turned doc q.process k)) (sym same.deadline) (l.turned role other (sym same.releasing ∙ is));
+-- whoever is up stays so where what is read of it is the same, but for its call and its deadline
+pub lives_on : (doc : Doc) (k : ℕ) (q : Identity) (g h : List Entry) → Living doc k q h → starts q.process h ≤ starts q.process g → stops q g ≡ stops q h → gave q g ≡ gave q h → is_releasing q g ≡ is_releasing q h
+    → is_ending q g ≡ is_ending q h → IfSome (call_in q g) (Looking doc q h)
+    → (is_controller doc q.process ≡ true → (IsStop doc → ⊥) → is_releasing q h ≡ false → IfSome (deadline doc q g) (Turned doc q.process k)) → Living doc k q g
+lives_on doc k q g h l starts stopped asked runs ends looking turned = record {
+  counted = omega (arith, l.counted, starts);
+  unstopped = λ free. let both = l.unstopped (free_same doc q g h runs free) in (stopped ∙ both.0, asked ∙ both.1);
+  ending = λ is. let both = l.ending (sym ends ∙ is) in (runs ∙ both.0, stopped ∙ both.1);
+  looking = looking_same doc q g h runs asked (call_in q g) looking;
+  turned = λ role other is. turned role other (sym runs ∙ is);
 }
+
+pub living_same : (doc : Doc) (k : ℕ) (q : Identity) (g h : List Entry) → Same doc q g h → Living doc k q h → Living doc k q g
+living_same doc k q g h same l =
+    lives_on doc k q g h l same.starts same.stops same.gave same.releasing same.ending (subst (λ o. IfSome o (Looking doc q h)) (sym same.call) l.looking)
+    (λ role other is. subst (λ o. IfSome o (Turned doc q.process k)) (sym same.deadline) (l.turned role other is))
 
 pub unborn_same : (doc : Doc) (q : Identity) (g h : List Entry) → Same doc q g h → Unborn doc q h → Unborn doc q g
 unborn_same doc q g h same u = record {

@@ -241,7 +241,7 @@ module _ (doc : Doc) (high : ℕ) (sound : IsSound doc) (p q : Identity) (differ
     mine = record { who = s.who; call = s.call; reply = answer s.call.request h; comes = reply_arrival doc s.who.process k h }
 
     right : SentRight doc high k (view h) s
-    right = subst (λ o. IfSome o (SentRight doc high k (view h))) at.is (inv.entries at.e at.stands).0
+    right = subst (λ o. IfSome o (SentRight doc high k (view h))) at.is (inv.core.entries at.e at.stands).0
 
     before : s.call.sent < k
     before = comes_is k s.call.sent s.arrives at.now right.later
@@ -253,8 +253,8 @@ module _ (doc : Doc) (high : ℕ) (sound : IsSound doc) (p q : Identity) (differ
         accepted_new doc high k h s.who s.call.number s.call.sent s.call.kind (reply_arrival doc s.who.process k h) s.call.request asked.key asked wrote
 
     tops_more : (n : ℕ) → AtMostTop n (stored election h) → AtMostTop n (stored election (x ∷ h))
-    tops_more n most = ⊎_elim (λ same. subst (AtMostTop n) (sym same) most) (top_new k n s.who s.call.sent (stored election h) (stored election (x ∷ h)) (top_until doc k n h (stored election h) most inv.held))
-        (answer_wrote doc high k h inv s.who s.call s.arrives (reply_arrival doc s.who.process k h) right before (comes_held doc s.who.process k _ sound.1 (after_arrival _ k _ (inv.delays s.who.process).1)))
+    tops_more n most = ⊎_elim (λ same. subst (AtMostTop n) (sym same) most) (top_new k n s.who s.call.sent (stored election h) (stored election (x ∷ h)) (top_until doc k n h (stored election h) most inv.core.held))
+        (answer_wrote doc high k h inv s.who s.call s.arrives (reply_arrival doc s.who.process k h) right before (comes_held doc s.who.process k _ sound.1 (after_arrival _ k _ (inv.core.delays s.who.process).1)))
 
     new_top : (r : Identity) → is_controller doc r.process ≡ true → accepts r x.actor x.fact ≡ true → AtMostTop k (stored election (x ∷ h))
     new_top r role accepted =
@@ -277,7 +277,7 @@ module _ (doc : Doc) (high : ℕ) (sound : IsSound doc) (p q : Identity) (differ
         top = old.tops g stands c.who role_c (old.done g c stands done.0 role_c done.2)
 
         answer_of : (e : Entry) (b : Back) → In e (x ∷ h) → back_of e.actor e.fact ≡ Some b → is_controller doc b.who.process ≡ true → AnswerRight doc high k (view (x ∷ h)) b.who e.beat b.call b.reply
-        answer_of e b inside is role_b = (subst (λ o. IfSome o (BackRight doc high k (view (x ∷ h)) e.beat)) is (after.entries e inside).1).answer role_b
+        answer_of e b inside is role_b = (subst (λ o. IfSome o (BackRight doc high k (view (x ∷ h)) e.beat)) is (after.core.entries e inside).1).answer role_b
 
         covered : Covered doc high (view (x ∷ h)) o c.call.sent
         covered = subst (λ r. Covered doc high (view (x ∷ h)) r c.call.sent) done.1 ((answer_of g c (inr stands) done.0 role_c).covered done.2)

@@ -147,18 +147,9 @@ module _ (doc : Doc) (sound : IsSound doc) where
       by_test false is = in_time p h (script_entry k 1 (Happens (what.Delay id requests replies) None) ∷ h) refl (ap (λ b. or_else 1 (upper (when b replies) (in_force (reply_delay_of p) h))) is) s
 
   event_time : are_prompt doc doc.events ≡ true → (k : ℕ) (w : What) (h : List Entry) → Scripted doc k w → (p : ℕ) → is_controller doc p ≡ true → InTime p h → InTime p (script_entry k 1 (Happens (stamp doc k w) (event_version w h)) ∷ h)
-  event_time prompt k (what.Crash id) h scripted p role s = record { kept = s.kept; later = s.later; soon = s.soon }
-  event_time prompt k (what.Start id) h scripted p role s = record { kept = s.kept; later = s.later; soon = s.soon }
-  event_time prompt k (what.Stop id) h scripted p role s = record { kept = s.kept; later = s.later; soon = s.soon }
-  event_time prompt k (what.Rate id ppm) h scripted p role s = record { kept = s.kept; later = s.later; soon = s.soon }
   event_time prompt k (what.Delay id requests replies) h scripted p role s = delayed_time prompt k id requests replies h scripted p role s
   event_time prompt k (what.Loss id requests replies) h scripted p role s = lost_time prompt k id requests replies h scripted p role s
-  event_time prompt k (what.Watch id on) h scripted p role s = record { kept = s.kept; later = s.later; soon = s.soon }
-  event_time prompt k (what.Ready id status) h scripted p role s = record { kept = s.kept; later = s.later; soon = s.soon }
-  event_time prompt k (what.Pause id beats) h scripted p role s = record { kept = s.kept; later = s.later; soon = s.soon }
-  event_time prompt k (what.Stall beats) h scripted p role s = record { kept = s.kept; later = s.later; soon = s.soon }
-  event_time prompt k (what.Put key object) h scripted p role s = record { kept = s.kept; later = s.later; soon = s.soon }
-  event_time prompt k (what.Remove key) h scripted p role s = record { kept = s.kept; later = s.later; soon = s.soon }
+  event_time prompt k w h scripted p role s = record { kept = s.kept; later = s.later; soon = s.soon }
 
   answered_soon : (k : ℕ) (s : Sent) (h : List Entry) → Arriving k h s → Backs doc k h → Backs doc k (answered doc k s h)
   answered_soon k s h at b = record {

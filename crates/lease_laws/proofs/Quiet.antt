@@ -1,5 +1,5 @@
 -- An entry that is no election write, no request, no answer, no counted reply, no start, crash, stop or end, and no part of a release.
-use Rattle.std.proofs.Common.{◌≡◌, ℕ, ◌&&◌, true, false, List, ◌∷◌, Option, Some, None, refl, sym, ap, ◌∙◌, subst, inl, arith, ◌≤◌}
+use Rattle.std.proofs.Common.{◌≡◌, ℕ, ◌&&◌, true, false, List, ◌∷◌, Option, Some, None, refl, sym, ap, ◌∙◌, subst, arith, ◌≤◌}
 use Rattle.kube_base.specs.declared.numbers.Version.{Version}
 use Rattle.kube_objects.specs.declared.call.Answer.{Answer}
 use Rattle.kube_objects.specs.declared.call.Answer.TheVariants as answer
@@ -11,7 +11,7 @@ use Rattle.kube_objects.specs.Elector.{lead_says, leads, deadline}
 use Rattle.kube_objects.specs.declared.key.Key.{Key}
 use Rattle.kube_objects.specs.declared.rules.EvictRule.{EvictRule}
 use Rattle.kube_objects.specs.declared.rules.EvictRule.TheVariants.{Added, Seen}
-use Rattle.kube_objects.specs.Entry.{Entry, Identity, Stalls, StepsDown, Ticks, Tick, Sync, Pass, Mark, Mode, Zone, Untaint, Swap, Head, Delete, Skip, entry}
+use Rattle.kube_objects.specs.Entry.{Entry, Identity, Stalls, StepsDown, Ticks, Tick, Mark, Untaint, Swap, Head, Delete, entry}
 use Rattle.kube_objects.specs.Identities.{is_by, of_process}
 use Rattle.kube_objects.specs.Keys.{key_eq}
 use Rattle.kube_objects.specs.Newest.{newest, added, when, join, has, or_else}
@@ -21,7 +21,7 @@ use Rattle.kube_objects.specs.Stored.{stored, election, Write, node_write, try_w
 use Rattle.kube_objects.specs.Wire.{of_event, in_force, request_delay_of, reply_delay_of}
 use Rattle.history_laws.proofs.Plainly.{upper, added_more, false_is}
 use Rattle.history_laws.proofs.Ticks.{IsDeleteBy, MadeTick}
-use Rattle.lease_laws.proofs.Invariant.{gave, AreDelayed, Inv, core_of, whole}
+use Rattle.lease_laws.proofs.Invariant.{gave, AreDelayed, Inv, whole}
 use Rattle.lease_laws.proofs.Others.{Same, living_same, unborn_same}
 use Rattle.lease_laws.proofs.EachKind.{Mute, core_mute, top_stays}
 
@@ -49,12 +49,12 @@ quiet_same doc h x quiet q = record {
 
 pub keep_quiet : (doc : Doc) (high k : ℕ) (h : List Entry) (x : Entry) → Quiet x → Inv doc high k h → Inv doc high k (x ∷ h)
 keep_quiet doc high k h x quiet s =
-    whole doc high k (x ∷ h) (core_mute doc high k h x quiet.mute delays (core_of doc high k h s))
+    whole doc high k (x ∷ h) (core_mute doc high k h x quiet.mute delays s.core)
     (λ q up. living_same doc k q (x ∷ h) h (quiet_same doc h x quiet q) (s.lives q (ap (λ t. join (upper t (life q.process h))) (sym (quiet.life q.process)) ∙ up)))
     (λ q below. let same = quiet_same doc h x quiet q in unborn_same doc q (x ∷ h) h same (s.fresh q (omega (arith, below, same.starts))))
   where
     delays : AreDelayed (x ∷ h)
-    delays p = (subst (λ o. 1 ≤ or_else 1 (upper o (in_force (request_delay_of p) h))) (sym (quiet.event (request_delay_of p))) (s.delays p).0, subst (λ o. 1 ≤ or_else 1 (upper o (in_force (reply_delay_of p) h))) (sym (quiet.event (reply_delay_of p))) (s.delays p).1)
+    delays p = (subst (λ o. 1 ≤ or_else 1 (upper o (in_force (request_delay_of p) h))) (sym (quiet.event (request_delay_of p))) (s.core.delays p).0, subst (λ o. 1 ≤ or_else 1 (upper o (in_force (reply_delay_of p) h))) (sym (quiet.event (reply_delay_of p))) (s.core.delays p).1)
 
 -- ---- a tick
 
@@ -64,23 +64,16 @@ DeletesElsewhere (Delete pod given node_given due answer) = key_eq pod election 
 DeletesElsewhere _ = Unit {0}
 
 quiet_try : (w : Write) (a : Option Answer) → key_eq w.0 election ≡ false → at_key election (try_write w a) ≡ None
-quiet_try w None other = refl
 quiet_try w (Some (answer.Done version)) other = ap (λ b. when b w.1) other
-quiet_try w (Some answer.Absent) other = refl
-quiet_try w (Some answer.Exists) other = refl
-quiet_try w (Some (answer.Conflict version)) other = refl
+quiet_try w d other = refl
 
 quiet_write : (t : Tick) → DeletesElsewhere t → at_key election (tick_write t) ≡ None
-quiet_write Sync other = refl
-quiet_write Pass other = refl
-quiet_write (Mode on) other = refl
-quiet_write (Zone place state rate) other = refl
 quiet_write (Mark name given node a) other = quiet_try (node_write name node) a refl
 quiet_write (Untaint name given node a) other = quiet_try (node_write name node) a refl
 quiet_write (Swap name wanted given node a) other = quiet_try (node_write name node) a refl
 quiet_write (Head place name wanted given node a) other = quiet_try (node_write name node) a refl
-quiet_write (Skip place name) other = refl
 quiet_write (Delete pod given node_given due a) other = quiet_try (pod, None) a other
+quiet_write d other = refl
 
 pod_elsewhere : (kind : Kind) (space name : ℕ) → is_pod kind ≡ true → key_eq (record { kind = kind; space = space; name = name }) election ≡ false
 pod_elsewhere kind.Node space name is = absurd (false_is is)
@@ -93,52 +86,17 @@ deletes_pod Seen doc k q pod given node_given due a h made = made.kind
 
 pub deletes_elsewhere : (doc : Doc) (k : ℕ) (q : Identity) (t : Tick) (h : List Entry) → MadeTick doc k q t h → DeletesElsewhere t
 deletes_elsewhere doc k q (Delete pod given node_given due a) h made = pod_elsewhere pod.kind pod.space pod.name (deletes_pod doc.settings.rules.evict_from doc k q pod given node_given due a h made.0)
-deletes_elsewhere doc k q Sync h made = tt
-deletes_elsewhere doc k q Pass h made = tt
-deletes_elsewhere doc k q (Mark name given node a) h made = tt
-deletes_elsewhere doc k q (Mode on) h made = tt
-deletes_elsewhere doc k q (Zone place state rate) h made = tt
-deletes_elsewhere doc k q (Untaint name given node a) h made = tt
-deletes_elsewhere doc k q (Swap name wanted given node a) h made = tt
-deletes_elsewhere doc k q (Head place name wanted given node a) h made = tt
-deletes_elsewhere doc k q (Skip place name) h made = tt
+deletes_elsewhere doc k q d h made = tt
 
 -- no tick writes the election Lease
 pub stored_tick : (doc : Doc) (k : ℕ) (q : Identity) (t : Tick) (h : List Entry) → MadeTick doc k q t h → stored election (entry k 4 q (Ticks t) ∷ h) ≡ stored election h
 stored_tick doc k q t h made = top_stays (entry k 4 q (Ticks t)) h (quiet_write t (deletes_elsewhere doc k q t h made))
 
 pub quiet_tick : (k : ℕ) (q : Identity) (t : Tick) → DeletesElsewhere t → Quiet (entry k 4 q (Ticks t))
-quiet_tick k q t other = record {
-  mute = record { write = quiet_write t other; gives = refl; frees = refl; send = refl; call = λ p. inl refl; shows = λ p. refl; lead = λ p. refl; deadline = λ doc p led. refl; sent = refl; back = refl };
-  life = λ p. refl;
-  start = refl;
-  stop = refl;
-  call = λ p. refl;
-  releasing = λ p. refl;
-  ending = λ p. refl;
-  event = λ f. refl;
-}
+quiet_tick k q t other = grind (arith, quiet_write t other)
 
 pub quiet_stall : (k step : ℕ) (q : Identity) (beats : ℕ) → Quiet (entry k step q (Stalls beats))
-quiet_stall k step q beats = record {
-  mute = record { write = refl; gives = refl; frees = refl; send = refl; call = λ p. inl refl; shows = λ p. refl; lead = λ p. refl; deadline = λ doc p led. refl; sent = refl; back = refl };
-  life = λ p. refl;
-  start = refl;
-  stop = refl;
-  call = λ p. refl;
-  releasing = λ p. refl;
-  ending = λ p. refl;
-  event = λ f. refl;
-}
+quiet_stall k step q beats = grind arith
 
 pub quiet_step_down : (k step : ℕ) (q : Identity) → Quiet (entry k step q StepsDown)
-quiet_step_down k step q = record {
-  mute = record { write = refl; gives = refl; frees = refl; send = refl; call = λ p. inl refl; shows = λ p. refl; lead = λ p. refl; deadline = λ doc p led. refl; sent = refl; back = refl };
-  life = λ p. refl;
-  start = refl;
-  stop = refl;
-  call = λ p. refl;
-  releasing = λ p. refl;
-  ending = λ p. refl;
-  event = λ f. refl;
-}
+quiet_step_down k step q = grind arith

@@ -3,7 +3,7 @@ use Rattle.std.proofs.Common.{◌≡◌, ◌⊎◌, ◌<◌, ◌≤◌, ℕ, ◌
 use Rattle.std.proofs.lemmas.Bool.{ltb-true}
 use Rattle.kube_base.specs.declared.numbers.Version.{Version}
 use Rattle.kube_objects.specs.declared.call.Reply.{Reply}
-use Rattle.kube_objects.specs.declared.call.Reply.TheVariants.{Found, Done, Absent, Exists, Conflict, Unchanged}
+use Rattle.kube_objects.specs.declared.call.Reply.TheVariants.{Found}
 use Rattle.kube_objects.specs.declared.call.Request.{Request}
 use Rattle.kube_objects.specs.declared.call.Request.TheVariants.{Get, Update}
 use Rattle.kube_objects.specs.declared.lease.Lease.{Lease}
@@ -38,7 +38,7 @@ use Rattle.lease_laws.proofs.Steps.{InvWithin, sound_of, asks, asks_get, release
 -- who succeeded is covered since
 pub covered_of : (doc : Doc) (high k : ℕ) (h : List Entry) → Inv doc high k h → (q : Identity) → is_controller doc q.process ≡ true → (s : ℕ) → Succeeded h q s k → Covered doc high (view h) q s
 covered_of doc high k h inv q role s r =
-    let right : BackRight doc high k (view h) r.e.beat r.back = subst (λ o. IfSome o (BackRight doc high k (view h) r.e.beat)) r.is (inv.entries r.e r.stands).1 in
+    let right : BackRight doc high k (view h) r.e.beat r.back = subst (λ o. IfSome o (BackRight doc high k (view h) r.e.beat)) r.is (inv.core.entries r.e r.stands).1 in
     let theirs : Covered doc high (view h) r.back.who r.back.call.sent = (right.answer (subst (λ (p : Identity). is_controller doc p.process ≡ true) (sym r.who) role)).covered r.success in
     subst (λ n. Covered doc high (view h) q n) r.sent (subst (λ p. Covered doc high (view h) p r.back.call.sent) r.who theirs)
 
@@ -125,7 +125,7 @@ module _ (doc : Doc) (high k step : ℕ) (q : Identity) (g : List Entry) (b : Be
 
   empties_first : (request : Request) → release_from q (wall doc q.process k) (shown q g) ≡ Some request → Inv doc high k (send doc k step q (Emptying k) request g)
   empties_first request is = keep_sends doc high k g b.inv step q (Emptying k) request (record {
-    may = released_right doc high k g b.inv q b.role (Emptying k) refl (shown q g) (b.inv.shown q b.role) request is;
+    may = released_right doc high k g b.inv q b.role (Emptying k) refl (shown q g) (b.inv.core.shown q b.role) request is;
     awake = b.awake;
     counted = (b.inv.lives q b.up).counted;
     kinds = λ other. refl;
@@ -164,7 +164,7 @@ record Deadline (doc : Doc) (k : ℕ) (q : Identity) (h : List Entry) : Type 0 w
 
 module _ (doc : Doc) (high k : ℕ) (q : Identity) (role : is_controller doc q.process ≡ true) (awake : is_paused doc q.process k ≡ false) (other : IsStop doc → ⊥) where
   deadline_of : (h : List Entry) → Inv doc high k h → alive q.process h ≡ Some q.incarnation → is_releasing q h ≡ false → has (deadline doc q h) ≡ true → Deadline doc k q h
-  deadline_of h s up fresh there = by_deadline (deadline doc q h) there (s.led q role) ((s.lives q up).turned role other fresh)
+  deadline_of h s up fresh there = by_deadline (deadline doc q h) there (s.core.led q role) ((s.lives q up).turned role other fresh)
     where
       by_deadline : (o : Option ℕ) → has o ≡ true → IfSome o (Led doc k h q) → IfSome o (Turned doc q.process k) → Deadline doc k q h
       by_deadline None there led turns = absurd (false_is there)
@@ -198,7 +198,7 @@ module _ (doc : Doc) (high k : ℕ) (q : Identity) (role : is_controller doc q.p
   begins_stopped h s up fresh led =
       let y = entry k 1 q ReleaseStops in
       let x = entry k 1 q (ReleaseBegins false) in
-      let d = deadline_of h s up fresh (s.leading q led) in
+      let d = deadline_of h s up fresh (s.core.leading q led) in
       first_keeps doc high k 1 q (x ∷ y ∷ h) (record {
         inv = keep_halt_begins doc high k h s 1 q up other;
         role = role;
@@ -219,13 +219,13 @@ module _ (doc : Doc) (high k : ℕ) (bears : Bears doc high) (sound : IsSound do
   reread_base : (is : doc.settings.rules.release ≡ rules.Reread) (e : ℕ) (c : Call) → Freeing doc k h q e c → e ≤ k → gave q h ≡ 0 → local doc q.process k ≤ local doc q.process e + call_timeout doc q.process
       → local doc q.process k ≤ local doc q.process e + renew_deadline doc q.process → (version : Version) (found lease : Lease) → Saw (view h) version found k → Base doc high (view h) q k (Update election version lease)
   reread_base is e c f since unasked by_call by_time version found lease saw =
-      (saw.0, on_top (stored election h) version Mine (Wrote found k) (Safe doc high q k) safe (mine (stored election h) s.held (covered_of doc high k h s q role f.led.sent f.led.answered)) saw.1)
+      (saw.0, on_top (stored election h) version Mine (Wrote found k) (Safe doc high q k) safe (mine (stored election h) s.core.held (covered_of doc high k h s q role f.led.sent f.led.answered)) saw.1)
     where
       Mine : Held → Type 0
       Mine y = HeldRight doc k (view h) y × (((y.by ≡ Some q) × (f.led.sent < y.beat)) ⊎ Wide doc high q (y.beat - (f.led.sent + 1)))
 
       mine : (t : Option Held) → IfSome t (HeldRight doc k (view h)) → (0 < freed q h) ⊎ CoveredBy doc high q f.led.sent t → IfSome t Mine
-      mine t right (inl gone) = absurd (omega (arith, s.given q gone, unasked))
+      mine t right (inl gone) = absurd (omega (arith, s.core.given q gone, unasked))
       mine None right (inr by) = tt
       mine (Some y) right (inr by) = (right, by)
 
@@ -260,11 +260,7 @@ module _ (doc : Doc) (high k : ℕ) (bears : Bears doc high) (sound : IsSound do
       subst (MayAsk doc high (view h) q k (Emptying e)) (when_value test r request is)
       (asks doc high (view h) q k (Emptying e) r role refl (inr (refl, refl))
       (emptied_base e c f l look no_stop since by_call by_time version found (given_up (wall doc q.process k) found) saw (and_right mine (may_empty doc.settings.rules.release q found) (when_test test r request is))))
-  emptying_right mine e c (Done version) request f l look no_stop since by_call by_time saw is = absurd (none_is request is)
-  emptying_right mine e c Absent request f l look no_stop since by_call by_time saw is = absurd (none_is request is)
-  emptying_right mine e c Exists request f l look no_stop since by_call by_time saw is = absurd (none_is request is)
-  emptying_right mine e c (Conflict version) request f l look no_stop since by_call by_time saw is = absurd (none_is request is)
-  emptying_right mine e c Unchanged request f l look no_stop since by_call by_time saw is = absurd (none_is request is)
+  emptying_right mine e c reply request f l look no_stop since by_call by_time saw is = absurd (none_is request is)
 
 -- a call that isn't late is in time for its release
 pub in_time : (doc : Doc) (q : Identity) (k : ℕ) (c : Call) (e : ℕ) → release_begun doc.settings.rules.release c.kind ≡ Some e → is_late doc q k c ≡ false → local doc q.process k ≤ local doc q.process e + renew_deadline doc q.process
@@ -289,7 +285,7 @@ module _ (doc : Doc) (high k e : ℕ) (bears : Bears doc high) (sound : IsSound 
     after = counted_right doc high k h s b waiting c.up r
 
     f : Freeing doc k h b.who e waiting
-    f = subst (λ o. IfSome o (CallRight doc k h b.who)) c.waits (s.calls b.who role) e of
+    f = subst (λ o. IfSome o (CallRight doc k h b.who)) c.waits (s.core.calls b.who role) e of
 
     l : Looking doc b.who h waiting
     l = subst (λ o. IfSome o (Looking doc b.who h)) c.waits (s.lives b.who c.up).looking

@@ -20,7 +20,7 @@ PausesAt p (e ∷ es) (suc place) from beats = PausesAt p es place from beats
 
 -- ---- the two longest
 
-more_both : (a b : ℕ) → (a ≤ more a b) × (b ≤ more a b)
+pub more_both : (a b : ℕ) → (a ≤ more a b) × (b ≤ more a b)
 more_both a b = by_test (nat_lt a b) refl
   where
     by_test : (t : Bool) → nat_lt a b ≡ t → (a ≤ cond t b a) × (b ≤ cond t b a)

@@ -48,30 +48,12 @@ delay-run false requests replies r run = run
 event-some : (doc : Doc) (count : ℕ) (own : Bool) (what : What) (r : Reach) → IsLawfulWhat doc what → IsSome r → IsSome (with_event count own what r)
 event-some doc count own (Rate id ppm) r lawful some = rate-if (is_meant count own id.0) ppm r lawful.1 some
 event-some doc count own (Delay id requests replies) r lawful some = delay-if (is_meant count own id.0) requests replies r some
-event-some doc count own (Loss id requests replies) r lawful some = some
-event-some doc count own (Crash id) r lawful some = some
-event-some doc count own (Start id) r lawful some = some
-event-some doc count own (Stop id) r lawful some = some
-event-some doc count own (Watch id on) r lawful some = some
-event-some doc count own (Ready id status) r lawful some = some
-event-some doc count own (Pause id beats) r lawful some = some
-event-some doc count own (Stall beats) r lawful some = some
-event-some doc count own (Put key object) r lawful some = some
-event-some doc count own (Remove key) r lawful some = some
+event-some doc count own w r lawful some = some
 
 event-run : (count : ℕ) (own : Bool) (what : What) (r : Reach) → IsRun r → IsRun (with_event count own what r)
 event-run count own (Rate id ppm) r run = rate-run (is_meant count own id.0) ppm r run
 event-run count own (Delay id requests replies) r run = delay-run (is_meant count own id.0) requests replies r run
-event-run count own (Loss id requests replies) r run = run
-event-run count own (Crash id) r run = run
-event-run count own (Start id) r run = run
-event-run count own (Stop id) r run = run
-event-run count own (Watch id on) r run = run
-event-run count own (Ready id status) r run = run
-event-run count own (Pause id beats) r run = run
-event-run count own (Stall beats) r run = run
-event-run count own (Put key object) r run = run
-event-run count own (Remove key) r run = run
+event-run count own w r run = run
 
 events-some : (doc : Doc) (from count : ℕ) (own : Bool) (events : List Event) (r : Reach) → AreLawfulFrom doc from events → IsSome r → IsSome (with_events count own events r)
 events-some doc from count own [] r lawful some = some

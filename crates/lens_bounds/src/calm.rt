@@ -27,7 +27,7 @@ pub struct Calm {
     pub waits: Waits,
     /// Whose lease duration a candidate respects.
     pub respect: RespectRule,
-    /// Whether a leader renews without a Get where it can.
+    /// Whether a leader renews without a Get if it can.
     pub fast_renew: bool,
     /// Whether leaders give up their Leases at stops alone, each by one update, and nobody acts meanwhile.
     pub releases_by_stop: bool,

@@ -31,14 +31,14 @@ pub struct Handover {
     pub stays_from: u128,
 }
 
-/// The bounds of a leader, in milliseconds. None where a premise of the law on it fails.
+/// The bounds of a leader, in milliseconds. None if a premise of the law on it fails.
 #[derive(Clone, Copy)]
 pub struct Election {
     /// How long nobody leads after a crash.
     pub crash: Option<Span>,
     /// After a stop whose release is accepted.
     pub stop: Option<Span>,
-    /// How long it acts on at most where it is cut off.
+    /// How long it acts on at most if it is cut off.
     pub acts_on: Option<u128>,
     /// How long after the beginning of a calm span somebody leads.
     pub leads: Option<u128>,
@@ -219,7 +219,7 @@ fn as_respected(respect: RespectRule, seconds: u32, leader: Proc) -> Proc
     }
 }
 
-/// Whether a leader of these settings stays in a calm span, where others respect its records for its lease duration. Takes no memory.
+/// Whether a leader of these settings stays in a calm span, if others respect its records for its lease duration. Takes no memory.
 pub fn stays_by(c: Calm, p: Proc) -> bool
     requires { IsCalm c }
     ensures { result ≡ spec.stays_by c p }
@@ -477,7 +477,7 @@ fn stop_of(c: Calm, holds: bool, found: Option<Handover>) -> Option<Span>
 }
 
 /// The bounds of a leader, which stands at a place of these controllers: how long nobody leads after its crash or stop, how long it acts on
-/// where it is cut off, and by when somebody leads, or one that stays, once the network is well. Whichever other controller is up, they hold.
+/// if it is cut off, and by when somebody leads, or one that stays, once the network is well. Whichever other controller is up, they hold.
 /// Takes no memory.
 #[tactic(auto, unfolding(crate::specs::Elections::election_of))]
 pub fn election_of(c: Calm, place: usize, leader: Proc, controllers: &[Proc]) -> Election

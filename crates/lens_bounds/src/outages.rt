@@ -57,7 +57,7 @@ pub struct Marked {
 pub struct Tainted {
     pub least: Since,
     pub most: u128,
-    /// Where the zone's token is there as the node is marked.
+    /// If the zone's token is there as the node is marked.
     pub with_token: u128,
 }
 
@@ -199,7 +199,7 @@ fn since_death(o: Outage, beats: u128) -> Since
     }
 }
 
-/// From the death of a node's kubelet until the node is marked Unknown, at least and at most, while a leader attends to its nodes. None where
+/// From the death of a node's kubelet until the node is marked Unknown, at least and at most, while a leader attends to its nodes. None if
 /// the kubelets' replies come too late, there is no kubelet, passes take time, nodes are silent by what a term has recorded, or leaders give up
 /// their Leases not at stops alone. Takes no memory.
 #[tactic(auto, unfolding(crate::specs::Outages::until_unknown))]
@@ -217,7 +217,7 @@ pub fn until_unknown(o: Outage) -> Option<Marked>
     }
 }
 
-/// Until it is tainted, where its zone has this rate all the while, and so many nodes of it wait before. None also where the rate is 0, nodes
+/// Until it is tainted, if its zone has this rate all the while, and so many nodes of it wait before. None also if the rate is 0, nodes
 /// are judged at passes alone or stripped at first sight, or a zone's bucket starts full. Takes no memory.
 #[tactic(auto, unfolding(crate::specs::Outages::until_tainted))]
 pub fn until_tainted(o: Outage) -> Option<Tainted>
@@ -227,7 +227,7 @@ pub fn until_tainted(o: Outage) -> Option<Tainted>
     tainted_by(o, 0, 0)
 }
 
-/// Until its pods are gone that tolerate the taint for so many seconds, and no other taint of the node counts for them. None also where pods are
+/// Until its pods are gone that tolerate the taint for so many seconds, and no other taint of the node counts for them. None also if pods are
 /// due by what a leader has seen, or go within a limit. Takes no memory.
 #[tactic(auto, unfolding(crate::specs::Outages::until_gone))]
 pub fn until_gone(o: Outage, seconds: u64) -> Option<Tainted>

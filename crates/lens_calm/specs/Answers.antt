@@ -1,17 +1,17 @@
 -- What words behind `bounds` are answered.
 use Rattle.serde_json.specs.Written.{compact_text}
-use Rattle.std.specs.Prelude.{ℕ, Bool, List, [], ◌∷◌, ◌++◌, codes, Result, Ok, Err, if◌then◌else◌}
+use Rattle.std.specs.Prelude.{ℕ, Bool, List, [], ◌++◌, codes, Result, Ok, Err, if◌then◌else◌}
 use Rattle.lens_bounds.specs.declared.elections.Election.{Election}
 use Rattle.lens_bounds.specs.Elections.{election_of, stay}
 use Rattle.lens_bounds.specs.Outages.{until_unknown, until_tainted, until_gone}
 use Rattle.run_edge.specs.Outcome.{Reply}
-use Rattle.run_edge.specs.declared.status.Verdict.TheVariants.{Usage}
 use Rattle.lens_json.specs.Members.{Named, object_of}
 use Rattle.lens_room.specs.FlagLaws.{holds}
-use Rattle.lens_room.specs.FlagReplies.{name_text, unknown_text, values_text, wrong_text, word_at}
+use Rattle.lens_room.specs.FlagReplies.{name_text, values_text, wrong_text}
 use Rattle.lens_room.specs.Replies.{verdict_of}
+use Rattle.lens_room.specs.Words.{misread_text, misused as misused_by}
 use Rattle.lens_calm.specs.declared.fault.Fault.{Fault}
-use Rattle.lens_calm.specs.declared.fault.Fault.TheVariants.{Unknown, Alone, Value, Unruly, ShortWait, ShortDelay}
+use Rattle.lens_calm.specs.declared.fault.Fault.TheVariants.{Words, Unruly, ShortWait, ShortDelay}
 use Rattle.lens_calm.specs.declared.setting.Setting.{Setting}
 use Rattle.lens_calm.specs.declared.setting.Setting.TheVariants.{Election as ElectionFlag, Wait, Delay, LeastDelay, Grace, Monitor, NodeLease, Rate, Ahead, Toleration}
 use Rattle.lens_calm.specs.declared.settings.Settings.{Settings}
@@ -77,19 +77,16 @@ takes_text Ahead = codes " takes a number up to 1000000, as 3, not "
 takes_text Toleration = codes " takes whole seconds from 0s to 24h, as 300s, not "
 
 abbrev pub fault_text : List (List ℕ) → Fault → List ℕ
-fault_text words (Unknown place) = unknown_text (word_at words place)
-fault_text words (Alone setting) = setting_text setting ++ codes " stands without a value"
-fault_text words (Value setting place) = setting_text setting ++ takes_text setting ++ word_at words place
+fault_text words (Words misread) = misread_text setting_text takes_text words misread
 fault_text words (Unruly wrong) = wrong_text words wrong
 fault_text words ShortWait = codes "the longest wait must not be shorter than the retry period"
 fault_text words ShortDelay = codes "the delay must not be shorter than the least delay"
 
-unfoldable pub usage_text : List ℕ → List ℕ
-usage_text fault =
-    codes "usage: kube_lens bounds [--lease 15s] [--renew 10s] [--retry 2s] [--timeout 10s] [--skew 0ppm] [--beat 10ms] [--wait 2s] [--delay 100ms] [--least-delay 10ms] [--grace 40s] [--monitor 5s] [--node-lease 40s] [--rate 100] [--ahead 0] [--toleration 300s] [--json]\n" ++ fault ++ codes "\n"
+abbrev pub usage_line : List ℕ
+usage_line = codes "usage: kube_lens bounds [--lease 15s] [--renew 10s] [--retry 2s] [--timeout 10s] [--skew 0ppm] [--beat 10ms] [--wait 2s] [--delay 100ms] [--least-delay 10ms] [--grace 40s] [--monitor 5s] [--node-lease 40s] [--rate 100] [--ahead 0] [--toleration 300s] [--json]\n"
 
 abbrev pub misused : List (List ℕ) → Fault → Reply
-misused words fault = record { verdict = Usage; text = usage_text (fault_text words fault) }
+misused words fault = misused_by usage_line (fault_text words fault)
 
 abbrev pub answered : List (List ℕ) → Result Settings Fault → Reply
 answered words (Ok s) = told s

@@ -1,19 +1,20 @@
 -- The words behind `bounds`, and the settings that they come to.
-use Rattle.std.specs.Prelude.{◌≡◌, ℕ, ◌+◌, ◌*◌, ◌≤◌, ◌==◌, not, nat_le, nat_lt, Bool, true, false, List, [], ◌∷◌, length, codes}
+use Rattle.std.specs.Prelude.{ℕ, ◌≤◌, ◌==◌, not, nat_le, Bool, true, List, length, codes}
 use Rattle.std.specs.Prelude.{Option, Some, None, unwrap_or, Result, Ok, Err, if◌then◌else◌}
 use Rattle.kube_base.specs.Times.{◌>>=◌}
-use Rattle.trace_lines.specs.Grammar.{cut, number_onto}
+use Rattle.trace_lines.specs.Grammar.{number_onto}
 use Rattle.lens_room.specs.declared.by_flags.flag.Flag.{Flag}
 use Rattle.lens_room.specs.declared.by_flags.flags.Flags.{Flags}
+use Rattle.lens_room.specs.declared.by_flags.misread.Misread.{Misread}
 use Rattle.lens_room.specs.declared.by_flags.wrong.Wrong.{Wrong}
 use Rattle.lens_room.specs.Durations.{duration}
 use Rattle.lens_room.specs.Flags.{flag_by, value_of, IsInRange, is, within, whole_seconds, ruled}
+use Rattle.lens_room.specs.Words.{Command, read_from}
 use Rattle.lens_calm.specs.declared.setting.Setting.{Setting}
 use Rattle.lens_calm.specs.declared.setting.Setting.TheVariants.{Election, Wait, Delay, LeastDelay, Grace, Monitor, NodeLease, Rate, Ahead, Toleration}
 use Rattle.lens_calm.specs.declared.settings.Settings.{Settings}
-use Rattle.lens_calm.specs.declared.given.Given.{Given}
 use Rattle.lens_calm.specs.declared.fault.Fault.{Fault}
-use Rattle.lens_calm.specs.declared.fault.Fault.TheVariants.{Unknown, Alone, Value, Unruly, ShortWait, ShortDelay}
+use Rattle.lens_calm.specs.declared.fault.Fault.TheVariants.{Words, Unruly, ShortWait, ShortDelay}
 use Rattle.lens_calm.specs.Settings.{usual, with_number}
 
 -- ---- names
@@ -74,53 +75,21 @@ IsFit Delay n = 1 ≤ n
 IsFit Monitor n = 1 ≤ n
 IsFit _ n = Unit {0}
 
--- ---- words, each `--flag=value`, or a flag and then its value; the last of a flag counts. `--json` stands wherever a flag may
+-- ---- settings by words
 
-abbrev pub numbered : ℕ → Settings → Setting → Option ℕ → Result Given Fault
-numbered place settings setting None = Err (Value setting place)
-numbered place settings setting (Some n) = Ok (record { settings = with_number setting n settings; waiting = None })
+abbrev pub set_number : Settings → Setting → Option ℕ → Option Settings
+set_number settings setting None = None
+set_number settings setting (Some n) = Some (with_number setting n settings)
 
-abbrev pub valued : ℕ → Settings → Setting → List ℕ → Result Given Fault
-valued place settings setting text = numbered place settings setting (number_of setting text)
-
-abbrev pub named : ℕ → Option Setting → Result Setting Fault
-named place None = Err (Unknown place)
-named place (Some setting) = Ok setting
-
--- a flag whose value is the next word
-abbrev pub opened : Settings → Result Setting Fault → Result Given Fault
-opened settings (Err fault) = Err fault
-opened settings (Ok setting) = Ok (record { settings = settings; waiting = Some setting })
-
-abbrev pub joined : ℕ → Settings → Result Setting Fault → List ℕ → Result Given Fault
-joined place settings (Err fault) text = Err fault
-joined place settings (Ok setting) text = valued place settings setting text
-
-abbrev pub by_parts : ℕ → Settings → List ℕ → Option (List ℕ × List ℕ) → Result Given Fault
-by_parts place settings word None = opened settings (named place (setting_by word))
-by_parts place settings word (Some parts) = joined place settings (named place (setting_by parts.0)) parts.1
+-- with a setting by its text
+abbrev pub set : Settings → Setting → List ℕ → Option Settings
+set settings setting text = set_number settings setting (number_of setting text)
 
 abbrev pub as_json : Settings → Settings
 as_json s = record s { flags = record s.flags { as_json = true } }
 
-abbrev pub begun : ℕ → Settings → List ℕ → Result Given Fault
-begun place settings word =
-    if is word (codes "--json") then Ok (record { settings = as_json settings; waiting = None })
-    else by_parts place settings word (cut 61 word)
-
-abbrev pub by_waiting : ℕ → Settings → Option Setting → List ℕ → Result Given Fault
-by_waiting place settings None word = begun place settings word
-by_waiting place settings (Some setting) word = valued place settings setting word
-
--- with one more word, which stands at a place
-unfoldable pub with_word : ℕ → Given → List ℕ → Result Given Fault
-with_word place given word = by_waiting place given.settings given.waiting word
-
--- with the words from a place on
-abbrev pub given_from : ℕ → Result Given Fault → List (List ℕ) → Result Given Fault
-given_from place (Err fault) words = Err fault
-given_from place (Ok given) [] = Ok given
-given_from place (Ok given) (word ∷ words) = given_from (place + 1) (with_word place given word) words
+abbrev pub command : Command Settings Setting
+command = record { by_name = setting_by; with_text = set; in_json = as_json }
 
 -- ---- rules: those of `margin`; no wait is shorter than the retry period, and no delay than the least one
 
@@ -140,14 +109,10 @@ abbrev pub rules : Settings → Result Flags Wrong → Result Settings Fault
 rules s (Err wrong) = Err (Unruly wrong)
 rules s (Ok flags) = own_rules s
 
-abbrev pub closed : Settings → Option Setting → Result Settings Fault
-closed s None = rules s (ruled s.flags)
-closed s (Some setting) = Err (Alone setting)
-
-abbrev pub settled : Result Given Fault → Result Settings Fault
-settled (Err fault) = Err fault
-settled (Ok given) = closed given.settings given.waiting
+abbrev pub ruled_if : Result Settings (Misread Setting) → Result Settings Fault
+ruled_if (Err misread) = Err (Words misread)
+ruled_if (Ok s) = rules s (ruled s.flags)
 
 -- the settings that words behind the command give, or what is wrong with them
 unfoldable pub settings_of : List (List ℕ) → Result Settings Fault
-settings_of words = settled (given_from 0 (Ok (record { settings = usual; waiting = None })) words)
+settings_of words = ruled_if (read_from command usual words)

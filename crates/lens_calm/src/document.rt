@@ -23,7 +23,7 @@ use script_reader::{Document, lease_premise, read_document};
 use std::alloc::Global;
 use trace_writer::{add, name_of};
 
-/// For each controller of the document that these bytes are how long nobody leads after its crash or stop, how long it acts on where it is cut
+/// For each controller of the document that these bytes are how long nobody leads after its crash or stop, how long it acts on if it is cut
 /// off, and by when somebody leads once the network is well; when a node whose kubelet dies is marked and tainted, and its pods are gone: at
 /// least and at most, over all calm spans with its settings, clocks and delays. Or its refusal.
 pub fn bounds_in(alloc: Global, input: &[u8]) -> Result<Answer, NoMemory>

@@ -17,7 +17,7 @@ mod usage;
 pub use document::bounds_in;
 pub use document_json::json_in;
 pub use fault::Fault;
-pub use given::{Given, read_settings};
+pub use given::read_settings;
 pub use running::run;
 pub use setting::Setting;
 pub use settings::Settings;

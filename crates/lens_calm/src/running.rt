@@ -9,38 +9,33 @@ ghost use Rattle.lens_calm.specs.Answers as spec;
 ghost use Rattle.lens_calm.specs.Settings as given;
 ghost use Rattle.lens_calm.specs.Settings.{AreGiven};
 
-use crate::fault::Fault;
 use crate::given::read_settings;
 use crate::lines::{add_election, add_gone, add_tainted, add_taken, add_unknown, stays_line};
 use crate::objects::{
     add_all, election_parts, end_parts, node_parts, pod_parts, taken_parts, timing_parts,
 };
 use crate::settings::Settings;
-use crate::usage::add_usage;
 use byte_edge::Sink;
 use kube_base::NoMemory;
 use kube_objects::Proc;
 use lens_bounds::{Election, election_of, stays, until_gone, until_tainted, until_unknown};
 use lens_json::{Part, add_parts};
-use lens_room::by_flags::{behind, is_safe, slowest_controller};
+use lens_room::by_flags::{behind, is_safe, misused, slowest_controller, tell_answer};
 use lens_room::verdict_by;
-use run_edge::{Answer, Status, Verdict, tell};
+use run_edge::{Answer, Status};
 use std::alloc::Global;
 use trace_writer::add;
 
 /// Writes how long nobody leads after a crash or a stop, how long a leader acts on that is cut off, by when somebody leads once the network is
 /// well, and when a dead node is marked and tainted and its pods gone, at least and at most, by the settings that the words behind the first
-/// one give, in lines or as one JSON object; or what is wrong with the words. It ends safe where a leader stays.
+/// one give, in lines or as one JSON object; or what is wrong with the words. It ends safe if a leader stays.
 pub fn run<K: Sink>(alloc: Global, words: &Vec<String>, sink: &mut K) -> Status
     ensures text { (left : List ℕ) → Ends (Unread (answer_to (behind (map string_bytes words.now.items))) left) (Some left) (K.taken sink.old)
         (K.taken sink.new) result }
     ensures silent { result ≢ Status.SourceFault }
     ensures sink_fault { result ≡ Status.SinkFault → Rose (K.faults sink.old) (K.faults sink.new) }
 {
-    match answer(alloc, behind(words)) {
-        Ok(answer) => tell(sink, answer.verdict, &answer.text),
-        Err(NoMemory) => Status::OutOfMemory,
-    }
+    tell_answer(sink, answer(alloc, behind(words)))
 }
 
 fn answer(alloc: Global, words: &[String]) -> Result<Answer, NoMemory>
@@ -143,15 +138,4 @@ fn parts<'a>(alloc: Global, s: Settings, stays: bool) -> Result<Vec<Part<'a>>, N
     add_all(&mut parts, pod_parts(alloc, seconds, gone)?)?;
     add_all(&mut parts, end_parts(alloc, stays, is_safe(&s.flags))?)?;
     Ok(parts)
-}
-
-fn misused(alloc: Global, words: &[String], fault: Fault) -> Result<Answer, NoMemory>
-    ensures { IfOk result (λ answer. reply_of answer ≡ spec.misused (map string_bytes words.now) fault) }
-{
-    let mut text = Vec::new(alloc);
-    add_usage(&mut text, words, fault)?;
-    Ok(Answer {
-        verdict: Verdict::Usage,
-        text,
-    })
 }

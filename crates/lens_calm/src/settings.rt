@@ -17,11 +17,11 @@ use lens_room::by_flags::Flags;
 pub struct Settings {
     /// Those of `margin`.
     pub flags: Flags,
-    /// The longest wait of a candidate between two attempts; where none is given, it is the retry period.
+    /// The longest wait of a candidate between two attempts; if none is given, it is the retry period.
     pub wait_millis: Option<u32>,
     /// The greatest delay of a message, one way.
     pub delay_millis: u32,
-    /// And the least; where none is given, it is a beat.
+    /// And the least; if none is given, it is a beat.
     pub least_delay_millis: Option<u32>,
     pub grace_millis: u32,
     pub monitor_millis: u32,

@@ -1,14 +1,13 @@
 // For how many seconds a document's pods tolerate the taint of a node that isn't heard of.
 ghost use Rattle.std.specs.Prelude.{◌≡◌, Some, IfOk, OnOk};
-ghost use Rattle.kube_objects.specs.Tolerations.{first_tolerating};
 ghost use Rattle.outage_laws.specs.Gone.{seconds_of, tolerated_for};
 ghost use Rattle.lens_calm.specs.Tolerated as spec;
 
 use kube_base::{NoMemory, UNREACHABLE};
-use kube_objects::{Effect, Event, Key, Object, Taint, Toleration, Tolerations, What};
+use kube_objects::{Effect, Event, Key, Object, Taint, Toleration, What};
 use script_reader::Document;
 use std::alloc::Global;
-use taint_match::tolerates;
+use taint_match::first_tolerating;
 
 fn outage_taint() -> Taint
     ensures { result ≡ spec.outage_taint }
@@ -19,16 +18,6 @@ fn outage_taint() -> Taint
         effect: Effect::NoExecute,
         added: None,
     }
-}
-
-fn first(tolerations: &Tolerations, taint: &Taint) -> Option<Toleration>
-    ensures { result ≡ first_tolerating tolerations.now taint.now }
-{
-    tolerations
-        .as_slice()
-        .iter()
-        .copied()
-        .find(|toleration| tolerates(toleration, taint))
 }
 
 fn seconds_of(seconds: Option<i64>) -> Option<u64>
@@ -63,7 +52,7 @@ fn time_of(object: &Object) -> Option<u64>
 {
     match object {
         Object::Node(_) | Object::Lease(_) => None,
-        Object::Pod(pod) => tolerated_for(first(&pod.tolerations, &outage_taint())),
+        Object::Pod(pod) => tolerated_for(first_tolerating(&pod.tolerations, &outage_taint())),
     }
 }
 
@@ -72,17 +61,7 @@ fn time_put(what: &What) -> Option<u64>
 {
     match what {
         What::Put(_, object) => time_of(object),
-        What::Rate(_, _)
-        | What::Delay(_, _, _)
-        | What::Loss(_, _, _)
-        | What::Crash(_)
-        | What::Start(_)
-        | What::Stop(_)
-        | What::Watch(_, _)
-        | What::Ready(_, _)
-        | What::Pause(_, _)
-        | What::Stall(_)
-        | What::Remove(_) => None,
+        _ => None,
     }
 }
 

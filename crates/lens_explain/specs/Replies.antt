@@ -33,8 +33,11 @@ refused_text r s more = refusal_text r.code r.path ++ (shown_text s ++ more)
 
 -- ---- in either form
 
+abbrev pub said_text : Bool → Document → List Warning → List ℕ
+said_text as_json d ws = if as_json then formed_json d ws else formed_text d ws
+
 abbrev pub formed : Bool → Document → List Warning → Reply
-formed as_json d ws = record { verdict = Done; text = if as_json then formed_json d ws else formed_text d ws }
+formed as_json d ws = record { verdict = Done; text = said_text as_json d ws }
 
 abbrev pub refused : Bool → Refusal → Shown → List ℕ → Reply
 refused as_json r s more = record { verdict = Refused; text = if as_json then refused_json r s more else refused_text r s more }

@@ -49,18 +49,20 @@ settings_slips s =
 abbrev pub own_path : ℕ → List ℕ → List ℕ
 own_path place key = codes "/controllers/" ++ (decimal place ++ key)
 
-abbrev pub own_millis : ℕ → List ℕ → ℕ → ℕ → List Slip
-own_millis place key value standard = if value == standard then [] else millis_slip (own_path place key) value
+abbrev pub unit_slip : Bool → List ℕ → ℕ → List Slip
+unit_slip true path value = millis_slip path value
+unit_slip false path value = seconds_slip path value
 
-abbrev pub own_seconds : ℕ → List ℕ → ℕ → ℕ → List Slip
-own_seconds place key value standard = if value == standard then [] else seconds_slip (own_path place key) value
+-- of milliseconds, or of seconds
+abbrev pub own_slip : Bool → ℕ → List ℕ → ℕ → ℕ → List Slip
+own_slip is_millis place key value standard = if value == standard then [] else unit_slip is_millis (own_path place key) value
 
 abbrev pub controller_slips : Settings → ℕ → Proc → List Slip
 controller_slips s place c =
-    own_seconds place (codes "/leaseDurationSeconds") c.lease_seconds s.lease_duration_seconds
-    ++ (own_millis place (codes "/renewDeadlineMillis") c.renew_millis s.renew_deadline_millis
-    ++ (own_millis place (codes "/retryPeriodMillis") c.retry_millis s.retry_period_millis
-    ++ own_millis place (codes "/callTimeoutMillis") c.timeout_millis s.call_timeout_millis))
+    own_slip false place (codes "/leaseDurationSeconds") c.lease_seconds s.lease_duration_seconds
+    ++ (own_slip true place (codes "/renewDeadlineMillis") c.renew_millis s.renew_deadline_millis
+    ++ (own_slip true place (codes "/retryPeriodMillis") c.retry_millis s.retry_period_millis
+    ++ own_slip true place (codes "/callTimeoutMillis") c.timeout_millis s.call_timeout_millis))
 
 -- of controllers, the first of which has this place
 abbrev pub slips_from : Settings → ℕ → List Proc → List Slip

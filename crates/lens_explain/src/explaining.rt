@@ -1,16 +1,16 @@
 // What is said of a document.
-ghost use Rattle.std.specs.Prelude.{◌≡◌, true, false, IfOk, map};
+ghost use Rattle.std.specs.Prelude.{◌≡◌, ◌++◌, true, false, IfOk, OnOk, map};
 ghost use Rattle.run_edge.specs.Outcome.{reply_of};
 ghost use Rattle.lens_explain.specs.Replies as spec;
 ghost use Rattle.lens_explain.specs.Slips as slip_spec;
 ghost use Rattle.lens_explain.specs.Slips.{slip_of};
-ghost use Rattle.lens_explain.specs.Replies.{IsExplained, IsFormed, IsRefused};
+ghost use Rattle.lens_explain.specs.Replies.{IsExplained, IsFormed, IsRefused, said_text};
 
-use crate::lines::{add_counts, add_slips, add_warnings, add_why};
+use crate::lines::{add_lines, add_why};
 use crate::object::{add_formed, add_refused};
 use crate::place::Shown;
 use crate::saying::why;
-use crate::slips::{Slip, add_unheard, is_unheard, slips};
+use crate::slips::{Slip, slips};
 use crate::twice::{Warning, warnings};
 use kube_base::NoMemory;
 use manifest_json::{ReadFault, Refusal};
@@ -90,49 +90,29 @@ fn formed(
 {
     let found = warnings(alloc, input)?;
     let slips = slips(alloc, document)?;
+    let mut text = Vec::new(alloc);
+    add_said(&mut text, alloc, as_json, document, &found, &slips)?;
+    Ok(Answer {
+        verdict: Verdict::Done,
+        text,
+    })
+}
+
+/// Adds what is said of a document that is well formed, in the form that is wanted.
+fn add_said(
+    text: &mut Vec<u8>,
+    alloc: Global,
+    as_json: bool,
+    document: &Document,
+    found: &[Warning<'_>],
+    slips: &[Slip],
+) -> Result<(), NoMemory>
+    requires { map slip_of slips.now ≡ slip_spec.slips document.now }
+    ensures { OnOk result (text.new.items ≡ text.old.items ++ said_text as_json document.now found.now) }
+{
     if as_json {
-        formed_object(alloc, document, &found, &slips)
+        add_formed(text, alloc, document, found, slips)
     } else {
-        formed_lines(alloc, document, &found, &slips)
+        add_lines(text, document, found, slips)
     }
-}
-
-/// The lines on a document that is well formed.
-#[tactic(auto, unfolding(crate::specs::Replies::formed_text))]
-fn formed_lines(
-    alloc: Global,
-    document: &Document,
-    found: &[Warning<'_>],
-    slips: &[Slip],
-) -> Result<Answer, NoMemory>
-    requires { map slip_of slips.now ≡ slip_spec.slips document.now }
-    ensures { IfOk result (λ answer. reply_of answer ≡ spec.formed false document.now found.now) }
-{
-    let mut text = Vec::new(alloc);
-    add_counts(&mut text, document)?;
-    add_warnings(&mut text, found)?;
-    add_slips(&mut text, slips)?;
-    add_unheard(&mut text, is_unheard(document))?;
-    Ok(Answer {
-        verdict: Verdict::Done,
-        text,
-    })
-}
-
-/// The object on a document that is well formed.
-fn formed_object(
-    alloc: Global,
-    document: &Document,
-    found: &[Warning<'_>],
-    slips: &[Slip],
-) -> Result<Answer, NoMemory>
-    requires { map slip_of slips.now ≡ slip_spec.slips document.now }
-    ensures { IfOk result (λ answer. reply_of answer ≡ spec.formed true document.now found.now) }
-{
-    let mut text = Vec::new(alloc);
-    add_formed(&mut text, alloc, document, found, slips)?;
-    Ok(Answer {
-        verdict: Verdict::Done,
-        text,
-    })
 }

@@ -7,7 +7,7 @@ use strsim::generic_levenshtein;
 /// The most letters of a word for which a nearest one is looked for.
 const LONGEST: usize = 64;
 
-/// Of these words one that another one begins, or else the one that the fewest edits make of it, where these are at most a third of its
+/// Of these words one that another one begins, or else the one that the fewest edits make of it, if these are at most a third of its
 /// letters, and one.
 pub(crate) fn nearest(
     alloc: Global,

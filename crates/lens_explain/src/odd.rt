@@ -7,8 +7,6 @@ ghost use Rattle.lens_explain.specs.Keys.{key_of, keys_of};
 ghost use Rattle.lens_explain.specs.Odd as spec;
 ghost use Rattle.lens_explain.specs.Odd.{odd_place};
 ghost use Rattle.lens_explain.specs.Ways as ways;
-ghost use Rattle.script_reader.specs.Tables as tables;
-ghost use Rattle.script_reader.specs.Walk as walk;
 ghost use Rattle.script_reader.specs.Walk.{data_of};
 
 use crate::keys::{Key, Keys};
@@ -17,8 +15,8 @@ use crate::place::cut_at;
 use crate::walk::follow;
 use kube_base::NoMemory;
 use manifest_json::ReadFault;
-use script_reader::read_value;
-use script_reader::table::{EventType, Table, Version};
+use script_reader::table::{EventType, Table, Version, is_four};
+use script_reader::{read_value, type_of};
 use serde_json::Value;
 use std::alloc::Global;
 use std::str::from_utf8;
@@ -183,62 +181,7 @@ fn kind_or_crash(version: Version, text: Option<&str>) -> EventType
     ensures { result ≡ spec.kind_or_crash version (option_map (λ text. text.now) text.entry) }
 {
     match text {
-        Some(text) => kind_of(version, text).unwrap_or(EventType::Crash),
+        Some(text) => type_of(version, text).unwrap_or(EventType::Crash),
         None => EventType::Crash,
-    }
-}
-
-/// A type of events. A pause is one from version 3 on, a stall from version 4 on.
-fn kind_of(version: Version, text: &str) -> Option<EventType>
-    ensures { result ≡ walk.type_of version text.now }
-{
-    if text == "rate" {
-        Some(EventType::Rate)
-    } else if text == "delay" {
-        Some(EventType::Delay)
-    } else if text == "loss" {
-        Some(EventType::Loss)
-    } else if text == "crash" {
-        Some(EventType::Crash)
-    } else if text == "start" {
-        Some(EventType::Start)
-    } else if text == "stop" {
-        Some(EventType::Stop)
-    } else if text == "watch" {
-        Some(EventType::Watch)
-    } else if text == "ready" {
-        Some(EventType::Ready)
-    } else if text == "pause" && is_from_three(version) {
-        Some(EventType::Pause)
-    } else if text == "stall" && is_four(version) {
-        Some(EventType::Stall)
-    } else if text == "put" {
-        Some(EventType::Put)
-    } else if text == "remove" {
-        Some(EventType::Remove)
-    } else {
-        None
-    }
-}
-
-fn is_from_three(version: Version) -> bool
-    ensures { result ≡ tables.is_from_three version }
-{
-    match version {
-        Version::One => false,
-        Version::Two => false,
-        Version::Three => true,
-        Version::Four => true,
-    }
-}
-
-fn is_four(version: Version) -> bool
-    ensures { result ≡ tables.is_four version }
-{
-    match version {
-        Version::One => false,
-        Version::Two => false,
-        Version::Three => false,
-        Version::Four => true,
     }
 }

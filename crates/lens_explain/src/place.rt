@@ -91,7 +91,7 @@ fn column_in(front: &[u8]) -> u64
     behind_feed(front) as u64 + 1
 }
 
-/// How many bytes stand behind the last line feed, or in all where there is none.
+/// How many bytes stand behind the last line feed, or in all if there is none.
 fn behind_feed(text: &[u8]) -> usize
     ensures value { result ≡ unwrap_or (position (λ byte. byte == 10) (reverse text.now)) (length text.now) }
     ensures few { result ≤ length text.now }
@@ -139,7 +139,7 @@ fn value_end(text: &[u8]) -> usize {
     text.len()
 }
 
-/// So many bytes of a text, or up to three fewer, where these would end within a character of UTF-8.
+/// So many bytes of a text, or up to three fewer, if these would end within a character of UTF-8.
 fn whole_of(text: &[u8], most: usize) -> usize
     requires { most ≤ length text.now }
     ensures { result ≤ length text.now }

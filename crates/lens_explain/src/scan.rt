@@ -115,7 +115,7 @@ pub(crate) fn side_at(side: Side, byte: u8) -> Side
     }
 }
 
-/// The quotes of the last text, where this byte may be one of them.
+/// The quotes of the last text, if this byte may be one of them.
 fn span_at(scan: Scan, place: usize, byte: u8) -> Span
     ensures { result ≡ span_behind scan.side scan.last place byte }
 {

@@ -129,9 +129,10 @@ fn add_controller(
 ) -> Result<(), NoMemory>
     ensures { OnOk result (map slip_of found.new.items ≡ map slip_of found.old.items ++ spec.controller_slips settings.now place controller.now) }
 {
-    add_own_seconds(
+    add_own(
         found,
         alloc,
+        false,
         place,
         b"/leaseDurationSeconds",
         controller.lease_seconds,
@@ -140,6 +141,7 @@ fn add_controller(
     add_own(
         found,
         alloc,
+        true,
         place,
         b"/renewDeadlineMillis",
         controller.renew_millis,
@@ -148,6 +150,7 @@ fn add_controller(
     add_own(
         found,
         alloc,
+        true,
         place,
         b"/retryPeriodMillis",
         controller.retry_millis,
@@ -156,6 +159,7 @@ fn add_controller(
     add_own(
         found,
         alloc,
+        true,
         place,
         b"/callTimeoutMillis",
         controller.timeout_millis,
@@ -163,40 +167,27 @@ fn add_controller(
     )
 }
 
-/// Adds a controller's own milliseconds, if they aren't those of the settings and look as if they were meant as seconds.
+/// Adds a controller's own milliseconds or seconds, if they aren't those of the settings and look as if they were meant in the other unit.
 fn add_own(
     found: &mut Vec<Slip>,
     alloc: Global,
+    is_millis: bool,
     place: usize,
     key: &[u8],
     value: u32,
     standard: u32,
 ) -> Result<(), NoMemory>
-    ensures { OnOk result (map slip_of found.new.items ≡ map slip_of found.old.items ++ spec.own_millis place key.now value standard) }
+    ensures { OnOk result (map slip_of found.new.items ≡ map slip_of found.old.items ++ spec.own_slip is_millis place key.now value standard) }
 {
     if value == standard {
         return Ok(());
     }
     let path = own_path(alloc, place, key)?;
-    add_millis(found, alloc, &path, value)
-}
-
-/// The same of its own seconds, if they look as if they were meant as milliseconds.
-fn add_own_seconds(
-    found: &mut Vec<Slip>,
-    alloc: Global,
-    place: usize,
-    key: &[u8],
-    value: u32,
-    standard: u32,
-) -> Result<(), NoMemory>
-    ensures { OnOk result (map slip_of found.new.items ≡ map slip_of found.old.items ++ spec.own_seconds place key.now value standard) }
-{
-    if value == standard {
-        return Ok(());
+    if is_millis {
+        add_millis(found, alloc, &path, value)
+    } else {
+        add_seconds(found, alloc, &path, value)
     }
-    let path = own_path(alloc, place, key)?;
-    add_seconds(found, alloc, &path, value)
 }
 
 fn own_path(alloc: Global, place: usize, key: &[u8]) -> Result<Vec<u8>, NoMemory>
@@ -283,7 +274,7 @@ fn unit(is_millis: bool) -> &'static [u8]
     }
 }
 
-/// Adds the line on nodes of which nothing is heard, where it holds.
+/// Adds the line on nodes of which nothing is heard, if it holds.
 pub(crate) fn add_unheard(text: &mut Vec<u8>, is_unheard: bool) -> Result<(), NoMemory>
     ensures { OnOk result (text.new.items ≡ text.old.items ++ spec.unheard_text is_unheard) }
 {

@@ -26,7 +26,7 @@ pub(crate) fn stop_of(alloc: Global, input: &[u8]) -> Result<usize, NoMemory>
     stop_behind(alloc, input, turn)
 }
 
-/// How many bytes these are where all of them can be ended, or else where the text or word begins that isn't over behind them.
+/// How many bytes these are if all of them can be ended, or else where the text or word begins that isn't over behind them.
 fn stop_behind(alloc: Global, input: &[u8], here: usize) -> Result<usize, NoMemory>
     ensures { IfOk result (λ place. place ≡ spec.stop_behind input.now here) }
 {

@@ -82,7 +82,7 @@ fn twice_in(alloc: Global, input: &[u8]) -> Result<Vec<Twice>, NoMemory>
     Ok(found)
 }
 
-/// Adds a key that stood at a place before, where there is room for one more.
+/// Adds a key that stood at a place before, if there is room for one more.
 #[tactic(auto, using(crate::proofs::Doubling::none_stays))]
 fn add_twice(found: &mut Vec<Twice>, key: Key<'_>, before: Option<usize>) -> Result<(), NoMemory>
     requires { length found.old.items ≤ 20 }

@@ -22,7 +22,7 @@ pub(crate) struct Found {
 /// An object or array that is open.
 #[derive(Clone, Copy)]
 pub(crate) struct Outer {
-    /// How many bytes of the path lead to it, where it is on the path.
+    /// How many bytes of the path lead to it, if it is on the path.
     pub reached: Option<usize>,
     /// In an array the number of the present item.
     pub item: Option<u64>,
@@ -35,7 +35,7 @@ pub(crate) struct Walk {
     pub scan: Scan,
     /// What is open, the innermost last.
     pub outer: Vec<Outer>,
-    /// How many bytes of the path lead to the value that comes next, where it is on the path.
+    /// How many bytes of the path lead to the value that comes next, if it is on the path.
     pub next: Option<usize>,
     pub found: Found,
 }
@@ -89,7 +89,7 @@ pub(crate) fn last_step(path: &[u8]) -> &[u8] {
     }
 }
 
-/// How many bytes of a path lead a step further, where so many lead up to it and the step is the next one.
+/// How many bytes of a path lead a step further, if so many lead up to it and the step is the next one.
 fn step_from(path: &[u8], step: &[u8], reached: usize) -> Option<usize>
     ensures { result ≡ spec.step_from path.now step.now reached }
 {
@@ -169,7 +169,7 @@ impl Walk {
         Ok(())
     }
 
-    /// Keeps the value that begins here, where it is on the path.
+    /// Keeps the value that begins here, if it is on the path.
     fn reach(&mut self, mark: Mark, place: usize)
         ensures found { self.new.found ≡ found_behind mark place self.old.next self.old.found }
         ensures scan { self.new.scan ≡ self.old.scan }

@@ -24,7 +24,7 @@ pub fn add_object(text: &mut Vec<u8>, members: &[Member<'_>]) -> Result<(), NoMe
     add(text, b"}")
 }
 
-/// Adds a comma where something stands before.
+/// Adds a comma if something stands before.
 pub(crate) fn add_comma(text: &mut Vec<u8>, later: bool) -> Result<(), NoMemory>
     ensures { OnOk result (text.new.items ≡ text.old.items ++ comma_if later) }
 {

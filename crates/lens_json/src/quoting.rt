@@ -37,7 +37,7 @@ fn add_escaped(text: &mut Vec<u8>, byte: u8) -> Result<(), NoMemory>
     }
 }
 
-/// The letter of a byte's short form, 0 where it has none.
+/// The letter of a byte's short form, 0 if it has none.
 fn letter(byte: u8) -> u8
     ensures { result ≡ escape_letter byte }
 {

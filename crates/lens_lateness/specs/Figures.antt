@@ -1,22 +1,18 @@
 -- What `summary --document --json` answers: the object of `summary --json`, whose evictions also tell how late they were.
-use Rattle.std.specs.Prelude.{ℕ, ◌+◌, ◌-◌, ◌==◌, ◌++◌, nat_le, pos, neg_ℤ, List, [], ◌∷◌, set, codes, filter_map, Option, Some, if◌then◌else◌}
+use Rattle.std.specs.Prelude.{ℕ, ◌-◌, ◌==◌, ◌++◌, nat_le, pos, neg_ℤ, List, [], ◌∷◌, set, codes, filter_map, Option, Some, if◌then◌else◌}
 use Rattle.std.specs.Option.{option_map}
 use Rattle.serde_json.specs.Data.{Data, null, number, unsigned, negative}
-use Rattle.serde_json.specs.Written.{compact_text}
 use Rattle.kube_base.specs.declared.numbers.Wall.{Wall}
 use Rattle.kube_base.specs.Times.{time_of}
 use Rattle.kube_objects.specs.Clocks.{store_wall}
 use Rattle.run_edge.specs.Outcome.{Reply, refusal}
 use Rattle.run_edge.specs.declared.status.Verdict.TheVariants.{Done}
-use Rattle.lens_json.specs.Members.{Named, object_of}
+use Rattle.lens_json.specs.Members.{Named}
 use Rattle.lens_json.specs.Parts.{list_of}
 use Rattle.lens_summary.specs.FigureLines.{pod_members}
-use Rattle.lens_summary.specs.Figures.{figure_members}
+use Rattle.lens_summary.specs.Figures.{members_on}
 use Rattle.lens_summary.specs.Pods.{eviction_in}
-use Rattle.lens_terms.specs.declared.stretch.Stretch.{Stretch}
-use Rattle.lens_terms.specs.declared.term.Term.{Term}
-use Rattle.lens_terms.specs.Acting.{acting}
-use Rattle.lens_terms.specs.Terms.{terms}
+use Rattle.lens_trace.specs.Objects.{object_reply}
 use Rattle.script_reader.specs.declared.document.Document.{Document}
 use Rattle.script_reader.specs.Documents.{doc_of}
 use Rattle.trace_lines.specs.declared.header.Header.{Header}
@@ -48,16 +44,12 @@ late_objects d ls = filter_map (late_by d) ls
 
 -- ---- the answer
 
--- the members of `summary --json`, of which these evictions take the place of the sixth, which are its own; by the terms of a trace that ends before
--- the beat `stop`, the stretches in which a leader acts, and the lines
-abbrev pub late_figures : Document → Header → ℕ → List (Term (List ℕ)) → List (Stretch (List ℕ)) → List (Line (List ℕ)) → List Named
-late_figures d header stop ts all ls = set (figure_members header stop ts all ls) 5 (codes "evictions", list_of (late_objects d ls))
-
-unfoldable pub figures_json : Document → Header → List (Term (List ℕ)) → List (Stretch (List ℕ)) → List (Line (List ℕ)) → List ℕ
-figures_json d header ts all ls = compact_text (object_of (late_figures d header (header.end + 1) ts all ls))
+-- the members of `summary --json`, of which these evictions take the place of the sixth, which are its own
+abbrev pub late_figures : Document → Header → List (Line (List ℕ)) → List Named
+late_figures d header ls = set (members_on header ls) 5 (codes "evictions", list_of (late_objects d ls))
 
 abbrev pub told : Document → Header → List (Line (List ℕ)) → Reply
-told d header ls = record { verdict = Done; text = figures_json d header (terms 2 ls) (acting (header.end + 1) ls) ls ++ codes "\n" }
+told d header ls = object_reply Done (late_figures d header ls)
 
 -- what is told of a trace beside its document; a trace with beats of another length isn't one of this document
 abbrev pub figures : Document → Header → List (Line (List ℕ)) → Reply

@@ -2,7 +2,7 @@
 ghost use Rattle.std.specs.Prelude.{◌≡◌, ◌≤◌, true, length};
 ghost use Rattle.lens_lateness.specs.Input as spec;
 
-/// How many bytes stand before the first line that begins with `trace `; all of them where there is none.
+/// How many bytes stand before the first line that begins with `trace `; all of them if there is none.
 pub(crate) fn document_end(input: &[u8]) -> usize
     ensures end { result ≡ spec.document_end true input.now }
     ensures within { result ≤ length input.now }

@@ -1,18 +1,14 @@
 // How late the evictions of a trace were.
 ghost use Rattle.std.specs.Prelude.{◌≡◌, ◌++◌, IfOk, OnOk, map, option_to_list};
 ghost use Rattle.kube_base.specs.Times.{time_of};
-ghost use Rattle.script_reader.specs.Documents.{doc_of};
-ghost use Rattle.script_reader.specs.Lawful.{AreLawful};
 ghost use Rattle.trace_lines.specs.Reads.{seen};
-ghost use Rattle.lens_lateness.specs.Clocks.{AreClocks};
 ghost use Rattle.lens_lateness.specs.Late as spec;
 ghost use Rattle.lens_lateness.specs.Told.{texts_of};
 
 use crate::clocks::{own_time, true_time};
+use crate::timing::Timing;
 use kube_base::{NoMemory, read_time};
 use lens_summary::eviction_in;
-use script_reader::Document;
-use skew_clock::Clock;
 use std::alloc::Global;
 use trace_lines::Line;
 use trace_writer::{add, add_number};
@@ -35,17 +31,15 @@ pub struct Late<'a> {
 /// The evictions of some lines, in their order.
 pub(crate) fn late_evictions<'a>(
     alloc: Global,
-    document: &Document,
-    clocks: &[Clock],
+    timing: &Timing<'_>,
     lines: &[Line<&'a [u8]>],
 ) -> Result<Vec<Late<'a>>, NoMemory>
-    requires settings { AreLawful document.now.settings }
-    requires clocks { AreClocks (doc_of document.now) clocks.now }
-    ensures { IfOk result (λ found. map (texts_of document.now.settings.beat_millis) found.items ≡ spec.late document.now (map seen lines.now)) }
+    ensures { IfOk result (λ found. map (texts_of timing.now.document.now.settings.beat_millis) found.items
+        ≡ spec.late timing.now.document.now (map seen lines.now)) }
 {
     let mut found = Vec::new(alloc);
     for line in lines {
-        add_late(&mut found, alloc, document, clocks, line)?;
+        add_late(&mut found, alloc, timing, line)?;
     }
     Ok(found)
 }
@@ -54,19 +48,17 @@ pub(crate) fn late_evictions<'a>(
 fn add_late<'a>(
     found: &mut Vec<Late<'a>>,
     alloc: Global,
-    document: &Document,
-    clocks: &[Clock],
+    timing: &Timing<'_>,
     line: &Line<&'a [u8]>,
 ) -> Result<(), NoMemory>
-    requires settings { AreLawful document.now.settings }
-    requires clocks { AreClocks (doc_of document.now) clocks.now }
-    ensures { OnOk result (map (texts_of document.now.settings.beat_millis) found.new.items
-        ≡ map (texts_of document.now.settings.beat_millis) found.old.items ++ option_to_list (spec.late_by document.now (seen line.now))) }
+    ensures { OnOk result (map (texts_of timing.now.document.now.settings.beat_millis) found.new.items
+        ≡ map (texts_of timing.now.document.now.settings.beat_millis) found.old.items ++ option_to_list (spec.late_by timing.now.document.now (seen line.now))) }
 {
     let Some((pod, due)) = eviction_in(&line.says) else {
         return Ok(());
     };
-    let own = own_time(document, clocks, line.actor, line.beat);
+    let document = timing.document;
+    let own = own_time(document, timing.clocks, line.actor, line.beat);
     let by_clock = lateness(alloc, own, due)?;
     let in_true_time = lateness(alloc, Some(true_time(document, line.beat)), due)?;
     found.push(Late {

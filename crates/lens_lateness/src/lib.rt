@@ -8,6 +8,7 @@ pub mod figures;
 mod input;
 mod late;
 mod table;
+mod timing;
 mod trace;
 
 pub use answering::lateness_of;

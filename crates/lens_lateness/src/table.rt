@@ -10,6 +10,7 @@ ghost use Rattle.lens_lateness.specs.Told.{texts_of};
 
 use crate::clocks::clocks_of;
 use crate::late::{Late, late_evictions};
+use crate::timing::Timing;
 use kube_base::NoMemory;
 use lens_summary::{Cell, Row, add_row, add_table};
 use script_reader::Document;
@@ -28,7 +29,11 @@ pub(crate) fn tell_late(
     ensures { OnOk result (text.new.items ≡ text.old.items ++ table_behind (spec.late_rows document.now (map seen lines.now))) }
 {
     let clocks = clocks_of(alloc, document)?;
-    let found = late_evictions(alloc, document, &clocks, lines)?;
+    let timing = Timing {
+        document,
+        clocks: &clocks,
+    };
+    let found = late_evictions(alloc, &timing, lines)?;
     let rows = late_rows(alloc, document.settings.beat_millis, &found)?;
     add_behind(text, alloc, &rows)
 }

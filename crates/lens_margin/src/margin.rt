@@ -14,13 +14,13 @@ const LONGEST_LEASE: u128 = 86_400;
 /// The numbers of a controller. Times are in milliseconds but where a name says else.
 #[derive(Clone, Copy)]
 pub struct Margin {
-    /// What others wait: the lease duration, or the least of all where each goes by its own.
+    /// What others wait: the lease duration, or the least of all if each goes by its own.
     pub lease: u128,
     /// What the lease must exceed, rounded up.
     pub must_exceed: u128,
-    /// The least lease in whole seconds that is enough, for all where each goes by its own, where one of at most a day is.
+    /// The least lease in whole seconds that is enough, for all if each goes by its own, if one of at most a day is.
     pub least_seconds: Option<u32>,
-    /// The longest further stall that the lease bears, where it is long enough at all.
+    /// The longest further stall that the lease bears, if it is long enough at all.
     pub longest_stall: Option<u128>,
 }
 

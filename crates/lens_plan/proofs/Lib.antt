@@ -1,4 +1,4 @@
 -- ---- the ranges of a plan
 pub mod Small
--- ---- how a run ends
+-- ---- what is told
 pub mod Endings

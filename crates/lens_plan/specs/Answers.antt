@@ -1,11 +1,10 @@
 -- What words behind `tune` are answered.
-use Rattle.std.specs.Prelude.{◌≡◌, ℕ, Bool, true, false, List, ◌++◌, codes, Result, Ok, Err, if◌then◌else◌}
+use Rattle.std.specs.Prelude.{◌≡◌, ℕ, Bool, true, false, List, codes, Result, Ok, Err, if◌then◌else◌}
 use Rattle.run_edge.specs.Outcome.{Outcome, Reply}
-use Rattle.run_edge.specs.declared.status.Verdict.TheVariants.{Usage}
-use Rattle.lens_room.specs.FlagReplies.{unknown_text, word_at}
 use Rattle.lens_room.specs.Replies.{verdict_of}
+use Rattle.lens_room.specs.Words.{misread_text, misused as misused_by}
 use Rattle.lens_plan.specs.declared.fault.Fault.{Fault}
-use Rattle.lens_plan.specs.declared.fault.Fault.TheVariants.{Unknown, Alone, Value, NoFailover}
+use Rattle.lens_plan.specs.declared.fault.Fault.TheVariants.{Words, NoFailover}
 use Rattle.lens_plan.specs.declared.found.Found.{Found}
 use Rattle.lens_plan.specs.declared.found.Found.TheVariants.{Fitting, Later, Never}
 use Rattle.lens_plan.specs.declared.setting.Setting.{Setting}
@@ -57,17 +56,14 @@ takes_text LeastRetry = codes " takes tenths of a second from 100ms to 24h, as 5
 takes_text Beat = codes " takes a duration from 1ms to 1s, as 10ms, not "
 
 abbrev pub fault_text : List (List ℕ) → Fault → List ℕ
-fault_text words (Unknown place) = unknown_text (word_at words place)
-fault_text words (Alone setting) = setting_text setting ++ codes " stands without a value"
-fault_text words (Value setting place) = setting_text setting ++ takes_text setting ++ word_at words place
+fault_text words (Words misread) = misread_text setting_text takes_text words misread
 fault_text words NoFailover = codes "--failover has to be given, as --failover 10s"
 
-unfoldable pub usage_text : List ℕ → List ℕ
-usage_text fault =
-    codes "usage: kube_lens tune --failover 10s [--timeout 10s|half] [--skew 0ppm] [--wait-factor 2.2] [--stall 0s] [--delay 100ms] [--least-retry 100ms] [--beat 10ms] [--json]\n" ++ fault ++ codes "\n"
+abbrev pub usage_line : List ℕ
+usage_line = codes "usage: kube_lens tune --failover 10s [--timeout 10s|half] [--skew 0ppm] [--wait-factor 2.2] [--stall 0s] [--delay 100ms] [--least-retry 100ms] [--beat 10ms] [--json]\n"
 
 abbrev pub misused : List (List ℕ) → Fault → Reply
-misused words fault = record { verdict = Usage; text = usage_text (fault_text words fault) }
+misused words fault = misused_by usage_line (fault_text words fault)
 
 -- ---- all words
 

@@ -24,18 +24,16 @@ flags_line p =
     lease_text p.lease_seconds ++ codes " --leader-elect-renew-deadline=" ++ tenths_text p.renew_tenths
     ++ codes " --leader-elect-retry-period=" ++ tenths_text p.retry_tenths ++ codes "\n"
 
-unfoldable pub crash_line : ℕ → ℕ → List ℕ
-crash_line most left = codes "crash nobody-leads" ++ millis_text (codes " at-most=") most ++ millis_text (codes " spare=") left ++ codes "\n"
+-- how long nobody leads after a crash, at most, and other milliseconds beside it
+unfoldable pub crash_line : ℕ → List ℕ → ℕ → List ℕ
+crash_line most label other = codes "crash nobody-leads" ++ millis_text (codes " at-most=") most ++ millis_text label other ++ codes "\n"
 
 unfoldable pub plan_text : Wish → Plan → List ℕ
-plan_text w p = flags_line p ++ crash_line (bound w p) (spare w p) ++ codes "fits\n"
-
-unfoldable pub over_line : ℕ → ℕ → List ℕ
-over_line least failover = codes "crash nobody-leads" ++ millis_text (codes " at-most=") least ++ millis_text (codes " failover=") failover ++ codes "\n"
+plan_text w p = flags_line p ++ crash_line (bound w p) (codes " spare=") (spare w p) ++ codes "fits\n"
 
 -- by no plan somebody else leads sooner than in so many milliseconds
 unfoldable pub later_text : Wish → ℕ → List ℕ
-later_text w least = over_line least w.failover_millis ++ codes "least-failover=" ++ decimal least ++ codes "ms\nnone\n"
+later_text w least = crash_line least (codes " failover=") w.failover_millis ++ codes "least-failover=" ++ decimal least ++ codes "ms\nnone\n"
 
 unfoldable pub short_line : ℕ → ℕ → List ℕ
 short_line millis ways = millis_text (codes "timeout=") millis ++ millis_text (codes " two-ways=") ways ++ codes "\n"

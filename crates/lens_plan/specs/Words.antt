@@ -1,14 +1,16 @@
 -- The words behind `tune`, and what they want.
-use Rattle.std.specs.Prelude.{ℕ, ◌+◌, ◌*◌, ◌/◌, ◌%◌, ◌==◌, ◌&&◌, ◌||◌, nat_le, Bool, true, false, List, [], ◌∷◌, length, codes}
+use Rattle.std.specs.Prelude.{ℕ, ◌*◌, ◌/◌, ◌%◌, ◌==◌, ◌&&◌, ◌||◌, nat_le, Bool, true, false, List, length, codes}
 use Rattle.std.specs.Prelude.{Option, Some, None, Result, Ok, Err, if◌then◌else◌}
 use Rattle.kube_base.specs.Times.{◌>>=◌}
 use Rattle.trace_lines.specs.Grammar.{cut}
 use Rattle.lens_room.specs.declared.by_flags.flag.Flag.TheVariants as margin
+use Rattle.lens_room.specs.declared.by_flags.misread.Misread.{Misread}
 use Rattle.lens_room.specs.Durations.{duration}
 use Rattle.lens_room.specs.Flags.{is, value_of, within}
+use Rattle.lens_room.specs.Words.{Command, read_from}
 use Rattle.lens_plan.specs.declared.fault.Fault.{Fault}
-use Rattle.lens_plan.specs.declared.fault.Fault.TheVariants.{Unknown, Alone, Value, NoFailover}
-use Rattle.lens_plan.specs.declared.given.Given.{Given}
+use Rattle.lens_plan.specs.declared.fault.Fault.TheVariants.{Words, NoFailover}
+use Rattle.lens_plan.specs.declared.given.Asked.{Asked}
 use Rattle.lens_plan.specs.declared.setting.Setting.{Setting}
 use Rattle.lens_plan.specs.declared.setting.Setting.TheVariants.{Failover, Timeout, Skew, WaitFactor, Stall, Delay, LeastRetry, Beat}
 use Rattle.lens_plan.specs.declared.wanted.Wanted.{Wanted}
@@ -74,7 +76,7 @@ number_of Delay text = duration text >>= within 600000
 number_of LeastRetry text = duration text >>= within 86400000 >>= tenths
 number_of Beat text = duration text >>= within 1000
 
--- ---- words, each `--flag=value`, or a flag and then its value; the last of a flag counts. `--json` stands wherever a flag may
+-- ---- what words want, one after the other
 
 abbrev pub is_timeout : Setting → Bool
 is_timeout Timeout = true
@@ -96,69 +98,37 @@ is_failover Delay = false
 is_failover LeastRetry = false
 is_failover Beat = false
 
-abbrev pub numbered : ℕ → Given → Setting → Option ℕ → Result Given Fault
-numbered place given setting None = Err (Value setting place)
-numbered place given setting (Some n) =
-    Ok (record { wanted = with_number setting n given.wanted; has_failover = given.has_failover || is_failover setting; waiting = None })
+abbrev pub with_number_if : Asked → Setting → Option ℕ → Option Asked
+with_number_if asked setting None = None
+with_number_if asked setting (Some n) =
+    Some (record { wanted = with_number setting n asked.wanted; has_failover = asked.has_failover || is_failover setting })
 
-abbrev pub halved : Given → Given
-halved given = record { wanted = with_half given.wanted; has_failover = given.has_failover; waiting = None }
+abbrev pub halved : Asked → Asked
+halved asked = record asked { wanted = with_half asked.wanted }
 
 -- a call timeout may be half the renew deadline
-abbrev pub valued : ℕ → Given → Setting → List ℕ → Result Given Fault
-valued place given setting text =
-    if is_timeout setting && is text (codes "half") then Ok (halved given)
-    else numbered place given setting (number_of setting text)
-
-abbrev pub named : ℕ → Option Setting → Result Setting Fault
-named place None = Err (Unknown place)
-named place (Some setting) = Ok setting
-
--- a flag whose value is the next word
-abbrev pub opened : Given → Result Setting Fault → Result Given Fault
-opened given (Err fault) = Err fault
-opened given (Ok setting) = Ok (record given { waiting = Some setting })
-
-abbrev pub joined : ℕ → Given → Result Setting Fault → List ℕ → Result Given Fault
-joined place given (Err fault) text = Err fault
-joined place given (Ok setting) text = valued place given setting text
-
-abbrev pub by_parts : ℕ → Given → List ℕ → Option (List ℕ × List ℕ) → Result Given Fault
-by_parts place given word None = opened given (named place (setting_by word))
-by_parts place given word (Some parts) = joined place given (named place (setting_by parts.0)) parts.1
+abbrev pub set : Asked → Setting → List ℕ → Option Asked
+set asked setting text =
+    if is_timeout setting && is text (codes "half") then Some (halved asked)
+    else with_number_if asked setting (number_of setting text)
 
 abbrev pub wanted_json : Wanted → Wanted
 wanted_json wanted = record wanted { as_json = true }
 
-abbrev pub as_json : Given → Given
-as_json given = record given { wanted = wanted_json given.wanted }
+abbrev pub as_json : Asked → Asked
+as_json asked = record asked { wanted = wanted_json asked.wanted }
 
-abbrev pub begun : ℕ → Given → List ℕ → Result Given Fault
-begun place given word = if is word (codes "--json") then Ok (as_json given) else by_parts place given word (cut 61 word)
+abbrev pub command : Command Asked Setting
+command = record { by_name = setting_by; with_text = set; in_json = as_json }
 
-abbrev pub by_waiting : ℕ → Given → Option Setting → List ℕ → Result Given Fault
-by_waiting place given None word = begun place given word
-by_waiting place given (Some setting) word = valued place given setting word
-
--- with one more word, which stands at a place
-unfoldable pub with_word : ℕ → Given → List ℕ → Result Given Fault
-with_word place given word = by_waiting place given given.waiting word
-
--- with the words from a place on
-abbrev pub given_from : ℕ → Result Given Fault → List (List ℕ) → Result Given Fault
-given_from place (Err fault) words = Err fault
-given_from place (Ok given) [] = Ok given
-given_from place (Ok given) (word ∷ words) = given_from (place + 1) (with_word place given word) words
+abbrev pub nothing : Asked
+nothing = record { wanted = usual; has_failover = false }
 
 -- a failover has to be given
-abbrev pub closed : Given → Option Setting → Result Wanted Fault
-closed given (Some setting) = Err (Alone setting)
-closed given None = if given.has_failover then Ok given.wanted else Err NoFailover
-
-abbrev pub settled : Result Given Fault → Result Wanted Fault
-settled (Err fault) = Err fault
-settled (Ok given) = closed given given.waiting
+abbrev pub closed : Result Asked (Misread Setting) → Result Wanted Fault
+closed (Err misread) = Err (Words misread)
+closed (Ok asked) = if asked.has_failover then Ok asked.wanted else Err NoFailover
 
 -- what words behind the command want, or what is wrong with them
 unfoldable pub wanted_of : List (List ℕ) → Result Wanted Fault
-wanted_of words = settled (given_from 0 (Ok (record { wanted = usual; has_failover = false; waiting = None })) words)
+wanted_of words = closed (read_from command nothing words)

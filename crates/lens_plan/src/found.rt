@@ -57,7 +57,7 @@ pub(crate) fn two_ways(wish: Wish) -> u64
     (millis * u64::from(1_000_000 + wish.skew_ppm)).div_ceil(1_000_000)
 }
 
-/// The call timeout, where it is given in milliseconds, that is shorter than two ways of a message.
+/// The call timeout, if it is given in milliseconds, that is shorter than two ways of a message.
 pub(crate) fn short_timeout(wish: Wish) -> Option<u32>
     requires { IsWish wish }
     ensures { result ≡ spec.short_timeout wish }

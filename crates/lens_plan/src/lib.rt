@@ -15,7 +15,7 @@ mod wanted;
 
 pub use fault::Fault;
 pub use found::Found;
-pub use given::{Given, read_wanted};
+pub use given::{Asked, read_wanted};
 pub use running::run;
 pub use setting::Setting;
 pub use wanted::Wanted;

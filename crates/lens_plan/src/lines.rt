@@ -57,7 +57,7 @@ fn add_plan(text: &mut Vec<u8>, wish: Wish, plan: Plan) -> Result<(), NoMemory>
     ensures { OnOk result (text.new.items ≡ text.old.items ++ spec.plan_text wish plan) }
 {
     add_flags(text, plan)?;
-    add_crash(text, bound(wish, plan), spare(wish, plan))?;
+    add_crash(text, bound(wish, plan), b" spare=", spare(wish, plan))?;
     add(text, b"fits\n")
 }
 
@@ -83,13 +83,14 @@ fn add_lease(text: &mut Vec<u8>, seconds: u32) -> Result<(), NoMemory>
     add(text, b"s")
 }
 
+/// Adds how long nobody leads after a crash, at most, and other milliseconds beside it.
 #[tactic(auto, unfolding(crate::specs::Lines::crash_line))]
-fn add_crash(text: &mut Vec<u8>, most: u128, spare: u128) -> Result<(), NoMemory>
-    ensures { OnOk result (text.new.items ≡ text.old.items ++ spec.crash_line most spare) }
+fn add_crash(text: &mut Vec<u8>, most: u128, label: &[u8], other: u128) -> Result<(), NoMemory>
+    ensures { OnOk result (text.new.items ≡ text.old.items ++ spec.crash_line most label.now other) }
 {
     add(text, b"crash nobody-leads")?;
     add_millis(text, b" at-most=", most)?;
-    add_millis(text, b" spare=", spare)?;
+    add_millis(text, label, other)?;
     add(text, b"\n")
 }
 
@@ -97,20 +98,10 @@ fn add_crash(text: &mut Vec<u8>, most: u128, spare: u128) -> Result<(), NoMemory
 fn add_later(text: &mut Vec<u8>, wish: Wish, least: u128) -> Result<(), NoMemory>
     ensures { OnOk result (text.new.items ≡ text.old.items ++ spec.later_text wish least) }
 {
-    add_over(text, least, wish.failover_millis)?;
+    add_crash(text, least, b" failover=", u128::from(wish.failover_millis))?;
     add(text, b"least-failover=")?;
     add_decimal(text, least)?;
     add(text, b"ms\nnone\n")
-}
-
-#[tactic(auto, unfolding(crate::specs::Lines::over_line))]
-fn add_over(text: &mut Vec<u8>, least: u128, failover: u32) -> Result<(), NoMemory>
-    ensures { OnOk result (text.new.items ≡ text.old.items ++ spec.over_line least failover) }
-{
-    add(text, b"crash nobody-leads")?;
-    add_millis(text, b" at-most=", least)?;
-    add_millis(text, b" failover=", u128::from(failover))?;
-    add(text, b"\n")
 }
 
 #[tactic(auto, unfolding(crate::specs::Lines::never_text))]

@@ -9,32 +9,27 @@ ghost use Rattle.lens_plan.specs.Answers.{Answers, IsAnswer};
 ghost use Rattle.lens_plan.specs.Answers as spec;
 ghost use Rattle.lens_plan.specs.Found.{IsFound, ForPlan};
 
-use crate::fault::Fault;
 use crate::found::{Found, found_for};
 use crate::given::read_wanted;
 use crate::lines::add_found;
 use crate::object::add_json;
-use crate::usage::add_usage;
 use crate::wanted::Wanted;
 use byte_edge::Sink;
 use kube_base::NoMemory;
-use lens_room::by_flags::behind;
+use lens_room::by_flags::{behind, misused, tell_answer};
 use lens_room::verdict_by;
-use run_edge::{Answer, Status, Verdict, tell};
+use run_edge::{Answer, Status};
 use std::alloc::Global;
 
 /// Writes the flags of the greatest plan that fits what the words behind the first one want, or that none does, why, and the least failover for
-/// which one would, in lines or as one JSON object; or what is wrong with the words. It ends safe where a plan fits.
+/// which one would, in lines or as one JSON object; or what is wrong with the words. It ends safe if a plan fits.
 pub fn run<K: Sink>(alloc: Global, words: &Vec<String>, sink: &mut K) -> Status
     ensures text { (left : List ℕ) → Ends (Answers (behind (map string_bytes words.now.items)) left) (Some left) (K.taken sink.old)
         (K.taken sink.new) result }
     ensures silent { result ≢ Status.SourceFault }
     ensures sink_fault { result ≡ Status.SinkFault → Rose (K.faults sink.old) (K.faults sink.new) }
 {
-    match answer(alloc, behind(words)) {
-        Ok(answer) => tell(sink, answer.verdict, &answer.text),
-        Err(NoMemory) => Status::OutOfMemory,
-    }
+    tell_answer(sink, answer(alloc, behind(words)))
 }
 
 fn answer(alloc: Global, words: &[String]) -> Result<Answer, NoMemory>
@@ -86,15 +81,4 @@ fn add_told(text: &mut Vec<u8>, alloc: Global, wanted: Wanted, found: Found) -> 
     } else {
         add_found(text, wanted.wish, found)
     }
-}
-
-fn misused(alloc: Global, words: &[String], fault: Fault) -> Result<Answer, NoMemory>
-    ensures { IfOk result (λ answer. reply_of answer ≡ spec.misused (map string_bytes words.now) fault) }
-{
-    let mut text = Vec::new(alloc);
-    add_usage(&mut text, words, fault)?;
-    Ok(Answer {
-        verdict: Verdict::Usage,
-        text,
-    })
 }

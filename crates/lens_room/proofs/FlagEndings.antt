@@ -2,8 +2,7 @@
 use Rattle.std.proofs.Common.{◌≡◌, ℕ, true, false, List, Some, Ok, ap, ◌∙◌, subst}
 use Rattle.byte_edge.specs.Bytes.{Taken}
 use Rattle.history.specs.Premise.{lease_premise}
-use Rattle.run_edge.specs.Outcome.{Ends, Reply, Unread, reply_of}
-use Rattle.run_edge.specs.declared.answer.Answer.{Answer}
+use Rattle.run_edge.specs.Outcome.{Ends, Unread}
 use Rattle.run_edge.specs.declared.status.Status.{Status}
 use Rattle.run_edge.specs.declared.status.Status.TheVariants.{Answered}
 use Rattle.run_edge.specs.declared.status.Verdict.{Verdict}
@@ -15,14 +14,6 @@ use Rattle.lens_room.specs.Flags.{flags_of}
 use Rattle.lens_room.specs.FlagLaws.{holds}
 use Rattle.lens_room.specs.FlagReplies.{answer_to, answered}
 use Rattle.lens_room.proofs.VerdictLaws.{verdict-safe, verdict-unsafe}
-
--- an answer to these words, of which a slice shows the text
-pub ends-answered : (shown words : List (List ℕ)) (a : Answer) (text left : List ℕ) (before after : Taken) (s : Status) → shown ≡ words → reply_of a ≡ answer_to shown
-    → text ≡ a.text.items → Ends (Unread (record { verdict = a.verdict; text = text }) left) (Some left) before after s → Ends (Unread (answer_to words) left) (Some left) before after s
-ends-answered shown words a text left before after s same is value ends =
-    let reply : Reply = record { verdict = a.verdict; text = text } in
-    let all : reply ≡ answer_to words = (λ i. let r : Reply = record { verdict = a.verdict; text = value i } in r) ∙ is ∙ ap answer_to same in
-    subst (λ r. Ends (Unread r left) (Some left) before after s) all ends
 
 module _ (words : List (List ℕ)) (flags : Flags) (read : flags_of words ≡ Ok flags) (left : List ℕ) (before after : Taken) (s : Status)
     (ends : Ends (Unread (answer_to words) left) (Some left) before after s) where

@@ -1,12 +1,12 @@
 -- The numbers of settings are those of the lease premise of the document that they describe.
-use Rattle.std.proofs.Common.{◌≡◌, ◌⊎◌, ℕ, zero, suc, ◌+◌, ◌-◌, ◌*◌, ◌<◌, ◌≤◌, ◌&&◌, nat_lt, Bool, true, false, cond, Option, Some, None, refl, sym, ap, ap₂, ◌∙◌, inl, inr, arith}
+use Rattle.std.proofs.Common.{◌≡◌, ◌⊎◌, ℕ, zero, suc, ◌+◌, ◌-◌, ◌*◌, ◌<◌, ◌≤◌, ◌&&◌, nat_lt, Bool, true, false, cond, Option, Some, None, refl, sym, ap, ap₂, ◌∙◌, subst, not, inl, inr, arith}
 use Rattle.std.proofs.Math.Nat.{mul-le-mul_right}
 use Rattle.std.proofs.lemmas.Bool.{and_parts, cases_lt, lt-ltb, le-ltb, ltb-true}
 use Rattle.std.proofs.lemmas.Bool.Decides.{nat_tests}
 use Rattle.kube_objects.specs.Document.{Doc, of_seconds, of_millis}
 use Rattle.kube_objects.specs.declared.rules.ReleaseActing.{ReleaseActing}
 use Rattle.kube_objects.specs.declared.rules.ReleaseActing.TheVariants.{Still, Acts}
-use Rattle.history.specs.Premise.{more, is_long, late_calls, stall_by, span_by, answers_come}
+use Rattle.history.specs.Premise.{more, is_long, late_calls, stall_by, span_by, answers_come, lease_part}
 use Rattle.script_reader.specs.Leases.{beside_by}
 use Rattle.script_reader.proofs.LeaseLemmas.{span-is}
 use Rattle.lens_margin.specs.Laws.{IsGreatest, is_enough_with}
@@ -15,8 +15,8 @@ use Rattle.lens_margin.specs.Margins.{fastest, numbers}
 use Rattle.lens_margin.proofs.Leased.{leased-is}
 use Rattle.lens_margin.proofs.Numbers.{margin-law-of}
 use Rattle.lens_room.specs.declared.by_flags.flags.Flags.{Flags}
-use Rattle.lens_room.specs.Described.{slow, fast, controller, described}
-use Rattle.lens_room.specs.FlagLaws.{holds, with_lease, with_skew, flags_margin, acting, are_still, skew_within, greatest_skew, IsLeastLease, IsGreatestSkew, AreNumbers}
+use Rattle.lens_room.specs.Described.{slow, fast, controller, described, answered}
+use Rattle.lens_room.specs.FlagLaws.{holds, with_lease, with_skew, flags_margin, acting, are_still, skew_within, greatest_skew, IsLeastLease, IsGreatestSkew, IsEnoughAnswered, AreNumbers}
 use Rattle.lens_room.specs.Ranges.{AreInRange}
 use Rattle.lens_room.proofs.Skews.{Bears, room, room-bears, room-most, bears-none}
 
@@ -110,14 +110,15 @@ module _ (flags : Flags) where
       let more : slow flags * (flags.lease_seconds * 1000) ≤ fast flags * (flags.lease_seconds * 1000) = mul-le-mul_right (flags.lease_seconds * 1000) (omega arith) in
       fast-is ∙ lt-ltb _ _ (omega (arith, less, more))
 
+  pub long-is : lease_part doc ≡ nat_lt (acting flags * fast flags) (flags.lease_seconds * 1000 * slow flags)
+  long-is =
+      ap (λ high. (true && is_long doc high 0) && is_long doc high 1) fastest-is
+      ∙ implied (is_long doc (fast flags) 0) (is_long doc (fast flags) 1) fast-follows
+      ∙ slow-is
+
   -- the premise holds exactly where nobody acts in a release and the lease on the slow clock outlasts the acting on the fast one
   pub premise-is : holds flags ≡ (are_still flags.in_release && nat_lt (acting flags * fast flags) (flags.lease_seconds * 1000 * slow flags))
-  premise-is =
-      let longs : (true && is_long doc (fastest doc) 0) && is_long doc (fastest doc) 1 ≡ nat_lt (acting flags * fast flags) (flags.lease_seconds * 1000 * slow flags)
-      = ap (λ high. (true && is_long doc high 0) && is_long doc high 1) fastest-is
-      ∙ implied (is_long doc (fast flags) 0) (is_long doc (fast flags) 1) fast-follows
-      ∙ slow-is in
-      ap₂ (λ a b. a && b) (come-is flags.in_release) longs
+  premise-is = ap₂ (λ a b. a && b) (come-is flags.in_release) long-is
 
   millis-are : (acts : ℕ) → acts * 1000000000 ≡ of_millis acts
   unfolding of_millis
@@ -190,6 +191,53 @@ module _ (flags : Flags) where
   pub skew-law : IsGreatestSkew flags (greatest_skew flags)
   skew-law = skew-where _ refl
 
+-- ---- where replies come in time
+
+module _ (flags : Flags) (beats : ℕ) where
+  comes : (acting : ReleaseActing) → beats ≤ 3 → answers_come acting (answered flags beats) ≡ true
+  comes Still soon = refl
+  comes Acts soon = ap (λ late. not (true && late) && (not (true && late) && true)) (le-ltb 3 beats soon)
+
+  same-stall : (n : ℕ) → (stall_by n (answered flags beats) 0 ≡ stall_by n (described flags) 0) × (stall_by n (answered flags beats) 1 ≡ stall_by n (described flags) 1)
+  same-stall zero = (refl, refl)
+  same-stall (suc n) = (refl, refl)
+
+  same-span : (n : ℕ) → (span_by n (answered flags beats) 0 ≡ span_by n (described flags) 0) × (span_by n (answered flags beats) 1 ≡ span_by n (described flags) 1)
+  same-span zero = (refl, refl)
+  same-span (suc n) = (refl, refl)
+
+  long-at : (n high low lease : ℕ) → {stall other_stall span other_span : ℕ} → stall ≡ other_stall → span ≡ other_span
+      → nat_lt (stall * (flags.beat_millis * 1000 * high) * low + span * high) lease ≡ nat_lt (other_stall * (flags.beat_millis * 1000 * high) * low + other_span * high) lease
+  long-at n high low lease stalls spans = ap₂ (λ a b. nat_lt (a * (flags.beat_millis * 1000 * high) * low + b * high) lease) stalls spans
+
+  same-part : lease_part (answered flags beats) ≡ lease_part (described flags)
+  same-part =
+      let high = fastest (described flags) in
+      let n = calls flags in
+      ap₂ (λ a b. (true && a) && b)
+      (long-at n high (slow flags) (of_seconds flags.lease_seconds * slow flags) (same-stall n).0 (same-span n).0)
+      (long-at n high (fast flags) (of_seconds flags.lease_seconds * fast flags) (same-stall n).1 (same-span n).1)
+
+module _ (flags : Flags) (ranges : AreInRange flags) where
+  finer : (acts must seconds low : ℕ) → (acts * 1000000000) ≤ must * 1000000000 * low → must < seconds * 1000 → 0 < low → acts < seconds * 1000 * low
+  finer acts must seconds low most more some =
+      let over : (must + 1) * low ≤ seconds * 1000 * low = mul-le-mul_right low (omega (arith, more)) in
+      omega (arith, most, over, some)
+
+  outlasted-is : (n : ℕ) → n ≡ calls flags → margin.outlasted (described flags) 0 (stall_by n (described flags) 0) ≡ (acting flags * fast flags) * 1000000000
+  outlasted-is n same =
+      (λ i.
+      slow-stall flags n i * (flags.beat_millis * 1000 * fastest-is flags i) * slow flags + slow-span flags i * fastest-is flags i)
+      ∙ acts-finer flags (acting flags) (fast flags) (slow flags)
+
+  pub answered-law : (must : ℕ) → margin.outlasted (described flags) 0 (stall_by (calls flags) (described flags) 0) ≤ of_millis must * slow flags → IsEnoughAnswered flags must
+  unfolding of_millis
+  answered-law must most s beats more soon =
+      let longer : acting flags * fast flags < s * 1000 * slow flags
+      = finer (acting flags * fast flags) must s (slow flags) (subst (λ n. n ≤ must * 1000000000 * slow flags) (outlasted-is (calls flags) refl) most) more (let skew = ranges.skew in omega (arith, skew)) in
+      ap₂ (λ a b. a && b) (comes (with_lease flags s) beats flags.in_release soon)
+      (same-part (with_lease flags s) beats ∙ long-is (with_lease flags s) ∙ lt-ltb _ _ longer)
+
 -- ---- all
 
 pub numbers-law : (flags : Flags) → AreInRange flags → AreNumbers flags
@@ -199,4 +247,5 @@ numbers-law flags ranges =
       margin = law;
       least_lease = least-from flags _ law.least_seconds;
       greatest_skew = skew-law flags;
+      answered = answered-law flags ranges _ law.must_exceed.holds;
     }

@@ -1,5 +1,4 @@
 -- ---- texts and verdicts
-pub mod Added
 pub mod VerdictLaws
 -- ---- durations
 pub mod Sums
@@ -9,4 +8,5 @@ pub mod LateReplies
 pub mod Skews
 pub mod FlagNumbers
 -- ---- how a run by flags ends
+pub mod WordEndings
 pub mod FlagEndings

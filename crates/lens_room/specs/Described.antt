@@ -1,10 +1,10 @@
 -- The document that settings describe: two controllers of the same timings, one with a clock as slow and one as fast as the skew lets it be.
 -- Settings say nothing of the network, so replies may be lost. What a lease premise doesn't read is as in a document that doesn't say it.
-use Rattle.std.specs.Prelude.{ℕ, pos, ◌+◌, ◌-◌, true, false, [], ◌∷◌}
+use Rattle.std.specs.Prelude.{ℕ, pos, ◌+◌, ◌-◌, true, false, List, [], ◌∷◌}
 use Rattle.kube_objects.specs.declared.node.ReadyStatus.TheVariants.{True}
 use Rattle.kube_objects.specs.declared.script.Event.{Event}
 use Rattle.kube_objects.specs.declared.script.Proc.{Proc}
-use Rattle.kube_objects.specs.declared.script.What.TheVariants.{Loss}
+use Rattle.kube_objects.specs.declared.script.What.TheVariants.{Loss, Delay}
 use Rattle.kube_objects.specs.declared.settings.RatePolicy.TheVariants.{Standard}
 use Rattle.kube_objects.specs.declared.settings.Settings.{Settings}
 use Rattle.kube_objects.specs.Document.{Doc}
@@ -69,3 +69,13 @@ described flags = record {
   objects = [];
   events = lost ∷ [];
 }
+
+-- the same where no reply is lost, and each comes within so many beats
+abbrev pub delayed : ℕ → ℕ → Event
+delayed id beats = record { beat = record { 0 = 0 }; what = Delay (record { 0 = id }) 0 beats }
+
+abbrev pub with_events : List Event → Doc → Doc
+with_events events doc = record doc { events = events }
+
+abbrev pub answered : Flags → ℕ → Doc
+answered flags beats = with_events (delayed 0 beats ∷ delayed 1 beats ∷ []) (described flags)

@@ -7,7 +7,7 @@ use Rattle.lens_margin.specs.declared.margin.Margin.{Margin}
 use Rattle.lens_margin.specs.Laws.{IsLeast, IsGreatest, IsMargin}
 use Rattle.lens_margin.specs.Margins.{margin_of}
 use Rattle.lens_room.specs.declared.by_flags.flags.Flags.{Flags}
-use Rattle.lens_room.specs.Described.{described}
+use Rattle.lens_room.specs.Described.{answered, described}
 use Rattle.lens_room.specs.Flags.{timeout_of}
 use Rattle.lens_room.specs.Ranges.{AreInRange}
 
@@ -62,10 +62,15 @@ abbrev pub IsGreatestSkew : Flags → Option ℕ → Type 0
 IsGreatestSkew flags (Some ppm) = IsGreatest (λ s. holds (with_skew flags s) ≡ true) ppm
 IsGreatestSkew flags None = (s : ℕ) → ¬ (holds (with_skew flags s) ≡ true)
 
+-- where each reply comes within three beats, a lease that is more than this is enough, also where a leader acts in its release
+abbrev pub IsEnoughAnswered : Flags → ℕ → Type 0
+IsEnoughAnswered flags must = (s beats : ℕ) → must < s * 1000 → beats ≤ 3 → lease_premise (answered (with_lease flags s) beats) ≡ true
+
 pub record AreNumbers (flags : Flags) : Type 0 where
   pub margin : IsMargin (described flags) 0 (flags_margin flags)
   pub least_lease : IsLeastLease flags (flags_margin flags).least_seconds
   pub greatest_skew : IsGreatestSkew flags (greatest_skew flags)
+  pub answered : IsEnoughAnswered flags (flags_margin flags).must_exceed
 
 -- of all settings in their ranges
 abbrev pub NumbersAreOfThePremise : Type 0

@@ -1,23 +1,23 @@
 -- What words behind `margin` are answered.
-use Rattle.std.specs.Prelude.{ℕ, List, [], ◌++◌, codes, decimal, slice_get, Option, Some, None, unwrap_or, Result, Ok, Err, if◌then◌else◌}
+use Rattle.std.specs.Prelude.{ℕ, List, [], ◌++◌, codes, decimal, Option, Some, None, Result, Ok, Err, if◌then◌else◌}
 use Rattle.kube_objects.specs.declared.rules.ReleaseActing.{ReleaseActing}
 use Rattle.kube_objects.specs.declared.rules.ReleaseActing.TheVariants as acting
 use Rattle.kube_objects.specs.declared.rules.ReleaseRule.{ReleaseRule}
 use Rattle.kube_objects.specs.declared.rules.ReleaseRule.TheVariants as rule
 use Rattle.run_edge.specs.Outcome.{Reply}
-use Rattle.run_edge.specs.declared.status.Verdict.TheVariants.{Usage}
 use Rattle.lens_room.specs.Lines.{margin_line, verdict_text}
 use Rattle.lens_room.specs.Replies.{verdict_of}
 use Rattle.lens_room.specs.declared.by_flags.flag.Flag.{Flag}
 use Rattle.lens_room.specs.declared.by_flags.flag.Flag.TheVariants.{Lease, Renew, Retry, Timeout, Skew, Beat}
 use Rattle.lens_room.specs.declared.by_flags.flags.Flags.{Flags}
 use Rattle.lens_room.specs.declared.by_flags.wrong.Wrong.{Wrong}
-use Rattle.lens_room.specs.declared.by_flags.wrong.Wrong.TheVariants.{Unknown, Alone, Value, LongRenew, LongRetry, LongTimeout, NoRelease}
+use Rattle.lens_room.specs.declared.by_flags.wrong.Wrong.TheVariants.{Words, LongRenew, LongRetry, LongTimeout, NoRelease}
 use Rattle.lens_room.specs.declared.by_flags.setting.Setting.{Setting}
 use Rattle.lens_room.specs.declared.by_flags.setting.Setting.TheVariants.{Number, Release, InRelease}
 use Rattle.lens_room.specs.Flags.{timeout_of, acting_word, flags_of}
 use Rattle.lens_room.specs.FlagJson.{settings_json}
 use Rattle.lens_room.specs.FlagLaws.{holds, flags_margin, greatest_skew}
+use Rattle.lens_room.specs.Words.{misread_text, misused as misused_by}
 
 -- ---- settings
 
@@ -93,27 +93,18 @@ takes_text (Number flag) = values_text flag
 takes_text Release = codes " takes stop, own, checked or reread, not "
 takes_text InRelease = codes " takes still or acts, not "
 
-abbrev pub word_at : List (List ℕ) → ℕ → List ℕ
-word_at words place = unwrap_or (slice_get words place) []
-
-unfoldable pub unknown_text : List ℕ → List ℕ
-unknown_text word = codes "no such flag: " ++ word
-
 abbrev pub wrong_text : List (List ℕ) → Wrong → List ℕ
-wrong_text words (Unknown place) = unknown_text (word_at words place)
-wrong_text words (Alone setting) = setting_text setting ++ codes " stands without a value"
-wrong_text words (Value setting place) = setting_text setting ++ takes_text setting ++ word_at words place
+wrong_text words (Words misread) = misread_text setting_text takes_text words misread
 wrong_text words LongRenew = codes "the renew deadline must be shorter than the lease"
 wrong_text words LongRetry = codes "the retry period must be shorter than five sixths of the renew deadline"
 wrong_text words LongTimeout = codes "a call timeout is at most 10m: give one by --timeout, or a shorter renew deadline"
 wrong_text words NoRelease = codes "--in-release acts goes with --release own, checked or reread"
 
-unfoldable pub usage_text : List ℕ → List ℕ
-usage_text wrong =
-    codes "usage: kube_lens margin [--lease 15s] [--renew 10s] [--retry 2s] [--timeout 10s] [--skew 0ppm] [--beat 100ms] [--release stop] [--in-release still] [--json]\n" ++ wrong ++ codes "\n"
+abbrev pub usage_line : List ℕ
+usage_line = codes "usage: kube_lens margin [--lease 15s] [--renew 10s] [--retry 2s] [--timeout 10s] [--skew 0ppm] [--beat 100ms] [--release stop] [--in-release still] [--json]\n"
 
 abbrev pub misused : List (List ℕ) → Wrong → Reply
-misused words wrong = record { verdict = Usage; text = usage_text (wrong_text words wrong) }
+misused words wrong = misused_by usage_line (wrong_text words wrong)
 
 abbrev pub answered : List (List ℕ) → Result Flags Wrong → Reply
 answered words (Ok flags) = told flags

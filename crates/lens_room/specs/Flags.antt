@@ -1,6 +1,6 @@
 -- What words give: the flags, what each takes, and the settings that they come to. Source: kube-controller-manager's flags of leader
 -- election, with its defaults; and its call timeout, which is the renew deadline.
-use Rattle.std.specs.Prelude.{ℕ, ◌+◌, ◌*◌, ◌/◌, ◌%◌, ◌≤◌, ◌==◌, ◌&&◌, ◌||◌, not, nat_le, nat_lt, Bool, true, false, List, [], ◌∷◌, length, codes}
+use Rattle.std.specs.Prelude.{ℕ, ◌*◌, ◌/◌, ◌%◌, ◌≤◌, ◌==◌, ◌&&◌, ◌||◌, not, nat_le, nat_lt, Bool, true, false, List, [], ◌∷◌, length, codes}
 use Rattle.std.specs.Prelude.{Option, Some, None, unwrap_or, Result, Ok, Err, if◌then◌else◌}
 use Rattle.std.specs.Str.{bytes_eq}
 use Rattle.kube_base.specs.Times.{◌>>=◌}
@@ -14,12 +14,13 @@ use Rattle.trace_lines.specs.Grammar.{cut, number_onto}
 use Rattle.lens_room.specs.declared.by_flags.flag.Flag.{Flag}
 use Rattle.lens_room.specs.declared.by_flags.flag.Flag.TheVariants.{Lease, Renew, Retry, Timeout, Skew, Beat}
 use Rattle.lens_room.specs.declared.by_flags.flags.Flags.{Flags}
-use Rattle.lens_room.specs.declared.by_flags.given.Given.{Given}
+use Rattle.lens_room.specs.declared.by_flags.misread.Misread.{Misread}
 use Rattle.lens_room.specs.declared.by_flags.setting.Setting.{Setting}
 use Rattle.lens_room.specs.declared.by_flags.setting.Setting.TheVariants.{Number, Release, InRelease}
 use Rattle.lens_room.specs.declared.by_flags.wrong.Wrong.{Wrong}
-use Rattle.lens_room.specs.declared.by_flags.wrong.Wrong.TheVariants.{Unknown, Alone, Value, LongRenew, LongRetry, LongTimeout, NoRelease}
+use Rattle.lens_room.specs.declared.by_flags.wrong.Wrong.TheVariants.{Words, LongRenew, LongRetry, LongTimeout, NoRelease}
 use Rattle.lens_room.specs.Durations.{duration}
+use Rattle.lens_room.specs.Words.{Command, read_from}
 
 -- ---- names
 
@@ -128,7 +129,7 @@ with_value Beat n flags = record flags { beat_millis = n }
 abbrev pub timeout_of : Flags → ℕ
 timeout_of flags = unwrap_or flags.timeout_millis flags.renew_millis
 
--- ---- words, each `--flag=value`, or a flag and then its value; the last of a flag counts. `--json` stands wherever a flag may
+-- ---- settings by words
 
 abbrev pub with_number : Flags → Flag → Option ℕ → Option Flags
 with_number flags flag None = None
@@ -148,49 +149,11 @@ set flags (Number flag) text = with_number flags flag (value_of flag text)
 set flags Release text = with_release flags (release_of text)
 set flags InRelease text = with_acting flags (in_release_of text)
 
--- a value of a setting, by what it comes to
-abbrev pub taken : ℕ → Setting → Option Flags → Result Given Wrong
-taken place setting None = Err (Value setting place)
-taken place setting (Some flags) = Ok (record { flags = flags; waiting = None })
+abbrev pub as_json : Flags → Flags
+as_json flags = record flags { as_json = true }
 
-abbrev pub valued : ℕ → Flags → Setting → List ℕ → Result Given Wrong
-valued place flags setting text = taken place setting (set flags setting text)
-
-abbrev pub named : ℕ → Option Setting → Result Setting Wrong
-named place None = Err (Unknown place)
-named place (Some setting) = Ok setting
-
--- a flag whose value is the next word
-abbrev pub opened : Flags → Result Setting Wrong → Result Given Wrong
-opened flags (Err wrong) = Err wrong
-opened flags (Ok setting) = Ok (record { flags = flags; waiting = Some setting })
-
-abbrev pub joined : ℕ → Flags → Result Setting Wrong → List ℕ → Result Given Wrong
-joined place flags (Err wrong) text = Err wrong
-joined place flags (Ok setting) text = valued place flags setting text
-
-abbrev pub by_parts : ℕ → Flags → List ℕ → Option (List ℕ × List ℕ) → Result Given Wrong
-by_parts place flags word None = opened flags (named place (setting_by word))
-by_parts place flags word (Some parts) = joined place flags (named place (setting_by parts.0)) parts.1
-
-abbrev pub begun : ℕ → Flags → List ℕ → Result Given Wrong
-begun place flags word =
-    if is word (codes "--json") then Ok (record { flags = record flags { as_json = true }; waiting = None })
-    else by_parts place flags word (cut 61 word)
-
-abbrev pub by_waiting : ℕ → Flags → Option Setting → List ℕ → Result Given Wrong
-by_waiting place flags None word = begun place flags word
-by_waiting place flags (Some setting) word = valued place flags setting word
-
--- with one more word, which stands at a place
-unfoldable pub with_word : ℕ → Given → List ℕ → Result Given Wrong
-with_word place given word = by_waiting place given.flags given.waiting word
-
--- with the words from a place on
-abbrev pub given_from : ℕ → Result Given Wrong → List (List ℕ) → Result Given Wrong
-given_from place (Err wrong) words = Err wrong
-given_from place (Ok given) [] = Ok given
-given_from place (Ok given) (word ∷ words) = given_from (place + 1) (with_word place given word) words
+abbrev pub command : Command Flags Setting
+command = record { by_name = setting_by; with_text = set; in_json = as_json }
 
 -- ---- the rules of a document's timings: the lease outlasts the renew deadline, that the retry period by more than a fifth of it, a call
 -- timeout is at most ten minutes, and who acts in a release has one
@@ -202,17 +165,13 @@ ruled flags =
     else if not (has_release flags.in_release flags.release) then Err NoRelease
     else Ok flags
 
-abbrev pub closed : Flags → Option Setting → Result Flags Wrong
-closed flags None = ruled flags
-closed flags (Some setting) = Err (Alone setting)
-
-abbrev pub settled : Result Given Wrong → Result Flags Wrong
-settled (Err wrong) = Err wrong
-settled (Ok given) = closed given.flags given.waiting
+abbrev pub ruled_if : Result Flags (Misread Setting) → Result Flags Wrong
+ruled_if (Err misread) = Err (Words misread)
+ruled_if (Ok flags) = ruled flags
 
 -- the settings that words behind the command give, or what is wrong with them
 unfoldable pub flags_of : List (List ℕ) → Result Flags Wrong
-flags_of words = settled (given_from 0 (Ok (record { flags = standard; waiting = None })) words)
+flags_of words = ruled_if (read_from command standard words)
 
 -- the words behind the first one
 abbrev pub behind : List (List ℕ) → List (List ℕ)

@@ -5,6 +5,7 @@ pub mod MarginJson
 pub mod Amounts
 pub mod Described
 pub mod Durations
+pub mod Words
 pub mod Flags
 pub mod FlagJson
 pub mod FlagLaws

@@ -21,7 +21,7 @@ pub struct Late {
     pub who: ProcId,
 }
 
-/// The first such event, where leaders act in their releases. Takes no memory.
+/// The first such event, if leaders act in their releases. Takes no memory.
 pub fn late_reply(document: &Document) -> Option<Late>
     ensures is { result ≡ spec.late_reply (doc_of document.now) }
     ensures controller { IfSome result (λ late. late.who.0 < length document.now.controllers) }
@@ -81,7 +81,7 @@ fn late_of(place: usize, beat: Beat, who: ProcId, controllers: usize) -> Option<
     }
 }
 
-/// Adds the line that says why no lease is enough, where none is.
+/// Adds the line that says why no lease is enough, if none is.
 pub(crate) fn add_late(text: &mut Vec<u8>, document: &Document) -> Result<(), NoMemory>
     requires lawful { IsLawfulDoc (doc_of document.now) }
     requires named { IsWellNamed document.now.names (doc_of document.now) }

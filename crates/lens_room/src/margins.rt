@@ -46,7 +46,7 @@ fn margins_of(alloc: Global, document: &Document) -> Result<Answer, NoMemory>
     })
 }
 
-/// What a run comes to where all leases are long enough, or some aren't.
+/// What a run comes to if all leases are long enough, or some aren't.
 pub fn verdict_by(safe: bool) -> Verdict
     ensures { result ≡ verdict_of safe }
 {

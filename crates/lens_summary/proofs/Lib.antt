@@ -6,4 +6,3 @@ pub mod TableLaws
 pub mod ToldLaws
 pub mod TogetherLaws
 pub mod TotalLaws
-pub mod FigureLaws

@@ -1,25 +1,13 @@
 -- Who leads, and when nobody acts.
-use Rattle.std.specs.Prelude.{ℕ, ◌-◌, List, [], ◌∷◌, length, map, codes, decimal, Option, Some, None}
+use Rattle.std.specs.Prelude.{ℕ, ◌-◌, List, [], ◌∷◌, length, map, codes, decimal}
 use Rattle.lens_summary.specs.Cells.{beat_text}
 use Rattle.lens_summary.specs.Tables.{Texts}
-use Rattle.lens_terms.specs.declared.closing.Closing.{Closing}
-use Rattle.lens_terms.specs.declared.closing.Ending.{Ending}
-use Rattle.lens_terms.specs.declared.closing.Ending.TheVariants.{End, Stop, Crash}
 use Rattle.lens_terms.specs.declared.span.Span.{Span}
 use Rattle.lens_terms.specs.declared.stretch.Stretch.{Stretch}
 use Rattle.lens_terms.specs.declared.term.Term.{Term}
 use Rattle.lens_terms.specs.Spans.{leaderless}
-use Rattle.lens_terms.specs.Terms.{until}
+use Rattle.lens_terms.specs.Terms.{ended, until}
 use Rattle.lens_summary.specs.Spread.{longest, total}
-
-abbrev pub ending_word : Ending → List ℕ
-ending_word End = codes "end"
-ending_word Stop = codes "stop"
-ending_word Crash = codes "crash"
-
-abbrev pub ended : Option Closing → List ℕ
-ended None = codes "trace-end"
-ended (Some closing) = ending_word closing.how
 
 -- who leads, from which beat, up to before which, for how long, and how it ends
 abbrev pub term_row : ℕ → ℕ → Term (List ℕ) → Texts

@@ -5,6 +5,7 @@ use Rattle.trace_lines.specs.declared.line.Answer.TheVariants as answer
 use Rattle.trace_lines.specs.declared.line.Verb.TheVariants.{Create, Update}
 use Rattle.trace_lines.specs.declared.line.Says.{Says}
 use Rattle.trace_lines.specs.declared.line.Says.TheVariants as says
+use Rattle.lens_trace.specs.LineMembers.{kind_word}
 use Rattle.lens_summary.specs.declared.outcome.Outcome.{Outcome}
 use Rattle.lens_summary.specs.declared.outcome.Outcome.TheVariants.{Unasked, Written, Conflict, Absent, Exists}
 
@@ -36,28 +37,12 @@ outcome_of (says.Swap node taint answer) = by_answer answer
 outcome_of (says.Untaint node answer) = by_answer answer
 outcome_of (says.Evict pod due answer) = by_answer answer
 
--- the word for what a line is
+-- the word for what a line is: which object a Lease is written as, or the word behind the actor
 abbrev pub word_of : {T : Type 0} → Says T → List ℕ
-word_of says.Start = codes "start"
-word_of says.Crash = codes "crash"
-word_of says.Stop = codes "stop"
-word_of says.End = codes "end"
-word_of (says.Pause beats) = codes "pause"
-word_of (says.Stall beats) = codes "stall"
-word_of (says.Lead version) = codes "lead"
 word_of (says.Election Create answer transitions) = codes "create-election"
 word_of (says.Election Update answer transitions) = codes "update-election"
 word_of (says.NodeLease verb node answer) = codes "nodelease"
-word_of (says.Status node ready answer) = codes "status"
-word_of (says.Put key version) = codes "put"
-word_of (says.Remove key version) = codes "remove"
-word_of (says.Unknown node reason answer) = codes "unknown"
-word_of (says.Mode on) = codes "mode"
-word_of (says.Zone zone state rate) = codes "zone"
-word_of (says.Taint node taint answer) = codes "taint"
-word_of (says.Swap node taint answer) = codes "swap"
-word_of (says.Untaint node answer) = codes "untaint"
-word_of (says.Evict pod due answer) = codes "evict"
+word_of other = kind_word other
 
 -- both are the same answer to a write
 abbrev pub same : Outcome → Outcome → Bool

@@ -1,5 +1,5 @@
 -- What `summary` answers: the tables of a trace.
-use Rattle.std.specs.Prelude.{ℕ, ◌+◌, ◌++◌, Bool, List, [], ◌∷◌, codes, decimal, Option, Some, None, if◌then◌else◌}
+use Rattle.std.specs.Prelude.{ℕ, ◌+◌, ◌++◌, List, [], ◌∷◌, codes, decimal, Option, Some, None}
 use Rattle.run_edge.specs.Outcome.{Reply}
 use Rattle.run_edge.specs.declared.status.Verdict.TheVariants.{Done}
 use Rattle.lens_summary.specs.Cells.{beat_text}
@@ -9,6 +9,7 @@ use Rattle.lens_terms.specs.declared.term.Term.{Term}
 use Rattle.lens_terms.specs.Acting.{acting}
 use Rattle.lens_terms.specs.Terms.{terms}
 use Rattle.lens_terms.specs.Together.{overlap, beats_of_two}
+use Rattle.lens_trace.specs.LineMembers.{premise_word}
 use Rattle.lens_trace.specs.Traces.{trace_reply}
 use Rattle.trace_lines.specs.declared.header.Header.{Header}
 use Rattle.trace_lines.specs.declared.line.Line.{Line}
@@ -17,9 +18,6 @@ use Rattle.lens_summary.specs.Part.{part}
 use Rattle.lens_summary.specs.Subjects.{subject_rows}
 use Rattle.lens_summary.specs.declared.subject.Subject.TheVariants.{Zones, Nodes, Pods}
 use Rattle.lens_summary.specs.Totals.{total_rows}
-
-abbrev pub premise_word : Bool → List ℕ
-premise_word premise = if premise then codes "yes" else codes "no"
 
 abbrev pub line_text : Option ℕ → List ℕ
 line_text None = codes "-"

@@ -14,7 +14,7 @@ pub enum Cell<'a> {
     Text(&'a [u8]),
     /// How many.
     Count(u64),
-    /// A beat, or how many beats, and the hours, minutes, seconds and tenths that they are, where a beat has so many milliseconds.
+    /// A beat, or how many beats, and the hours, minutes, seconds and tenths that they are, if a beat has so many milliseconds.
     Beat(u32, u32),
 }
 

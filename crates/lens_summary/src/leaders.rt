@@ -11,7 +11,7 @@ use crate::part::add_part;
 use crate::row::{Row, add_row};
 use crate::spread::{longest, total};
 use kube_base::NoMemory;
-use lens_terms::{Closing, Ending, Stretch, Term, leaderless};
+use lens_terms::{Stretch, Term, ended, leaderless};
 use std::alloc::Global;
 
 /// Adds the table of terms.
@@ -99,26 +99,6 @@ fn add_term<'a>(
         Cell::Text(ended(term.closing)),
     ]?;
     add_row(rows, cells)
-}
-
-/// The word for how a term ends.
-pub(crate) fn ended(closing: Option<Closing>) -> &'static [u8]
-    ensures { result.now ≡ spec.ended closing }
-{
-    match closing {
-        None => b"trace-end",
-        Some(closing) => ending_word(closing.how),
-    }
-}
-
-fn ending_word(ending: Ending) -> &'static [u8]
-    ensures { result.now ≡ spec.ending_word ending }
-{
-    match ending {
-        Ending::End => b"end",
-        Ending::Stop => b"stop",
-        Ending::Crash => b"crash",
-    }
 }
 
 /// The table of the spans in which nobody acts: how many, the longest, and all together.

@@ -3,6 +3,7 @@ ghost use Rattle.std.specs.Prelude.{◌≡◌};
 ghost use Rattle.trace_lines.specs.Reads.{said};
 ghost use Rattle.lens_summary.specs.Outcomes as spec;
 
+use lens_trace::lines::kind_word;
 use trace_lines::{Answer, Says, Verb};
 
 /// How what a line writes was answered.
@@ -63,26 +64,10 @@ pub(crate) fn word_of(says: &Says<&[u8]>) -> &'static [u8]
     ensures { result.now ≡ spec.word_of (said says.now) }
 {
     match says {
-        Says::Start => b"start",
-        Says::Crash => b"crash",
-        Says::Stop => b"stop",
-        Says::End => b"end",
-        Says::Pause(_) => b"pause",
-        Says::Stall(_) => b"stall",
-        Says::Lead(_) => b"lead",
         Says::Election(Verb::Create, _, _) => b"create-election",
         Says::Election(Verb::Update, _, _) => b"update-election",
         Says::NodeLease(_, _, _) => b"nodelease",
-        Says::Status(_, _, _) => b"status",
-        Says::Put(_, _) => b"put",
-        Says::Remove(_, _) => b"remove",
-        Says::Unknown(_, _, _) => b"unknown",
-        Says::Mode(_) => b"mode",
-        Says::Zone(_, _, _) => b"zone",
-        Says::Taint(_, _, _) => b"taint",
-        Says::Swap(_, _, _) => b"swap",
-        Says::Untaint(_, _) => b"untaint",
-        Says::Evict(_, _, _) => b"evict",
+        _ => kind_word(says),
     }
 }
 

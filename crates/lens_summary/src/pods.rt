@@ -39,26 +39,6 @@ pub fn eviction_in<'a>(says: &Says<&'a [u8]>) -> Option<(&'a [u8], &'a [u8])>
 {
     match says {
         Says::Evict(pod, due, Answer::Done(_)) => Some((*pod, *due)),
-        Says::Evict(_, _, Answer::Conflict(_)) => None,
-        Says::Evict(_, _, Answer::Absent) => None,
-        Says::Evict(_, _, Answer::Exists) => None,
-        Says::Start => None,
-        Says::Crash => None,
-        Says::Stop => None,
-        Says::End => None,
-        Says::Pause(_) => None,
-        Says::Stall(_) => None,
-        Says::Lead(_) => None,
-        Says::Election(_, _, _) => None,
-        Says::NodeLease(_, _, _) => None,
-        Says::Status(_, _, _) => None,
-        Says::Put(_, _) => None,
-        Says::Remove(_, _) => None,
-        Says::Unknown(_, _, _) => None,
-        Says::Mode(_) => None,
-        Says::Zone(_, _, _) => None,
-        Says::Taint(_, _, _) => None,
-        Says::Swap(_, _, _) => None,
-        Says::Untaint(_, _) => None,
+        _ => None,
     }
 }

@@ -11,7 +11,7 @@ fn beats(span: Span) -> u32
     span.until.saturating_sub(span.from)
 }
 
-/// How many beats the longest span has, 0 where there is none.
+/// How many beats the longest span has, 0 if there is none.
 pub(crate) fn longest(spans: &[Span]) -> u32
     ensures { result ≡ spec.longest spans.now }
 {

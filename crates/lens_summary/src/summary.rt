@@ -18,10 +18,11 @@ use crate::subject::{Subject, tell_subject};
 use crate::totals::tell_totals;
 use kube_base::NoMemory;
 use lens_terms::{Stretch, beats_of_two, overlap, stretches_of, terms_of};
-use lens_trace::{Telling, answer_on};
+use lens_trace::lines::premise_word;
+use lens_trace::{Telling, Trace, answer_on};
 use run_edge::{Answer, Verdict};
 use std::alloc::Global;
-use trace_lines::{Header, Line};
+use trace_lines::Header;
 
 /// The tables on the trace that these bytes are; or its refusal.
 pub fn summary_of(alloc: Global, input: &[u8]) -> Result<Answer, NoMemory>
@@ -39,42 +40,28 @@ struct Summary;
 impl Telling for Summary {
     ghost told = { λ asked header ls. spec.summary header ls };
 
-    fn tell(
-        &self,
-        alloc: Global,
-        header: Header,
-        lines: &[Line<&[u8]>],
-    ) -> Result<Answer, NoMemory> {
-        tell(alloc, header, lines)
+    /// All tables.
+    fn tell(&self, alloc: Global, trace: &Trace<'_>) -> Result<Answer, NoMemory> {
+        let Trace { header, lines } = *trace;
+        let millis = header.beat_millis;
+        let stop = header.end + 1;
+        let found = terms_of(alloc, lines)?;
+        let acting = stretches_of(alloc, stop, lines)?;
+        let mut text = Vec::new(alloc);
+        let crossing = overlap_line(&acting);
+        let beats = beats_of_two(stop, &acting);
+        tell_trace(&mut text, alloc, header, crossing, beats)?;
+        tell_terms(&mut text, alloc, millis, stop, &found)?;
+        tell_spans(&mut text, alloc, millis, stop, &acting)?;
+        tell_subject(&mut text, alloc, millis, Subject::Zones, lines)?;
+        tell_subject(&mut text, alloc, millis, Subject::Nodes, lines)?;
+        tell_subject(&mut text, alloc, millis, Subject::Pods, lines)?;
+        tell_totals(&mut text, alloc, lines)?;
+        Ok(Answer {
+            verdict: Verdict::Done,
+            text,
+        })
     }
-}
-
-/// All tables on some lines.
-fn tell(alloc: Global, header: Header, lines: &[Line<&[u8]>]) -> Result<Answer, NoMemory>
-    requires { header.end ≤ 604800000 }
-    ensures { IfOk result (λ answer. reply_of answer ≡ spec.summary header (map seen lines.now)) }
-{
-    let stop = header.end + 1;
-    let found = terms_of(alloc, lines)?;
-    let acting = stretches_of(alloc, stop, lines)?;
-    let mut text = Vec::new(alloc);
-    tell_trace(
-        &mut text,
-        alloc,
-        header,
-        overlap_line(&acting),
-        beats_of_two(stop, &acting),
-    )?;
-    tell_terms(&mut text, alloc, header.beat_millis, stop, &found)?;
-    tell_spans(&mut text, alloc, header.beat_millis, stop, &acting)?;
-    tell_subject(&mut text, alloc, header.beat_millis, Subject::Zones, lines)?;
-    tell_subject(&mut text, alloc, header.beat_millis, Subject::Nodes, lines)?;
-    tell_subject(&mut text, alloc, header.beat_millis, Subject::Pods, lines)?;
-    tell_totals(&mut text, alloc, lines)?;
-    Ok(Answer {
-        verdict: Verdict::Done,
-        text,
-    })
 }
 
 /// The line that begins the first stretch in which a leader acts while another one does.
@@ -129,13 +116,6 @@ fn trace_rows(
     ]?;
     add_row(&mut rows, cells)?;
     Ok(rows)
-}
-
-/// The word for a premise.
-pub(crate) fn premise_word(premise: bool) -> &'static [u8]
-    ensures { result.now ≡ spec.premise_word premise }
-{
-    if premise { b"yes" } else { b"no" }
 }
 
 fn line_cell(line: Option<u64>) -> Cell<'static>

@@ -54,7 +54,7 @@ fn width_at(widths: &[usize], column: usize) -> usize
     }
 }
 
-/// Adds a cell, and where it isn't the last of its row what fills it up.
+/// Adds a cell, and if it isn't the last of its row what fills it up.
 fn add_filled(
     text: &mut Vec<u8>,
     width: usize,
@@ -107,7 +107,7 @@ fn width(scratch: &mut Vec<u8>, column: usize, rows: &[Row<'_>]) -> Result<usize
     Ok(widest)
 }
 
-/// How long the cell of a row in a column is, 0 where there is none.
+/// How long the cell of a row in a column is, 0 if there is none.
 fn cell_width(scratch: &mut Vec<u8>, column: usize, row: &[Cell<'_>]) -> Result<usize, NoMemory>
     ensures { IfOk result (λ wide. wide ≡ length (get_or (map cell_text row.now) column [])) }
 {

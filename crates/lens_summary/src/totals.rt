@@ -89,7 +89,7 @@ pub(crate) fn kinds() -> [&'static [u8]; 20]
     ]
 }
 
-/// Adds the row of a kind, where there are lines of it.
+/// Adds the row of a kind, if there are lines of it.
 #[tactic(auto, unfolding(crate::specs::Totals::kind_rows))]
 fn add_kind<'a>(
     rows: &mut Vec<Row<'a>>,
@@ -169,7 +169,7 @@ pub(crate) fn outcomes(
     Ok(outcomes)
 }
 
-/// Adds the outcome of a line, where it is of the kind.
+/// Adds the outcome of a line, if it is of the kind.
 fn add_outcome(
     outcomes: &mut Vec<Outcome>,
     kind: Option<&[u8]>,

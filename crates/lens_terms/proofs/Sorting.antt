@@ -1,5 +1,5 @@
 -- A stable sort by beats puts stretches in the order of their beats.
-use Rattle.std.proofs.Common.{◌≡◌, ℕ, zero, suc, ◌+◌, ◌<◌, ◌≤◌, ◌==◌, if◌then◌else◌, Bool, true, false, nat_lt, List, [], ◌∷◌, ◌++◌, length, get_or, map, filter, All, nat_cmp, is_lt, Bor, refl, sym, ap, ap₂, ◌∙◌, arith, inl, inr, suc-le-suc, zero-le}
+use Rattle.std.proofs.Common.{◌≡◌, ℕ, zero, suc, ◌<◌, ◌≤◌, ◌==◌, if◌then◌else◌, Bool, true, false, nat_lt, List, [], ◌∷◌, ◌++◌, length, get_or, map, filter, All, nat_cmp, is_lt, Bor, refl, sym, ap, ap₂, ◌∙◌, arith, inl, inr, suc-le-suc, zero-le}
 use Rattle.std.proofs.lemmas.Bool.{cond-true, cond-false, cases_Bool}
 use Rattle.std.proofs.lemmas.Bool.Decides.{leb_tells, eqb_tells, nat_tests}
 use Rattle.std.proofs.lemmas.List.{map-append}
@@ -19,18 +19,8 @@ lt-false a b h = grind (arith, nat_tests)
 abbrev tied : ℕ → ℕ → Bool
 tied = ties (λ x y. is_lt (nat_cmp x y))
 
-tied-true : (m n : ℕ) → tied m n ≡ true → m ≡ n
-tied-true m n h = grind (arith, nat_tests)
-
-tied-from : (m n : ℕ) → m ≡ n → tied m n ≡ true
-tied-from m n h = grind (arith, nat_tests)
-
 tied-is : (m n : ℕ) → tied m n ≡ (n == m)
-tied-is m n = elim (eqb_tells n m) [
-  | inl same ↦ tied-from m n (sym same.1) ∙ sym same.0
-  | inr other ↦ elim (cases_Bool (tied m n))
-      [ inl ties_too ↦ absurd (other.1 (sym (tied-true m n ties_too))) | inr apart ↦ apart ∙ sym other.0 ]
-]
+tied-is m n = grind (arith, nat_tests)
 
 module _ {T : Type 0} where
   abbrev is_before : ℕ → Stretch T → Bool

@@ -1,5 +1,5 @@
 -- The stretches of lines, one line more.
-use Rattle.std.proofs.Common.{◌≡◌, ℕ, zero, suc, ◌+◌, ◌<◌, Bool, true, false, cond, List, [], ◌∷◌, ◌++◌, length, map, reverse, drop, get_or, Bor, All, nat_lt, ◌≤◌, Option, Some, None, refl, sym, ap, subst, ◌∙◌, ◌⊎◌, inl, inr, add-one, arith}
+use Rattle.std.proofs.Common.{◌≡◌, ℕ, zero, suc, ◌+◌, ◌-◌, ◌<◌, Bool, true, false, cond, List, [], ◌∷◌, ◌++◌, length, map, reverse, drop, get_or, Bor, All, nat_lt, ◌≤◌, Option, Some, None, refl, sym, ap, subst, ◌∙◌, ◌⊎◌, inl, inr, add-one, arith}
 use Rattle.std.proofs.Math.Seq.{drop-cons}
 use Rattle.std.proofs.lemmas.Bool.Decides.{nat_tests}
 use Rattle.std.proofs.lemmas.List.{append-nil, append_assoc, drop_all, get_or-map, length-map, reverse-append, reverse-reverse}
@@ -17,6 +17,7 @@ use Rattle.lens_terms.specs.Terms.{turn_of}
 use Rattle.lens_terms.specs.Acting.{Standings, interrupted, interrupted_by, nothing_known, with_line, standing_by, begins_by, stretch, stretches, shown}
 use Rattle.lens_terms.specs.Gathered.{ends, interruption, AreBelow, AreHeld}
 use Rattle.lens_terms.specs.declared.standings.Standings.{Standings as StandingsHeld}
+use Rattle.lens_terms.proofs.TermLaws.{line-before}
 
 same-both : {A : Type 0} (b : Bool) (x : A) → cond b x x ≡ x
 same-both true x = refl
@@ -111,23 +112,18 @@ below-each stop xs h = All-from_recursion (λ s. s.from < stop) xs (by xs h)
 -- ---- the passes
 
 -- what ends lines, one more at their front
-pub ends-before : (stop : ℕ) (lines : List (Line (Bor (List ℕ)))) (place at end : ℕ) (i : Interruptions) (old new : List ℕ) (line d : Line (Bor (List ℕ))) → place < length lines → place + 1 ≡ at
-    → line ≡ get_or lines place d → ((who : Bor (List ℕ)) → interruption stop i who ≡ interrupted stop who.now (map seen (drop at lines))) → end ≡ interruption stop i line.actor → old ≡ reverse (ends stop (map seen (drop at lines)))
-    → new ≡ old ++ end ∷ [] → new ≡ reverse (ends stop (map seen (drop place lines)))
-ends-before stop lines place at end i old new line d within next is known here so_far more =
-    let whole : drop place lines ≡ line ∷ drop at lines =
-    drop-cons lines place d within ∙ ap (λ x. x ∷ drop (suc place) lines) (sym is) ∙ ap (λ n. line ∷ drop n lines) (sym (add-one place) ∙ next) in
-    more ∙ ap (λ es. es ++ end ∷ []) so_far ∙ ap (λ e. reverse (ends stop (map seen (drop at lines))) ++ e ∷ []) (here ∙ known line.actor)
+pub ends-before : (stop : ℕ) (lines : List (Line (Bor (List ℕ)))) (at end : ℕ) (i : Interruptions) (old new : List ℕ) (line d : Line (Bor (List ℕ))) → at ≤ length lines → 0 < at
+    → line ≡ get_or lines (at - 1) d → ((who : Bor (List ℕ)) → interruption stop i who ≡ interrupted stop who.now (map seen (drop at lines))) → end ≡ interruption stop i line.actor → old ≡ reverse (ends stop (map seen (drop at lines)))
+    → new ≡ old ++ end ∷ [] → new ≡ reverse (ends stop (map seen (drop (at - 1) lines)))
+ends-before stop lines at end i old new line d within more is known here so_far then =
+    then ∙ ap (λ es. es ++ end ∷ []) so_far ∙ ap (λ e. reverse (ends stop (map seen (drop at lines))) ++ e ∷ []) (here ∙ known line.actor)
     ∙ sym (reverse-append (interrupted stop line.actor.now (map seen (drop at lines)) ∷ []) (ends stop (map seen (drop at lines))))
-    ∙ ap (λ ls. reverse (ends stop (map seen ls))) (sym whole)
+    ∙ ap (λ ls. reverse (ends stop (map seen ls))) (sym (line-before lines at line d within more is))
 
-pub known-before : (stop : ℕ) (lines : List (Line (Bor (List ℕ)))) (place at : ℕ) (i : Interruptions) (line d : Line (Bor (List ℕ))) → place < length lines → place + 1 ≡ at
-    → line ≡ get_or lines place d → ((who : Bor (List ℕ)) → interruption stop i who ≡ interrupted stop who.now (seen line ∷ map seen (drop at lines)))
-    → (who : Bor (List ℕ)) → interruption stop i who ≡ interrupted stop who.now (map seen (drop place lines))
-known-before stop lines place at i line d within next is h who =
-    let whole : drop place lines ≡ line ∷ drop at lines =
-    drop-cons lines place d within ∙ ap (λ x. x ∷ drop (suc place) lines) (sym is) ∙ ap (λ n. line ∷ drop n lines) (sym (add-one place) ∙ next) in
-    h who ∙ ap (λ ls. interrupted stop who.now (map seen ls)) (sym whole)
+pub known-before : (stop : ℕ) (lines : List (Line (Bor (List ℕ)))) (at : ℕ) (i : Interruptions) (line d : Line (Bor (List ℕ))) → at ≤ length lines → 0 < at
+    → line ≡ get_or lines (at - 1) d → ((who : Bor (List ℕ)) → interruption stop i who ≡ interrupted stop who.now (seen line ∷ map seen (drop at lines)))
+    → (who : Bor (List ℕ)) → interruption stop i who ≡ interrupted stop who.now (map seen (drop (at - 1) lines))
+known-before stop lines at i line d within more is h who = h who ∙ ap (λ ls. interrupted stop who.now (map seen ls)) (sym (line-before lines at line d within more is))
 
 -- what was taken from behind the ends of the lines from a place on
 pub record Popped (stop : ℕ) (lines : List (Line (Bor (List ℕ)))) (at end : ℕ) (new : List ℕ) (d : Line (Bor (List ℕ))) : Type 0 where

@@ -1,5 +1,5 @@
 -- The terms of lines, one line more at their front.
-use Rattle.std.proofs.Common.{◌≡◌, ℕ, ◌+◌, ◌<◌, Bool, true, false, cond, List, [], ◌∷◌, ◌++◌, length, map, reverse, drop, get_or, suc, Bor, Some, None, Result, Ok, Err, IfOk, refl, sym, ap, subst, ◌∙◌, add-one}
+use Rattle.std.proofs.Common.{◌≡◌, ℕ, ◌+◌, ◌-◌, ◌<◌, ◌≤◌, Bool, true, false, cond, List, [], ◌∷◌, ◌++◌, length, map, reverse, drop, get_or, suc, Bor, Some, None, Result, Ok, Err, IfOk, refl, sym, ap, subst, ◌∙◌, arith}
 use Rattle.std.proofs.Math.Seq.{drop-cons}
 use Rattle.std.proofs.lemmas.List.{map-append, reverse-append, reverse-reverse}
 use Rattle.std.specs.Str.{bytes_eq}
@@ -84,13 +84,17 @@ stands-led number l ls t old new is h same more begun = record {
       ∙ ap (λ ts. reverse ts) (sym (terms-more number l ls Leads is));
 }
 
+-- the lines from the one before a place on
+pub line-before : (lines : List (Line (Bor (List ℕ)))) (at : ℕ) (line d : Line (Bor (List ℕ))) → at ≤ length lines → 0 < at → line ≡ get_or lines (at - 1) d
+    → drop (at - 1) lines ≡ line ∷ drop at lines
+line-before lines at line d within more is =
+    let next : suc (at - 1) ≡ at = omega (arith, more) in
+    drop-cons lines (at - 1) d (omega (arith, within, more)) ∙ ap (λ x. x ∷ drop (suc (at - 1)) lines) (sym is) ∙ ap (λ n. line ∷ drop n lines) next
+
 -- what is known behind a place is known behind the place before, once its line was taken
-pub stands-before : (lines : List (Line (Bor (List ℕ)))) (place at number : ℕ) (g : Gathering) (line d : Line (Bor (List ℕ))) → place < length lines → place + 1 ≡ at
-    → Stands number (seen line ∷ map seen (drop at lines)) g → line ≡ get_or lines place d → Stands number (map seen (drop place lines)) g
-stands-before lines place at number g line d within next taken is =
-    let whole : drop place lines ≡ line ∷ drop at lines =
-    drop-cons lines place d within ∙ ap (λ x. x ∷ drop (suc place) lines) (sym is) ∙ ap (λ n. line ∷ drop n lines) (sym (add-one place) ∙ next) in
-    subst (λ ls. Stands number ls g) (sym (ap (map seen) whole)) taken
+pub stands-before : (lines : List (Line (Bor (List ℕ)))) (at number : ℕ) (g : Gathering) (line d : Line (Bor (List ℕ))) → at ≤ length lines → 0 < at
+    → Stands number (seen line ∷ map seen (drop at lines)) g → line ≡ get_or lines (at - 1) d → Stands number (map seen (drop (at - 1) lines)) g
+stands-before lines at number g line d within more taken is = subst (λ ls. Stands number ls g) (sym (ap (map seen) (line-before lines at line d within more is))) taken
 
 map-reversed : (ts : List (Term (Bor (List ℕ)))) → map shown (reverse ts) ≡ reverse (map shown ts)
 map-reversed [] = refl

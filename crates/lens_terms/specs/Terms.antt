@@ -1,11 +1,12 @@
 -- The terms of a trace's lines: who leads, from when to when, and how that ends. They are those of audit's codes 41 and 42 (profile).
-use Rattle.std.specs.Prelude.{ℕ, ◌+◌, List, [], ◌∷◌, Option, Some, None, if◌then◌else◌}
+use Rattle.std.specs.Prelude.{ℕ, ◌+◌, List, [], ◌∷◌, codes, Option, Some, None, if◌then◌else◌}
 use Rattle.std.specs.Str.{bytes_eq}
 use denote.Ref.{Bor}
 use Rattle.trace_lines.specs.declared.line.Line.{Line}
 use Rattle.trace_lines.specs.declared.line.Says.{Says}
 use Rattle.trace_lines.specs.declared.line.Says.TheVariants as says
 use Rattle.lens_terms.specs.declared.closing.Closing.{Closing}
+use Rattle.lens_terms.specs.declared.closing.Ending.{Ending}
 use Rattle.lens_terms.specs.declared.closing.Ending.TheVariants.{End, Stop, Crash}
 use Rattle.lens_terms.specs.declared.term.Term.{Term}
 use Rattle.lens_terms.specs.declared.turn.Turn.{Turn}
@@ -70,3 +71,13 @@ until_by stop (Some closing) = closing.beat
 -- the first beat in which it leads no more, in a trace that ends before the beat `stop`
 abbrev pub until : {T : Type 0} → ℕ → Term T → ℕ
 until stop t = until_by stop t.closing
+
+abbrev pub ending_word : Ending → List ℕ
+ending_word End = codes "end"
+ending_word Stop = codes "stop"
+ending_word Crash = codes "crash"
+
+-- the word for how a term ends
+abbrev pub ended : Option Closing → List ℕ
+ended None = codes "trace-end"
+ended (Some closing) = ending_word closing.how

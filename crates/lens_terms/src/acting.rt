@@ -48,7 +48,7 @@ impl<'a> Acting<'a> {
     }
 }
 
-/// Adds the stretch between two beats, where there is a beat in it.
+/// Adds the stretch between two beats, if there is a beat in it.
 fn add<'a>(
     found: &mut Vec<Stretch<&'a [u8]>>,
     line: u64,

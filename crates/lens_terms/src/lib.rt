@@ -17,7 +17,7 @@ mod together;
 mod turn;
 
 pub use acting::stretches_of;
-pub use closing::{Closing, Ending};
+pub use closing::{Closing, Ending, ended};
 pub use gathering::terms_of;
 pub use latest::Latest;
 pub use span::{Span, leaderless};

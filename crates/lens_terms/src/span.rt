@@ -27,7 +27,7 @@ pub fn leaderless(alloc: Global, stop: u32, found: &[Stretch<&[u8]>]) -> Result<
     Ok(spans)
 }
 
-/// Adds the span between two beats, where there is a beat in it.
+/// Adds the span between two beats, if there is a beat in it.
 fn add(spans: &mut Vec<Span>, from: u32, until: u32) -> Result<(), NoMemory>
     ensures { OnOk result (spans.new.items ≡ spans.old.items ++ spec.span from until) }
 {

@@ -25,7 +25,7 @@ impl<'a> Standings<'a> {
         }
     }
 
-    /// How an identity stands, where one of the lines so far is its own.
+    /// How an identity stands, if one of the lines so far is its own.
     pub(crate) fn get(&self, who: &'a [u8]) -> Option<Standing>
         ensures { result ≡ stood self.now who.entry }
     {

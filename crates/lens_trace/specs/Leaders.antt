@@ -3,15 +3,12 @@ use Rattle.std.specs.Prelude.{ℕ, ◌+◌, ◌++◌, List, codes, decimal, Opti
 use Rattle.std.specs.List.{flat_map}
 use Rattle.run_edge.specs.Outcome.{Reply}
 use Rattle.run_edge.specs.declared.status.Verdict.TheVariants.{Safe, Unsafe}
-use Rattle.lens_terms.specs.declared.closing.Closing.{Closing}
-use Rattle.lens_terms.specs.declared.closing.Ending.{Ending}
-use Rattle.lens_terms.specs.declared.closing.Ending.TheVariants.{End, Stop, Crash}
 use Rattle.lens_terms.specs.declared.span.Span.{Span}
 use Rattle.lens_terms.specs.declared.stretch.Stretch.{Stretch}
 use Rattle.lens_terms.specs.declared.term.Term.{Term}
 use Rattle.lens_terms.specs.Acting.{acting}
 use Rattle.lens_terms.specs.Spans.{leaderless}
-use Rattle.lens_terms.specs.Terms.{terms, until}
+use Rattle.lens_terms.specs.Terms.{ended, terms, until}
 use Rattle.lens_terms.specs.Together.{overlap, first, crosses}
 use Rattle.lens_trace.specs.Traces.{trace_reply}
 use Rattle.trace_lines.specs.declared.header.Header.{Header}
@@ -19,18 +16,10 @@ use Rattle.trace_lines.specs.declared.line.Line.{Line}
 
 -- ---- lines
 
-abbrev pub ending_text : Ending → List ℕ
-ending_text End = codes "end\n"
-ending_text Stop = codes "stop\n"
-ending_text Crash = codes "crash\n"
-
-abbrev pub closing_text : Option Closing → List ℕ
-closing_text None = codes "trace-end\n"
-closing_text (Some closing) = ending_text closing.how
-
 -- who leads, from which beat, up to before which, and how it ends
 unfoldable pub term_line : ℕ → Term (List ℕ) → List ℕ
-term_line stop t = t.actor ++ codes " from=" ++ decimal t.from ++ codes " until=" ++ decimal (until stop t) ++ codes " ended=" ++ closing_text t.closing
+term_line stop t =
+    t.actor ++ codes " from=" ++ decimal t.from ++ codes " until=" ++ decimal (until stop t) ++ codes " ended=" ++ ended t.closing ++ codes "\n"
 
 -- a span in which nobody acts
 unfoldable pub span_line : Span → List ℕ

@@ -1,41 +1,37 @@
 -- What `leaders --json` answers: one object of the terms, the spans and the overlap that `leaders` tells.
-use Rattle.std.specs.Prelude.{ℕ, ◌+◌, ◌++◌, List, [], ◌∷◌, codes, map, Option, Some, None}
+use Rattle.std.specs.Prelude.{ℕ, ◌+◌, ◌-◌, ◌++◌, List, [], ◌∷◌, codes, map, Option, Some, None}
 use Rattle.serde_json.specs.Data.{Data, null}
-use Rattle.serde_json.specs.Written.{compact_text}
 use Rattle.run_edge.specs.Outcome.{Reply}
 use Rattle.run_edge.specs.declared.status.Verdict.{Verdict}
 use Rattle.run_edge.specs.declared.status.Verdict.TheVariants.{Safe, Unsafe}
 use Rattle.lens_json.specs.Members.{Named, nat, text, object_of}
 use Rattle.lens_json.specs.Parts.{list_of}
-use Rattle.lens_terms.specs.declared.closing.Closing.{Closing}
-use Rattle.lens_terms.specs.declared.closing.Ending.{Ending}
-use Rattle.lens_terms.specs.declared.closing.Ending.TheVariants.{End, Stop, Crash}
 use Rattle.lens_terms.specs.declared.span.Span.{Span}
 use Rattle.lens_terms.specs.declared.stretch.Stretch.{Stretch}
 use Rattle.lens_terms.specs.declared.term.Term.{Term}
 use Rattle.lens_terms.specs.Acting.{acting}
 use Rattle.lens_terms.specs.Spans.{leaderless}
-use Rattle.lens_terms.specs.Terms.{terms, until}
+use Rattle.lens_terms.specs.Terms.{ended, terms, until}
 use Rattle.lens_terms.specs.Together.{overlap, first, crosses}
+use Rattle.lens_trace.specs.declared.leaders_json.lasting.Lasting.{Lasting}
+use Rattle.lens_trace.specs.declared.leaders_json.lasting.Lasting.TheVariants.{Told, Untold}
+use Rattle.lens_trace.specs.Objects.{object_reply}
 use Rattle.lens_trace.specs.Traces.{trace_reply}
 use Rattle.trace_lines.specs.declared.header.Header.{Header}
 use Rattle.trace_lines.specs.declared.line.Line.{Line}
 
 -- ---- members
 
-abbrev pub ending_word : Ending → List ℕ
-ending_word End = codes "end"
-ending_word Stop = codes "stop"
-ending_word Crash = codes "crash"
-
-abbrev pub ended : Option Closing → List ℕ
-ended None = codes "trace-end"
-ended (Some closing) = ending_word closing.how
+-- for how long a term lasted, where that is told
+abbrev pub lasted : Lasting → ℕ → List Named
+lasted Untold beats = []
+lasted Told beats = nat (codes "lasted") beats ∷ []
 
 -- who leads, from which beat, up to before which, and how it ends
-abbrev pub term_members : ℕ → Term (List ℕ) → List Named
-term_members stop t =
-    text (codes "leader") t.actor ∷ nat (codes "from") t.from ∷ nat (codes "until") (until stop t) ∷ text (codes "ended") (ended t.closing) ∷ []
+abbrev pub term_members : Lasting → ℕ → Term (List ℕ) → List Named
+term_members lasting stop t =
+    text (codes "leader") t.actor ∷ nat (codes "from") t.from ∷ nat (codes "until") (until stop t)
+    ∷ (lasted lasting (until stop t - t.from) ++ text (codes "ended") (ended t.closing) ∷ [])
 
 -- a span in which nobody acts
 abbrev pub span_members : Span → List Named
@@ -57,18 +53,15 @@ overlap_data all (Some s) = object_of (overlap_members all s)
 
 abbrev pub leaders_members : ℕ → List (Term (List ℕ)) → List (Stretch (List ℕ)) → List Named
 leaders_members stop ts all =
-    (codes "terms", list_of (map (term_members stop) ts)) ∷ (codes "nobody", list_of (map span_members (leaderless 0 stop all)))
+    (codes "terms", list_of (map (term_members Untold stop) ts)) ∷ (codes "nobody", list_of (map span_members (leaderless 0 stop all)))
     ∷ (codes "overlap", overlap_data all (overlap all)) ∷ []
-
-unfoldable pub leaders_json : ℕ → List (Term (List ℕ)) → List (Stretch (List ℕ)) → List ℕ
-leaders_json stop ts all = compact_text (object_of (leaders_members stop ts all))
 
 abbrev pub verdict_by : Option (Stretch (List ℕ)) → Verdict
 verdict_by None = Safe
 verdict_by (Some s) = Unsafe
 
 abbrev pub told : ℕ → List (Term (List ℕ)) → List (Stretch (List ℕ)) → Reply
-told stop ts all = record { verdict = verdict_by (overlap all); text = leaders_json stop ts all ++ codes "\n" }
+told stop ts all = object_reply (verdict_by (overlap all)) (leaders_members stop ts all)
 
 -- of a trace of this first line, whose last beat is the one before `end + 1`
 abbrev pub leaders : Header → List (Line (List ℕ)) → Reply

@@ -1,6 +1,7 @@
 pub mod Agree
 pub mod Beats
 pub mod Judged
+pub mod Objects
 pub mod Read
 pub mod Traces
 pub mod Leaders

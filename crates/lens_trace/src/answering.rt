@@ -9,11 +9,12 @@ ghost use Rattle.lens_trace.specs.Traces.{Tells};
 
 use crate::judging::{Judged, judge};
 use crate::reading::read_lines;
+use crate::trace::Trace;
 use kube_base::NoMemory;
 use run_edge::{Answer, refuse};
 use std::alloc::Global;
 use trace_audit::BAD_TRACE;
-use trace_lines::{Header, Line, cut, read_header};
+use trace_lines::{Header, cut, read_header};
 use trace_writer::{add, add_number};
 
 /// What is told of a trace.
@@ -21,10 +22,10 @@ pub trait Telling {
     /// What it is.
     ghost told: { Self → Tells };
 
-    /// Tells it of a trace of this first line and the lines behind it.
-    fn tell(&self, alloc: Global, header: Header, lines: &[Line<&[u8]>]) -> Result<Answer, NoMemory>
-        requires { header.end ≤ 604800000 }
-        ensures { IfOk result (λ answer. reply_of answer ≡ told self.now header (map seen lines.now)) };
+    /// Tells it of a trace.
+    fn tell(&self, alloc: Global, trace: &Trace<'_>) -> Result<Answer, NoMemory>
+        requires { trace.now.header.end ≤ 604800000 }
+        ensures { IfOk result (λ answer. reply_of answer ≡ told self.now trace.now.header (map seen trace.now.lines.now)) };
 }
 
 /// What is told of the trace that this text is, or its refusal.
@@ -57,7 +58,13 @@ fn answer_behind<T: Telling>(
     let lines = read_lines(alloc, rest)?;
     match judged {
         Judged::Wrong(line) => refuse_line(alloc, line),
-        Judged::IsTrace => telling.tell(alloc, header, &lines),
+        Judged::IsTrace => telling.tell(
+            alloc,
+            &Trace {
+                header,
+                lines: &lines,
+            },
+        ),
     }
 }
 

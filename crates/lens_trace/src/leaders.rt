@@ -11,13 +11,13 @@ ghost use Rattle.lens_trace.specs.Beats.{SpansAreLeaderless, StretchesAreActs};
 ghost use Rattle.lens_trace.specs.Leaders as spec;
 
 use crate::answering::{Telling, answer_on};
+use crate::trace::Trace;
 use kube_base::NoMemory;
 use lens_terms::{
-    Closing, Ending, Span, Stretch, Term, crossing, leaderless, overlap, stretches_of, terms_of,
+    Span, Stretch, Term, crossing, ended, leaderless, overlap, stretches_of, terms_of,
 };
 use run_edge::{Answer, Verdict};
 use std::alloc::Global;
-use trace_lines::{Header, Line};
 use trace_writer::{add, add_number};
 
 /// The terms of the trace that these bytes are, the spans in which nobody acts, and whether two ever act at once; or its refusal.
@@ -34,33 +34,20 @@ pub fn leaders_in(alloc: Global, input: &[u8]) -> Result<Answer, NoMemory>
     answer_on(alloc, &Leaders, input)
 }
 
-/// Who leads in a trace.
+/// Who leads in a trace, when nobody acts, and whether two ever do at once.
 struct Leaders;
 
 impl Telling for Leaders {
     ghost told = { λ leaders header ls. spec.leaders header ls };
 
-    fn tell(
-        &self,
-        alloc: Global,
-        header: Header,
-        lines: &[Line<&[u8]>],
-    ) -> Result<Answer, NoMemory> {
-        tell(alloc, header, lines)
+    fn tell(&self, alloc: Global, trace: &Trace<'_>) -> Result<Answer, NoMemory> {
+        let stop = trace.header.end + 1;
+        let found = terms_of(alloc, trace.lines)?;
+        let acting = stretches_of(alloc, stop, trace.lines)?;
+        let mut text = Vec::new(alloc);
+        add_terms(&mut text, alloc, stop, &found, &acting)?;
+        judged(text, &acting)
     }
-}
-
-/// Who leads in a trace, when nobody acts, and whether two ever do at once.
-fn tell(alloc: Global, header: Header, lines: &[Line<&[u8]>]) -> Result<Answer, NoMemory>
-    requires { header.end ≤ 604800000 }
-    ensures { IfOk result (λ answer. reply_of answer ≡ spec.leaders header (map seen lines.now)) }
-{
-    let stop = header.end + 1;
-    let found = terms_of(alloc, lines)?;
-    let acting = stretches_of(alloc, stop, lines)?;
-    let mut text = Vec::new(alloc);
-    add_terms(&mut text, alloc, stop, &found, &acting)?;
-    judged(text, &acting)
 }
 
 /// These lines and the last one behind them, which tells where two act at once.
@@ -120,26 +107,8 @@ fn add_term(text: &mut Vec<u8>, stop: u32, term: &Term<&[u8]>) -> Result<(), NoM
     add(text, b" until=")?;
     add_number(text, u64::from(term.until(stop)))?;
     add(text, b" ended=")?;
-    add(text, closing_text(term.closing))
-}
-
-fn closing_text(closing: Option<Closing>) -> &'static [u8]
-    ensures { result.now ≡ spec.closing_text closing }
-{
-    match closing {
-        None => b"trace-end\n",
-        Some(closing) => ending_text(closing.how),
-    }
-}
-
-fn ending_text(ending: Ending) -> &'static [u8]
-    ensures { result.now ≡ spec.ending_text ending }
-{
-    match ending {
-        Ending::End => b"end\n",
-        Ending::Stop => b"stop\n",
-        Ending::Crash => b"crash\n",
-    }
+    add(text, ended(term.closing))?;
+    add(text, b"\n")
 }
 
 fn add_spans(text: &mut Vec<u8>, spans: &[Span]) -> Result<(), NoMemory>

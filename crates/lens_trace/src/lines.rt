@@ -7,3 +7,5 @@ mod members;
 mod said;
 
 pub use answering::lines_in;
+pub use header::premise_word;
+pub use said::kind_word;

@@ -23,7 +23,7 @@ pub fn read_lines<'a>(alloc: Global, text: &'a [u8]) -> Result<Vec<Line<&'a [u8]
     Ok(lines)
 }
 
-/// Adds the line that a text is, where it is of a form.
+/// Adds the line that a text is, if it is of a form.
 fn add<'a>(lines: &mut Vec<Line<&'a [u8]>>, text: &'a [u8]) -> Result<(), NoMemory>
     ensures { OnOk result (map seen lines.new.items ≡ map seen lines.old.items ++ line_in text.now) }
 {

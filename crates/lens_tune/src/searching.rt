@@ -129,7 +129,7 @@ fn with_lease(w: Wish, lease: u32) -> Option<Plan>
 }
 
 /// The greatest plan in whole steps that fits: the longest lease, with it the longest retry period, and with both the longest renew
-/// deadline; none only where none fits. Takes no memory.
+/// deadline; none only if none fits. Takes no memory.
 pub fn greatest_plan(w: Wish) -> Option<Plan>
     requires { IsWish w }
     ensures { IsGreatestPlan w result }

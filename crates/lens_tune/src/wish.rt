@@ -5,7 +5,7 @@
 pub enum Timeout {
     /// As long as the renew deadline, as in kube-controller-manager 1.20.
     RenewDeadline,
-    /// Half as long, but at least a second, as where client-go's `NewFromKubeconfig` makes the client.
+    /// Half as long, but at least a second, as when client-go's `NewFromKubeconfig` makes the client.
     Half,
     /// So many milliseconds.
     Fixed(u32),

@@ -1,12 +1,8 @@
--- The set of keys and the counts beside the objects of a list.
-use Rattle.std.proofs.Common.{◌≡◌, ℕ, ◌+◌, nat_lt, Bool, true, false, cond, ◌||◌, List, [], ◌∷◌, ◌++◌, Some, None, Result, Ok, Err, refl, sym, ap, ◌∙◌, arith, count_by, ◌==◌}
-use Rattle.std.specs.Ordering.{is_eq}
+-- The keys and the counts beside the objects of a list.
+use Rattle.std.proofs.Common.{◌≡◌, ℕ, ◌+◌, nat_lt, Bool, true, false, cond, ◌||◌, List, [], ◌∷◌, ◌++◌, Option, Some, None, is_some, Result, Ok, Err, refl, sym, ap, ◌∙◌, arith, count_by, ◌==◌}
 use Rattle.std.proofs.lemmas.List.Sums.{sum_by-append}
-use Rattle.kube_objects.specs.contracts.key.KeyOrd.TheImpl.{cmp-value}
 use Rattle.std.proofs.lemmas.List.Folds.{list_any-append}
-use Rattle.std.specs.List.{list_any}
-use Rattle.std.specs.BTreeSet.{BTreeSet, contains}
-use Rattle.kube_objects.specs.Keys.{key_cmp, key_eq, kind_rank}
+use Rattle.kube_objects.specs.Keys.{key_eq, kind_rank}
 use Rattle.kube_objects.specs.declared.key.Key.{Key}
 use Rattle.kube_objects.specs.declared.key.Kind.{Kind}
 use Rattle.kube_objects.specs.declared.key.Kind.TheVariants as kinds
@@ -86,24 +82,6 @@ counts_of-push scale items kinds.Pod space name o c h =
     let pods' = count_yes (λ i. 2 == kind_rank i.0.kind) items x refl in
     sym (some_true _ _ c h).1 ∙ (λ i. record { nodes = sym nodes' i; leases = sym leases' i; pods = sym pods' i })
 
-cmp_at : (k l : Kind) (s n t m : ℕ) → cmp-value.it (record { kind = k; space = s; name = n }) (record { kind = l; space = t; name = m }) ≡ key_cmp (record { kind = k; space = s; name = n }) (record { kind = l; space = t; name = m })
-cmp_at kinds.Node kinds.Node s n t m = refl
-cmp_at kinds.Node kinds.Lease s n t m = refl
-cmp_at kinds.Node kinds.Pod s n t m = refl
-cmp_at kinds.Lease kinds.Node s n t m = refl
-cmp_at kinds.Lease kinds.Lease s n t m = refl
-cmp_at kinds.Lease kinds.Pod s n t m = refl
-cmp_at kinds.Pod kinds.Node s n t m = refl
-cmp_at kinds.Pod kinds.Lease s n t m = refl
-cmp_at kinds.Pod kinds.Pod s n t m = refl
-
--- the derived order is the one of keys
-pub cmp-is : (a b : Key) → cmp-value.it a b ≡ key_cmp a b
-cmp-is a b = cmp_at a.kind b.kind a.space a.name b.space b.name
-
-pub contains-is : (s : BTreeSet Key) (q : Key) → contains cmp-value.it s q ≡ contains key_cmp s q
-contains-is s q = λ i. list_any (λ k. is_eq (cmp-is q k i)) s.keys
-
 or_cond : (a b : Bool) → cond a true b ≡ (b || (a || false))
 or_cond true true = refl
 or_cond true false = refl
@@ -113,10 +91,13 @@ or_cond false false = refl
 pub has_key-push : (q : Key) (items : List (Key × Object)) (found : Key × Object) → cond (key_eq found.0 q) true (has_key q items) ≡ has_key q (items ++ found ∷ [])
 has_key-push q items found = or_cond (key_eq found.0 q) (has_key q items) ∙ sym (list_any-append (λ i. key_eq i.0 q) items (found ∷ []))
 
+some_put : {A : Type 0} (b : Bool) (x : A) (o : Option A) → is_some (cond b (Some x) o) ≡ cond b true (is_some o)
+some_put true x o = refl
+some_put false x o = refl
+
 -- an inserted key is one of the keys
-pub contains-push : (old new : BTreeSet Key) (q : Key) (items : List (Key × Object)) (found : Key × Object) (more : List (Key × Object))
-    → contains cmp-value.it new q ≡ cond (is_eq (cmp-value.it found.0 q)) true (contains cmp-value.it old q)
-    → contains key_cmp old q ≡ has_key q items → more ≡ items ++ found ∷ [] → contains key_cmp new q ≡ has_key q more
-contains-push old new q items found more put had is =
-    sym (contains-is new q) ∙ put ∙ (λ i. cond (is_eq (cmp-is found.0 q i)) true (contains-is old q i))
-    ∙ ap (λ b. cond (key_eq found.0 q) true b) had ∙ has_key-push q items found ∙ ap (has_key q) (sym is)
+pub key-push : {A : Type 0} (old new : Option A) (x : A) (q : Key) (items : List (Key × Object)) (found : Key × Object) (more : List (Key × Object))
+    → new ≡ cond (key_eq found.0 q) (Some x) old → is_some old ≡ has_key q items → more ≡ items ++ found ∷ [] → is_some new ≡ has_key q more
+key-push old new x q items found more put had is =
+    ap is_some put ∙ some_put (key_eq found.0 q) x old ∙ ap (λ b. cond (key_eq found.0 q) true b) had
+    ∙ has_key-push q items found ∙ ap (has_key q) (sym is)

@@ -95,7 +95,7 @@ pub struct Refusal {
     pub path: Path,
 }
 
-/// What a reader answers in place of a value.
+/// What a reader returns in place of a value.
 #[derive(Debug, Drop)]
 pub enum ReadFault {
     Refused(Refusal),

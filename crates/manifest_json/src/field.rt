@@ -1,5 +1,5 @@
 // Fields of a manifest's objects. A null counts as a missing key.
-ghost use Rattle.std.specs.Prelude.{◌≡◌, ◌++◌, option_and_then};
+ghost use Rattle.std.specs.Prelude.{◌≡◌, ◌++◌, option_and_then, string_bytes};
 ghost use Rattle.std.specs.Option.{option_map};
 ghost use Rattle.serde_json.specs.View.{view, items_view};
 ghost use Rattle.manifest_json.specs.Faults.{Gives};
@@ -47,7 +47,7 @@ pub(crate) fn object<'v>(path: &Path, value: &'v Value) -> Result<&'v Value, Rea
     }
 }
 
-/// An object that counts as empty where it is missing.
+/// An object that counts as empty if it is missing.
 pub fn parent<'v>(
     path: &Path,
     key: &str,
@@ -65,7 +65,7 @@ pub fn parent<'v>(
     }
 }
 
-/// A text that counts as empty where it is missing.
+/// A text that counts as empty if it is missing.
 pub fn text<'v>(
     code: u32,
     path: &Path,
@@ -94,7 +94,7 @@ pub fn is_text(wanted: &str, value: Option<&Value>) -> bool
     }
 }
 
-/// An array that counts as empty where it is missing.
+/// An array that counts as empty if it is missing.
 pub fn items<'v>(path: &Path, key: &str, value: Option<&'v Value>) -> Result<&'v [Value], ReadFault>
     ensures { Gives (λ list. items_view list.now) result
         (spec.items_at (path.now ++ key.now) (option_map (λ v. view v.now) value.entry)) }
@@ -181,7 +181,7 @@ pub(crate) fn integer(
     }
 }
 
-/// A text's number. A full table of names counts as want of memory.
+/// A text's number. A full table of names counts as out of memory.
 #[tactic(auto, unfolding(crate::specs::Fields::numbered))]
 pub fn number(names: &mut Names, text: &str) -> Result<u32, ReadFault>
     ensures gives { Gives (λ n. (n, names.new)) result (spec.numbered names.old text.now) }
@@ -190,7 +190,22 @@ pub fn number(names: &mut Names, text: &str) -> Result<u32, ReadFault>
     if names.len() >= u32::MAX as usize {
         return Err(ReadFault::NoMemory);
     }
-    match names.number(text.as_bytes()) {
+    match names.number(text) {
+        Ok(number) => Ok(number),
+        Err(_) => Err(ReadFault::NoMemory),
+    }
+}
+
+/// The same of a text that is handed over.
+#[tactic(auto, unfolding(crate::specs::Fields::numbered))]
+pub fn number_given(names: &mut Names, text: String) -> Result<u32, ReadFault>
+    ensures gives { Gives (λ n. (n, names.new)) result (spec.numbered names.old (string_bytes text)) }
+    ensures names { AreKept names.old names.new }
+{
+    if names.len() >= u32::MAX as usize {
+        return Err(ReadFault::NoMemory);
+    }
+    match names.number_given(text) {
         Ok(number) => Ok(number),
         Err(_) => Err(ReadFault::NoMemory),
     }

@@ -8,9 +8,9 @@ ghost use Rattle.manifest_json.specs.Walk.{kind_count, kind_limit, with_found};
 use crate::codes::{DUPLICATE, TOO_MANY};
 use crate::fault::fault;
 use crate::{Path, ReadFault, Scale};
+use key_map::KeyMap;
 use kube_objects::{Items, Key, Kind, Object};
 use std::alloc::Global;
-use std::collections::BTreeSet;
 
 /// How many objects there are of each kind.
 #[derive(Clone, Copy, Debug)]
@@ -20,12 +20,12 @@ pub(crate) struct Counts {
     pub(crate) pods: u32,
 }
 
-/// Objects of a list of some scale, in order, with the set of their keys.
+/// Objects of a list of some scale, in order, with their keys.
 #[derive(Drop)]
 pub struct Kept {
     pub scale: Scale,
     pub items: Items,
-    keys: BTreeSet<Key>,
+    keys: KeyMap<()>,
     counts: Counts,
 }
 
@@ -39,7 +39,7 @@ impl Kept {
         Kept {
             scale,
             items: Items::new(alloc),
-            keys: BTreeSet::new(alloc),
+            keys: KeyMap::new(alloc),
             counts: Counts {
                 nodes: 0,
                 leases: 0,
@@ -56,16 +56,14 @@ impl Kept {
         ensures scale { self.new.scale ≡ self.old.scale }
     {
         let key = found.0;
-        if self.keys.contains(&key) {
-            return Err(fault(DUPLICATE, path));
+        match self.keys.insert(key, ()) {
+            Ok(None) => {}
+            Ok(Some(())) => return Err(fault(DUPLICATE, path)),
+            Err(_) => return Err(ReadFault::NoMemory),
         }
         let Some(counts) = one_more(self.scale, self.counts, key.kind) else {
             return Err(fault(TOO_MANY, path));
         };
-        match self.keys.insert(key) {
-            Ok(_) => {}
-            Err(_) => return Err(ReadFault::NoMemory),
-        }
         self.counts = counts;
         match self.items.push(found) {
             Ok(()) => Ok(()),

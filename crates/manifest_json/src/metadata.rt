@@ -83,7 +83,7 @@ pub(crate) fn spaced_key(
     Ok(Key { kind, space, name })
 }
 
-/// The number of a text that counts as empty where it is missing.
+/// The number of a text that counts as empty if it is missing.
 #[tactic(auto, unfolding(crate::specs::Walk::text_number_at))]
 pub(crate) fn text_number(
     names: &mut Names,

@@ -44,7 +44,7 @@ pub fn read_object(
     of_kind(alloc, names, known, path, value, kind)
 }
 
-/// A List's item: none where it has another kind.
+/// A List's item: none if it has another kind.
 #[tactic(auto, unfolding(crate::specs::Walk::item_at))]
 pub(crate) fn item(
     alloc: Global,

@@ -15,7 +15,9 @@ use crate::metadata::{spaced_key, text_number};
 use crate::node::effect_of;
 use crate::{Path, ReadFault};
 use kube_base::Names;
-use kube_objects::{Effect, Key, Kind, Object, Operator, Pod, Toleration, Tolerations};
+use kube_objects::{
+    Effect, Key, Kind, Object, Operator, Pod, Toleration, TolerationList, Tolerations,
+};
 use serde_json::Value;
 use std::alloc::Global;
 
@@ -72,7 +74,8 @@ fn tolerations(
 {
     let all = items(path, "/spec/tolerations", field_in(spec, "tolerations"))?;
     let few = hundred(path, "/spec/tolerations", all)?;
-    tolerations_of(alloc, names, path, "/spec/tolerations/", few)
+    let list = tolerations_of(alloc, names, path, "/spec/tolerations/", few)?;
+    Ok(Tolerations::of(list)?)
 }
 
 /// The tolerations of pods that are alike, by the rules of a Pod's.
@@ -89,7 +92,8 @@ pub fn read_tolerations(
 {
     let all = items(path, "/tolerations", field(value, "tolerations"))?;
     let few = hundred(path, "/tolerations", all)?;
-    tolerations_of(alloc, names, path, "/tolerations/", few)
+    let list = tolerations_of(alloc, names, path, "/tolerations/", few)?;
+    Ok(Tolerations::of(list)?)
 }
 
 fn tolerations_of(
@@ -98,12 +102,12 @@ fn tolerations_of(
     path: &Path,
     key: &str,
     list: &[Value],
-) -> Result<Tolerations, ReadFault>
+) -> Result<TolerationList, ReadFault>
     ensures gives { Gives (λ tolerations. (tolerations, names.new)) result
         (walk.tolerations_from names.old path.now key.now 0 [] (items_view list.now)) }
     ensures names { AreKept names.old names.new }
 {
-    let mut tolerations = Tolerations::new(alloc);
+    let mut tolerations = TolerationList::new(alloc);
     for (place, item) in list.iter().enumerate() {
         match toleration_in(names, path, key, place, item) {
             Ok(toleration) => tolerations.push(toleration)?,

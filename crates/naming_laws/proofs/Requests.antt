@@ -91,22 +91,7 @@ module _ (names : Texts) (known : List ℕ) (fixed : HoldsFixed names) where
       cases : (shown q h ≡ Some x → Fit) → (who : Actor) (d : Fact) → Carries names known d → upper (shows q who d) (shown q h) ≡ Some x → Fit
       cases below who (Delivers call reply counted) carries is =
           by_test below (counted && is_by q who) (told call.request reply) (λ is. told_fit call.request reply carries.0 carries.1 x is) is
-      cases below who (First key object) carries is = below is
-      cases below who (Happens event version) carries is = below is
-      cases below who Starts carries is = below is
-      cases below who Crashes carries is = below is
-      cases below who Stops carries is = below is
-      cases below who (Stalls beats) carries is = below is
-      cases below who Ends carries is = below is
-      cases below who (ReleaseBegins at_deadline) carries is = below is
-      cases below who ReleaseEnds carries is = below is
-      cases below who StepsDown carries is = below is
-      cases below who ReleaseStops carries is = below is
-      cases below who (Sends call arrives) carries is = below is
-      cases below who (Answers call reply comes written) carries is = below is
-      cases below who (Expires call) carries is = below is
-      cases below who (Leads version) carries is = below is
-      cases below who (Ticks t) carries is = below is
+      cases below who d carries is = below is
 
   pub waiting_fit : (q : Identity) (h : List Entry) → AreFit names known h → (x : Call) → call_in q h ≡ Some x → IsFitRequest names known x.request
   waiting_fit q [] fit x is = absurd (none_is x is)
@@ -134,20 +119,8 @@ module _ (names : Texts) (known : List ℕ) (fixed : HoldsFixed names) where
       cases below who (Sends call arrives) carries is = sends below (is_by q who) call carries is
       cases below who (Delivers call reply counted) carries is = closes below (counted && is_by q who) is
       cases below who (Expires call) carries is = closes below (is_by q who) is
-      cases below who (First key object) carries is = below is
-      cases below who (Happens event version) carries is = below is
-      cases below who Starts carries is = below is
-      cases below who Crashes carries is = below is
-      cases below who Stops carries is = below is
-      cases below who (Stalls beats) carries is = below is
-      cases below who Ends carries is = below is
       cases below who (ReleaseBegins at_deadline) carries is = closes below (is_by q who) is
-      cases below who ReleaseEnds carries is = below is
-      cases below who StepsDown carries is = below is
-      cases below who ReleaseStops carries is = below is
-      cases below who (Answers call reply comes written) carries is = below is
-      cases below who (Leads version) carries is = below is
-      cases below who (Ticks t) carries is = below is
+      cases below who d carries is = below is
 
   -- ---- electors
 

@@ -15,22 +15,10 @@ use Rattle.kube_objects.specs.Stamps.{is_no_execute, stamp_taint, stamp_all}
 use Rattle.kube_objects.specs.Tainting.{is_condition, is_wanted}
 use Rattle.kube_objects.specs.Tick.{new_taint}
 use Rattle.kube_objects.specs.Writable.{is_condition_key}
-use Rattle.history_laws.proofs.Plainly.{false_is, and_left, and_right, and_both, not_true}
+use Rattle.history_laws.proofs.Plainly.{false_is, and_left, and_right, and_both, not_true, or_left, or_right, or_none}
 use Rattle.manifest_json.specs.Readable.{taints_differ}
 use Rattle.manifest_json.specs.Walk.{effect_rank, same_taint}
 use Rattle.manifest_laws.proofs.ReadItems.{taints_differ-push}
-
-or_left : (a b : Bool) → (a || b) ≡ false → a ≡ false
-or_left true b is = is
-or_left false b is = refl
-
-or_right : (a b : Bool) → (a || b) ≡ false → b ≡ false
-or_right true b is = absurd (false_is (sym is))
-or_right false b is = is
-
-or_none : (a b : Bool) → a ≡ false → b ≡ false → (a || b) ≡ false
-or_none true b left right = left
-or_none false b left right = right
 
 and_shift : (a b c : Bool) → (a && b && c) ≡ ((a && b) && c)
 and_shift true b c = refl

@@ -11,7 +11,7 @@ use Rattle.kube_base.specs.declared.fixed.TheConstants.{KUBE_NODE_LEASE, KUBE_SY
 use Rattle.kube_base.specs.Names.{AreNames, fixed_names}
 use Rattle.kube_objects.specs.declared.lease.Holder.TheVariants as holder
 use Rattle.kube_objects.specs.declared.script.Proc.{Proc}
-use Rattle.history_laws.proofs.Plainly.{some_is, none_is, false_is, and_left, and_right}
+use Rattle.history_laws.proofs.Plainly.{some_is, none_is, false_is, and_left, and_right, or_left, or_right, or_none}
 use Rattle.manifest_json.proofs.Places.{none_within}
 use Rattle.manifest_json.specs.Fields.{Texts, is_name, is_name_rest, may_follow, is_small_letter_or_digit}
 use Rattle.manifest_json.specs.Readable.{IsHeld, IsFilled, IsNameNumber, IsReadableHolder}
@@ -75,18 +75,6 @@ any_reverse p (x ∷ xs) none =
     ap (list_any p) (reverse-append (x ∷ []) xs)
     ∙ list_any-append p (reverse xs) (x ∷ [])
     ∙ or_none (list_any p (reverse xs)) (p x || false) (any_reverse p xs (or_right (p x) (list_any p xs) none)) (or_none (p x) false (or_left (p x) (list_any p xs) none) refl)
-  where
-    or_left : (a b : Bool) → (a || b) ≡ false → a ≡ false
-    or_left true b is = is
-    or_left false b is = refl
-
-    or_right : (a b : Bool) → (a || b) ≡ false → b ≡ false
-    or_right true b is = absurd (false_is (sym is))
-    or_right false b is = is
-
-    or_none : (a b : Bool) → a ≡ false → b ≡ false → (a || b) ≡ false
-    or_none true b left right = left
-    or_none false b left right = right
 
 no_place : (xs : List ℕ) → list_any is_mark xs ≡ false → position is_mark xs ≡ None
 no_place xs none =

@@ -1,5 +1,5 @@
 -- A tick of a controller keeps a history of which all can be written.
-use Rattle.std.proofs.Common.{◌≡◌, ℕ, ◌≤◌, ◌==◌, ◌&&◌, ◌||◌, not, Bool, true, false, cond, List, [], ◌∷◌, ◌++◌, map, filter, Option, Some, None, refl, sym, subst, arith}
+use Rattle.std.proofs.Common.{◌≡◌, ℕ, nat_le, ◌≤◌, ◌==◌, ◌&&◌, ◌||◌, not, Bool, true, false, cond, List, [], ◌∷◌, ◌++◌, map, filter, Option, Some, None, refl, sym, subst, arith}
 use Rattle.std.specs.Prelude.{if◌then◌else◌}
 use Rattle.std.proofs.lemmas.Bool.{eqb-true, leb-true}
 use Rattle.std.specs.List.{AllByRecursion, list_any}
@@ -43,7 +43,7 @@ use Rattle.kube_objects.specs.Writable.{answers_write, is_condition_key}
 use Rattle.history.specs.Printed.{map_answer, tick_act}
 use Rattle.history_laws.proofs.Counting.{only_test, only_value}
 use Rattle.history_laws.proofs.Plainly.{some_is, none_is, false_is, and_both, not_true}
-use Rattle.history_laws.proofs.Ticks.{IsPodKey, IsDelete, IsSightedDelete, IsDeleteBy, judge_step, cleaned_each, push_step, tainted_each, evict_step, evicted_each}
+use Rattle.history_laws.proofs.Ticks.{IsPodKey, IsDeleteBy, every, mark_step, mode_step, zone_step, clean_step, judge_step, taint_step, push_step, evict_step, cleaned_each, tainted_each, evicted_each, kept_sync, kept_pass, kept_tick}
 use Rattle.manifest_json.specs.Fields.{Texts}
 use Rattle.manifest_json.specs.Readable.{IsHeld, IsFilled, IsNameNumber, IsWholeSecond, IsReadableTaint, IsReadableReady, taints_differ}
 use Rattle.naming_laws.specs.WellFormed.{IsWellFormedNode}
@@ -346,40 +346,25 @@ module _ (names : Texts) (known : List ℕ) (fixed : HoldsFixed names) (doc : Do
       by_seen None at is = absurd (none_is (given, x) is)
       by_seen (Some y) at is = let item = seen_fit names known q h fit pod y at in (space_held names fixed pod item.named, item.named.0.0)
 
-  delete_fact : (pod : Key) (given node_given : Version) (at : ℕ) (a : Option Answer) (h : List Entry) → Fit h → IsDelete doc k q pod given node_given at a h
-      → IsFitFact names known (actor_of q) (Ticks (Delete pod given node_given at a))
-  delete_fact pod given node_given at a h fit made = record {
-    told = told_by (λ a. act.Evicted pod (record { 0 = at }) a) (λ a is. (record { form = and_both (is_pod pod.kind) (answers_write a) made.kind is; held = (held.0, (held.1, tt)); timely = due }, refl)) a
-        (subst IsTried (sym made.is) (pod_tried q pod given made.x.node node_given h));
+  deleted_fact : (pod : Key) (given node_given : Version) (at : ℕ) (a : Option Answer) (x : Pod) (h : List Entry) → Fit h → is_pod pod.kind ≡ true → seen_pod q pod h ≡ Some (given, x)
+      → nat_le at (wall doc q.process k) ≡ true → IsTried a → IsFitFact names known (actor_of q) (Ticks (Delete pod given node_given at a))
+  deleted_fact pod given node_given at a x h fit kind sees test tried = record {
+    told = told_by (λ a. act.Evicted pod (record { 0 = at }) a) (λ a is. (record { form = and_both (is_pod pod.kind) (answers_write a) kind is; held = (held.0, (held.1, tt)); timely = due }, refl)) a tried;
     wrote = delete_wrote pod a;
     carries = tt;
   }
     where
       held : IsHeld names pod.space × IsHeld names pod.name
-      held = pod_seen pod given made.x h fit made.sees
+      held = pod_seen pod given x h fit sees
 
       due : at ≤ last_wall
-      due = omega (arith, early, leb-true at (wall doc q.process k) made.test)
-
-  sighted_fact : (pod : Key) (given node_given : Version) (at : ℕ) (a : Option Answer) (h : List Entry) → Fit h → IsSightedDelete doc k q pod given node_given at a h
-      → IsFitFact names known (actor_of q) (Ticks (Delete pod given node_given at a))
-  sighted_fact pod given node_given at a h fit made = record {
-    told = told_by (λ a. act.Evicted pod (record { 0 = at }) a) (λ a is. (record { form = and_both (is_pod pod.kind) (answers_write a) made.kind is; held = (held.0, (held.1, tt)); timely = due }, refl)) a
-        (subst IsTried (sym made.is) (pod_tried_alone q pod given h));
-    wrote = delete_wrote pod a;
-    carries = tt;
-  }
-    where
-      held : IsHeld names pod.space × IsHeld names pod.name
-      held = pod_seen pod given made.x h fit made.sees
-
-      due : at ≤ last_wall
-      due = omega (arith, early, leb-true at (wall doc q.process k) made.test)
+      due = omega (arith, early, leb-true at (wall doc q.process k) test)
 
   delete_fits : (rule : EvictRule) (pod : Key) (given node_given : Version) (at : ℕ) (a : Option Answer) (h : List Entry) → Fit h → IsDeleteBy rule doc k q pod given node_given at a h
       → IsFitFact names known (actor_of q) (Ticks (Delete pod given node_given at a))
-  delete_fits Added pod given node_given at a h fit made = delete_fact pod given node_given at a h fit made
-  delete_fits Seen pod given node_given at a h fit made = sighted_fact pod given node_given at a h fit made
+  delete_fits Added pod given node_given at a h fit made =
+      deleted_fact pod given node_given at a made.x h fit made.kind made.sees made.test (subst IsTried (sym made.is) (pod_tried q pod given made.x.node node_given h))
+  delete_fits Seen pod given node_given at a h fit made = deleted_fact pod given node_given at a made.x h fit made.kind made.sees made.test (subst IsTried (sym made.is) (pod_tried_alone q pod given h))
 
   -- ---- zones
 
@@ -400,10 +385,6 @@ module _ (names : Texts) (known : List ℕ) (fixed : HoldsFixed names) (doc : Do
 
   -- ---- the walk
 
-  every : {A : Type 0} (f : A → List Entry → List Entry) → ((a : A) (h : List Entry) → Fit h → Fit (f a h)) → (xs : List A) (h : List Entry) → Fit h → Fit (for_each f xs h)
-  every f keeps [] h fit = fit
-  every f keeps (x ∷ xs) h fit = every f keeps xs (f x h) (keeps x h fit)
-
   those : {A : Type 0} (f : A → List Entry → List Entry) (Q : A → Type 0) → ((a : A) (h : List Entry) → Q a → Fit h → Fit (f a h)) → (xs : List A) (h : List Entry) → AllByRecursion Q xs → Fit h → Fit (for_each f xs h)
   those f Q keeps [] h all fit = fit
   those f Q keeps (x ∷ xs) h all fit = those f Q keeps xs (f x h) all.1 (keeps x h all.0 fit)
@@ -411,79 +392,26 @@ module _ (names : Texts) (known : List ℕ) (fixed : HoldsFixed names) (doc : Do
   silent : (t : Tick) (h : List Entry) → IsTold names (actor_of q) (tick_act t) → IsFitWrite names known (tick_write t) → Fit h → Fit (add k q t h)
   silent t h told wrote fit = (record { told = told; wrote = wrote; carries = tt }, fit)
 
-  keeps_sync : (h : List Entry) → Fit h → Fit (sync doc k q h)
-  keeps_sync h fit = by_test (has_settled doc k q h && (watches doc q.process h && not (is_fresh q h)))
-    where
-      by_test : (b : Bool) → Fit (if b then add k q Sync h else h)
-      by_test true = silent Sync h tt tt fit
-      by_test false = fit
-
   keeps_mark : (name : ℕ) (h : List Entry) → Fit h → Fit (mark doc k q name h)
-  keeps_mark name h fit = by_seen (seen_node q name h) refl
-    where
-      by_test : (x : Version × Node) → seen_node q name h ≡ Some x → (b : Bool) → Fit (mark_as k q name x.0 (when b (with_mark (whole_second (wall doc q.process k)) x.1)) h)
-      by_test x is true = (mark_fact name x.0 x.1 h (node_seen_fit names known q h fit name x is), fit)
-      by_test x is false = fit
-
-      by_seen : (o : Option (Version × Node)) → seen_node q name h ≡ o → Fit (mark_seen doc k q name o h)
-      by_seen None is = fit
-      by_seen (Some x) is = by_test x is (not (is_unknown x.1.ready) && is_silent doc q k name x.1.ready h)
+  keeps_mark name h fit = mark_step doc k q (AreFit names known) name h fit (λ x is. (mark_fact name x.0 x.1 h (node_seen_fit names known q h fit name x is), fit))
 
   keeps_mode : (h : List Entry) → Fit h → Fit (set_mode doc k q h)
-  keeps_mode h fit = by_mode (all_full doc (nodes q h))
-    where
-      by_test : (on b : Bool) → Fit (if b then h else add k q (Mode on) h)
-      by_test on true = fit
-      by_test on false = silent (Mode on) h (record { form = refl; held = tt; timely = tt }, refl) tt fit
-
-      by_mode : (on : Bool) → Fit (mode_as k q on h)
-      by_mode on = by_test on (is_same_mode on (mode q h))
+  keeps_mode h fit = mode_step doc k q (AreFit names known) h fit (λ on. silent (Mode on) h (record { form = refl; held = tt; timely = tt }, refl) tt fit)
 
   keeps_zone : (ns : List Node) (place : Place) (h : List Entry) → IsHeldPlace place → Fit h → Fit (zone doc k q ns place h)
-  keeps_zone ns place h held fit = by_state (state_in doc ns place) (rate_in doc (mode q h) ns place)
-    where
-      by_test : (s : ZoneState) (rate : ℕ) (b : Bool) → Fit (if b then h else add k q (Zone place s rate) h)
-      by_test s rate true = fit
-      by_test s rate false = silent (Zone place s rate) h (record { form = refl; held = (held.0, (held.1, tt)); timely = tt }, refl) tt fit
-
-      by_state : (s : ZoneState) (rate : ℕ) → Fit (zone_as k q place s rate h)
-      by_state s rate = by_test s rate (is_rated s rate (rated q place h))
+  keeps_zone ns place h held fit =
+      zone_step doc k q (AreFit names known) ns place h fit
+      (λ s rate most. silent (Zone place s rate) h (record { form = refl; held = (held.0, (held.1, tt)); timely = tt }, refl) tt fit)
 
   keeps_zones : (h : List Entry) → Fit h → Fit (set_zones doc k q h)
   keeps_zones h fit =
       those (zone doc k q (nodes q h)) IsHeldPlace (λ place g held fit. keeps_zone (nodes q h) place g held fit) (places (nodes q h)) h
       (places_held (nodes q h) (among_fit h fit (node_names h))) fit
 
-  keeps_pass : (h : List Entry) → Fit h → Fit (pass doc k q h)
-  keeps_pass h fit = by_test (is_pass_due doc k q h)
-    where
-      by_test : (b : Bool) → Fit (if b then whole_pass doc k q h else h)
-      by_test false = fit
-      by_test true =
-          let passed = add k q Pass h in
-          let marked = marks doc k q passed in
-          keeps_zones (set_mode doc k q marked) (keeps_mode marked (every (mark doc k q) keeps_mark (node_names passed) passed (silent Pass h tt tt fit)))
-
   keeps_clean : (name : ℕ) (h : List Entry) → Fit h → Fit (clean doc k q name h)
-  keeps_clean name h fit = by_stale (is_stale q (node_key name) h) (seen_node q name h) refl
-    where
-      by_untaint : (x : Version × Node) → IsFitFound names known name x.1 → (b : Bool) → Fit (if b then add_untaint k q name x.0 x.1 h else h)
-      by_untaint x found false = fit
-      by_untaint x found true = (untaint_fact name x.0 x.1 h found, fit)
-
-      by_swap : (x : Version × Node) → IsFitFound names known name x.1 → (wanted : ℕ) → is_condition_key wanted ≡ true → (b : Bool) → Fit (if b then add_swap doc k q name x.0 x.1 wanted h else h)
-      by_swap x found wanted key false = fit
-      by_swap x found wanted key true = (swap_fact name wanted x.0 x.1 h key found, fit)
-
-      by_wants : (x : Version × Node) → IsFitFound names known name x.1 → (w : Wants) → IsWantedKey (wanted_key w) → Fit (clean_as doc k q name x.0 x.1 w h)
-      by_wants x found Nothing key = by_untaint x found (has_condition x.1)
-      by_wants x found (Wanted wanted) key = by_swap x found wanted key (list_any (is_opposite wanted) x.1.taints)
-      by_wants x found Whatever key = fit
-
-      by_stale : (b : Bool) (o : Option (Version × Node)) → seen_node q name h ≡ o → Fit (clean_seen doc k q name b o h)
-      by_stale true o is = fit
-      by_stale false None is = fit
-      by_stale false (Some x) is = by_wants x (node_seen_fit names known q h fit name x is) (wants (is_stripped doc.settings.rules.first_sight k q name h || mode q h) x.1) (wanted_fit (is_stripped doc.settings.rules.first_sight k q name h || mode q h) x.1)
+  keeps_clean name h fit =
+      clean_step doc k q (AreFit names known) name h fit (λ x is. (untaint_fact name x.0 x.1 h (node_seen_fit names known q h fit name x is), fit))
+      (λ x is wanted want. (swap_fact name wanted x.0 x.1 h (subst (λ w. IsWantedKey (wanted_key w)) want (wanted_fit (is_stripped doc.settings.rules.first_sight k q name h || mode q h) x.1)) (node_seen_fit names known q h fit name x is), fit))
 
   keeps_judge : (x : Passed) (name : ℕ) (h : List Entry) → Fit h → Fit (judge doc k q x name h)
   keeps_judge x name h fit =
@@ -491,21 +419,10 @@ module _ (names : Texts) (known : List ℕ) (fixed : HoldsFixed names) (doc : Do
       (λ y z was is wanted wants. (crossed_fact (is_new doc q name x.before) name wanted z.0 z.1 h (judged_fit (has_marked q name x) y.1.ready wanted wants) (node_seen_fit names known q h fit name z is), fit))
 
   keeps_taint : (place : Place) (h : List Entry) → Fit h → Fit (taint doc k q place h)
-  keeps_taint place h fit = by_token (has_token doc q k place h)
-    where
-      by_seen : (name : ℕ) (o : Option ℕ) → waits q place name h ≡ o → (x : Option (Version × Node)) → seen_node q name h ≡ x → Fit (taint_as doc k q place name o x h)
-      by_seen name None waiting x is = fit
-      by_seen name (Some wanted) waiting None is = fit
-      by_seen name (Some wanted) waiting (Some x) is =
-          (head_fact place name wanted x.0 x.1 h (waits_fit (mode q h) place (seen_node q name h) wanted waiting) (bare_fit (mode q h) place (seen_node q name h) x wanted is waiting) (node_seen_fit names known q h fit name x is), fit)
-
-      by_head : (o : Option Queued) → Fit (taint_head doc k q place o h)
-      by_head None = fit
-      by_head (Some head) = by_seen head.1 (waits q place head.1 h) refl (seen_node q head.1 h) refl
-
-      by_token : (b : Bool) → Fit (if b then taint_first doc k q place h else h)
-      by_token false = fit
-      by_token true = by_head (head_of q place (node_names h) h)
+  keeps_taint place h fit =
+      taint_step doc k q (AreFit names known) place h fit
+      (λ name wanted x token waiting is.
+      (head_fact place name wanted x.0 x.1 h (waits_fit (mode q h) place (seen_node q name h) wanted waiting) (bare_fit (mode q h) place (seen_node q name h) x wanted is waiting) (node_seen_fit names known q h fit name x is), fit))
 
   keeps_push : (place : Place) (h : List Entry) → Fit h → Fit (push doc k q place h)
   keeps_push place h fit =
@@ -517,16 +434,8 @@ module _ (names : Texts) (known : List ℕ) (fixed : HoldsFixed names) (doc : Do
       evict_step doc k q (AreFit names known) pod h kind fit (λ given node_given at a made. (delete_fits doc.settings.rules.evict_from pod given node_given at a h fit made, fit))
 
   pub keeps_tick : (h : List Entry) → Fit h → Fit (tick doc k q h)
-  keeps_tick h fit = by_test (is_synced q (sync doc k q h))
-    where
-      by_test : (b : Bool) → Fit (if b then phases doc k q (sync doc k q h) else (sync doc k q h))
-      by_test false = keeps_sync h fit
-      by_test true =
-          let a = sync doc k q h in
-          let b = pass doc k q a in
-          let d = cleaned doc k q b in
-          let e = tainted doc k q d in
-          let fit_b : Fit b = keeps_pass a (keeps_sync h fit) in
-          let fit_d : Fit d = cleaned_each doc k q (AreFit names known) keeps_clean keeps_judge b fit_b in
-          let fit_e : Fit e = tainted_each doc k q (AreFit names known) keeps_taint keeps_push d fit_d in
-          evicted_each doc k q (AreFit names known) keeps_evict e fit_e
+  keeps_tick =
+      kept_tick doc k q (AreFit names known) (kept_sync doc k q (AreFit names known) (λ h fit. silent Sync h tt tt fit))
+      (kept_pass doc k q (AreFit names known) (λ h fit. silent Pass h tt tt fit)
+      (λ h fit. keeps_zones (set_mode doc k q (marks doc k q h)) (keeps_mode (marks doc k q h) (every (mark doc k q) (AreFit names known) keeps_mark (node_names h) h fit))))
+      (cleaned_each doc k q (AreFit names known) keeps_clean keeps_judge) (tainted_each doc k q (AreFit names known) keeps_taint keeps_push) (evicted_each doc k q (AreFit names known) keeps_evict)

@@ -58,7 +58,7 @@ impl Health {
 
     /// A pass looks at a node, which it finds with this Lease. Answers whether the node is to be marked.
     ///
-    /// Where the node is known it takes no memory. Where memory is wanting, the node stays unknown.
+    /// If the node is known it takes no memory. If memory runs out, the node stays unknown.
     pub fn look(
         &mut self,
         node: u32,
@@ -139,7 +139,7 @@ impl Health {
         }
     }
 
-    /// The reading at which a node was last heard of; none exactly where it isn't known. Takes no memory.
+    /// The reading at which a node was last heard of; none exactly if it isn't known. Takes no memory.
     pub fn probe(&self, node: u32) -> Option<Local>
         ensures kept { result ≡ option_map (λ known. known.probe) (kept self.now node) }
         ensures known { (doc : Doc) (q : Identity) (h : List Entry) → ProbesByRun doc → HealthStands doc q h self.now → has result ≡ is_known q node h }

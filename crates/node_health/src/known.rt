@@ -125,7 +125,7 @@ pub(crate) fn is_silent(probe: Local, grace: u64, now: Local) -> bool
     grace < now.0.saturating_sub(probe.0)
 }
 
-/// The heartbeat of a Ready condition, where it has one.
+/// The heartbeat of a Ready condition, if it has one.
 pub(crate) fn heartbeat_of(ready: Option<Ready>) -> Option<Wall>
     ensures { result ≡ model.ready_heartbeat ready }
 {
@@ -157,7 +157,7 @@ fn is_later(renewed: Option<Wall>, kept: Option<Wall>) -> bool
     }
 }
 
-/// The renew time of a Lease, where it has one.
+/// The renew time of a Lease, if it has one.
 pub(crate) fn renewed_of(lease: Option<Lease>) -> Option<Wall>
     ensures { result ≡ recorded.renewed_of lease }
 {
@@ -191,7 +191,7 @@ fn is_same_time(was: Option<Wall>, is: Option<Wall>) -> bool
     }
 }
 
-/// Whether a pass counts the Lease that it sees: where none is kept, or it is renewed later than the kept one.
+/// Whether a pass counts the Lease that it sees: if none is kept, or it is renewed later than the kept one.
 fn is_counted(kept: Option<Option<Wall>>, lease: Option<Lease>) -> bool
     ensures { result ≡ recorded.is_counted kept lease }
 {

@@ -7,7 +7,7 @@ use crate::known::Known;
 use crate::listed::{forget_unlisted, list_anew, reset_listed};
 use key_map::KeyMap;
 use kube_base::{Local, NoMemory};
-use kube_objects::{Key, Kind};
+use kube_objects::Key;
 use std::alloc::Global;
 
 /// What is kept of nodes, by the numbers of their names. To look at one costs the same however many there are. The names are listed
@@ -17,17 +17,6 @@ pub(crate) struct KnownNodes {
     map: KeyMap<Known>,
     names: Vec<u32>,
     ghost named: { AreNamed names.items map },
-}
-
-/// The key of a node.
-pub(crate) fn node_key(name: u32) -> Key
-    ensures { result ≡ stored.node_key name }
-{
-    Key {
-        kind: Kind::Node,
-        space: 0,
-        name,
-    }
 }
 
 impl KnownNodes {
@@ -43,24 +32,24 @@ impl KnownNodes {
         }
     }
 
-    /// What is kept of a node; none exactly where it isn't known.
+    /// What is kept of a node; none exactly if it isn't known.
     pub(crate) fn get(&self, node: u32) -> Option<Known>
         ensures { result ≡ known_at self.now node }
     {
-        match self.map.get(&node_key(node)) {
+        match self.map.get(&Key::node(node)) {
             Some(known) => Some(*known),
             None => None,
         }
     }
 
-    /// Keeps this of a node. Where the node is known it takes no memory.
+    /// Keeps this of a node. If the node is known it takes no memory.
     pub(crate) fn keep(&mut self, node: u32, known: Known) -> Result<(), NoMemory>
         ensures kept { OnOk result ((other : ℕ) → known_at self.new other
             ≡ (if node == other then Some known else known_at self.old other)) }
         ensures err { OnErr result ((other : ℕ) → known_at self.new other ≡ known_at self.old other) }
         ensures room { IsSome (known_at self.old node) → IsOk result }
     {
-        let key = node_key(node);
+        let key = Key::node(node);
         if self.map.insert(key, known)?.is_some() {
             return Ok(());
         }

@@ -6,9 +6,9 @@ ghost use Rattle.std.specs.List.Sorted.{IsNonDecreasing};
 ghost use Rattle.node_health.specs.Kept as kept;
 
 use crate::known::Known;
-use crate::known_nodes::node_key;
 use key_map::KeyMap;
 use kube_base::Local;
+use kube_objects::Key;
 
 /// Whether a list has a name. A list that is known to ascend is searched by halves.
 pub(crate) fn is_listed(names: &[u32], ascends: bool, name: u32) -> bool
@@ -42,7 +42,7 @@ fn forget(map: &mut KeyMap<Known>, name: u32, listed: &[u32], ascends: bool)
     if is_listed(listed, ascends, name) {
         return;
     }
-    map.remove(&node_key(name));
+    map.remove(&Key::node(name));
 }
 
 /// Each of these nodes that is known is heard of at this reading.
@@ -64,7 +64,7 @@ fn reset(map: &mut KeyMap<Known>, name: u32, now: Local)
         ≡ (if name == node then option_map (kept.at_reading now.0) (value_at map.old (stored.node_key node))
         else value_at map.old (stored.node_key node)) }
 {
-    let key = node_key(name);
+    let key = Key::node(name);
     let Some(known) = map.get(&key) else {
         return;
     };
@@ -73,7 +73,7 @@ fn reset(map: &mut KeyMap<Known>, name: u32, now: Local)
     let _ = map.insert(key, heard);
 }
 
-/// Each of these names that is listed stays. Takes no memory. Where no more are listed than there are, they are the listed ones, in that order,
+/// Each of these names that is listed stays. Takes no memory. If no more are listed than there are, they are the listed ones, in that order,
 /// afterwards: else each that isn't listed is taken out.
 pub(crate) fn list_anew(names: &mut Vec<u32>, listed: &[u32], ascends: bool)
     requires { ascends ≡ true → IsNonDecreasing listed.now }

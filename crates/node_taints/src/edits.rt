@@ -52,7 +52,7 @@ fn other_taints(node: &Node) -> Result<Taints, NoMemory>
     Ok(taints)
 }
 
-/// The node without the condition taint that isn't the given one. The given one stays as it is where the node has it;
+/// The node without the condition taint that isn't the given one. The given one stays as it is if the node has it;
 /// else it is put at the end.
 pub fn with_swap(node: &Node, taint: Taint) -> Result<Node, NoMemory>
     ensures { IfOk result (λ written. written ≡ tick.swapped taint node.now) }
@@ -64,7 +64,7 @@ pub fn with_swap(node: &Node, taint: Taint) -> Result<Node, NoMemory>
     Ok(with_taints(node, taints))
 }
 
-/// The node without the condition taint that isn't the given one, which it has anew: in its place where the node has it, else at the end.
+/// The node without the condition taint that isn't the given one, which it has anew: in its place if the node has it, else at the end.
 pub fn with_restamp(node: &Node, taint: Taint) -> Result<Node, NoMemory>
     ensures { IfOk result (λ written. written ≡ tick.restamped taint node.now) }
 {

@@ -27,7 +27,7 @@ pub fn want_of(all_full: bool, node: &Node) -> Wants
     ready_wants(node.ready)
 }
 
-/// What a node with this Ready wants, where the mode isn't on in which every zone is Full.
+/// What a node with this Ready wants, if the mode isn't on in which every zone is Full.
 pub fn ready_wants(ready: Option<Ready>) -> Wants
     ensures { wants_of result ≡ wants_ready ready }
 {
@@ -85,7 +85,7 @@ pub fn has_taint(wanted: u32, node: &Node) -> bool
         .any(|taint| is_condition(taint) && taint.key == wanted)
 }
 
-/// The taint that the node wants, where it has no condition taint.
+/// The taint that the node wants, if it has no condition taint.
 pub fn lacks(all_full: bool, node: &Node) -> Option<u32>
     ensures { result ≡ tainting.lacks all_full node.now }
 {

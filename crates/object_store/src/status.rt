@@ -42,7 +42,7 @@ pub(crate) fn as_node(object: &Object) -> Option<&Node>
     }
 }
 
-/// What a status makes of Ready at a whole second. None where it changes nothing.
+/// What a status makes of Ready at a whole second. None if it changes nothing.
 pub(crate) fn ready_after(status: ReadyStatus, at: Wall, ready: Option<Ready>) -> Option<Ready>
     ensures { result ≡ answers.posted_ready status at.0 ready }
 {

@@ -24,7 +24,7 @@ use crate::replies::{get_reply, post_reply, write_reply};
 use crate::{Posted, Since, StoreFault, stamp, status};
 use key_map::KeyMap;
 use kube_base::{NoMemory, Version, Wall, whole_second};
-use kube_objects::{Feed, Items, Key, Kind, Node, Object, ReadyStatus, Reply, Request};
+use kube_objects::{Feed, Items, Key, Node, Object, ReadyStatus, Reply, Request};
 use std::alloc::Global;
 use std::collections::BTreeSet;
 
@@ -52,7 +52,7 @@ impl Store {
         }
     }
 
-    /// The object under a key, with its version. None exactly where the key isn't stored.
+    /// The object under a key, with its version. None exactly if the key isn't stored.
     pub fn get(&self, key: &Key) -> Option<(Version, &Object)>
         ensures { (h : List Entry) → StoreStands h self.now → shown_pair result ≡ kept_of (stored key.now h) }
     {
@@ -62,7 +62,7 @@ impl Store {
         }
     }
 
-    /// Writes an object under a key that isn't stored. Exists exactly where it is stored.
+    /// Writes an object under a key that isn't stored. Exists exactly if it is stored.
     #[inline(never)]
     pub fn create(&mut self, key: Key, object: Object) -> Result<Version, StoreFault>
         requires kind { IsOfKind key object }
@@ -77,8 +77,8 @@ impl Store {
         }
     }
 
-    /// Writes an object in the place of the one with that version. Absent exactly where the key isn't stored,
-    /// Conflict exactly where the stored version differs.
+    /// Writes an object in the place of the one with that version. Absent exactly if the key isn't stored,
+    /// Conflict exactly if the stored version differs.
     #[inline(never)]
     pub fn update(
         &mut self,
@@ -104,7 +104,7 @@ impl Store {
         }
     }
 
-    /// Writes a node's Ready at a time of day. Absent exactly where the node isn't stored; Unchanged where the same
+    /// Writes a node's Ready at a time of day. Absent exactly if the node isn't stored; Unchanged if the same
     /// status was written less than 300 s before.
     #[inline(never)]
     pub fn post_status(
@@ -119,7 +119,7 @@ impl Store {
             → OnOk result (StoreStands (e ∷ h) self.new) }
         ensures same { (h : List Entry) → StoreStands h self.old → UnlessPosted result (StoreStands h self.new) }
     {
-        let key = node_key(node);
+        let key = Key::node(node);
         let Some(stored) = self.node_at(&key) else {
             return Err(StoreFault::Absent);
         };
@@ -135,7 +135,7 @@ impl Store {
         }
     }
 
-    /// Removes a pod. Absent exactly where the pod or the node isn't stored. Otherwise Conflict exactly where the pod's
+    /// Removes a pod. Absent exactly if the pod or the node isn't stored. Otherwise Conflict exactly if the pod's
     /// version differs from the given one, or, that agreeing, the node's.
     pub fn delete_pod(
         &mut self,
@@ -167,7 +167,7 @@ impl Store {
         }
     }
 
-    /// Removes a pod by its own version alone. Absent exactly where it isn't stored, otherwise Conflict exactly where its version differs from
+    /// Removes a pod by its own version alone. Absent exactly if it isn't stored, otherwise Conflict exactly if its version differs from
     /// the given one.
     pub fn delete_pod_alone(&mut self, pod: Key, given: Version) -> Result<Version, StoreFault>
         ensures answer { (h : List Entry) → StoreStands h self.old → IsReply result (answer_delete_alone pod given h) }
@@ -199,7 +199,7 @@ impl Store {
         self.write(key, stamped)
     }
 
-    /// Removes what is under a key. None exactly where the key isn't stored, and nothing changes then.
+    /// Removes what is under a key. None exactly if the key isn't stored, and nothing changes then.
     pub fn remove(&mut self, key: Key) -> Result<Option<Version>, NoMemory>
         ensures answer { (h : List Entry) → StoreStands h self.old → IfOk result (λ version. version ≡ answer_remove key h) }
         ensures ok { (h : List Entry) (e : Entry) → StoreStands h self.old
@@ -232,7 +232,7 @@ impl Store {
     }
 
     /// All objects with their keys, in the order of keys. Each is a copy. It looks at each change once and orders the keys
-    /// of all changes, and so costs more than there are objects where keys were removed or written often.
+    /// of all changes, and so costs more than there are objects if keys were removed or written often.
     pub fn objects(&self) -> Result<Items, NoMemory>
         ensures ascend { IfOk result (λ items. IsStrictlySortedBy key_cmp (keys_of items)) }
         ensures stored { (h : List Entry) (key : Key) → StoreStands h self.now
@@ -332,16 +332,6 @@ impl Store {
             Some(kept) => status::as_node(&kept.1),
             None => None,
         }
-    }
-}
-
-fn node_key(name: u32) -> Key
-    ensures { result ≡ stored_words.node_key name }
-{
-    Key {
-        kind: Kind::Node,
-        space: 0,
-        name,
     }
 }
 

@@ -5,6 +5,7 @@ use crate::{Posted, Store, StoreFault};
 use kube_base::{ListOf, Version, Wall};
 use kube_objects::{
     Changed, Feed, Holder, Key, Kind, Lease, Node, Object, Pod, ReadyStatus, Reply, Request,
+    Tolerations,
 };
 use std::test::Fail;
 
@@ -77,7 +78,7 @@ fn a_node_is_put_and_posted_and_goes_after_its_pod(rt: HostRuntime) {
     assert_eq!(rt; posted, Ok(Posted::Done(Version(2))));
     let pod = Pod {
         node: 10,
-        tolerations: ListOf::new(alloc),
+        tolerations: Tolerations::new(alloc),
     };
     let pod_put = store.put(p, Object::Pod(pod), Wall(0));
     assert_eq!(rt; pod_put, Ok(Version(3)));
@@ -95,7 +96,7 @@ fn a_pod_goes_by_its_own_version_also_without_its_node(rt: HostRuntime) {
     assert_eq!(rt; no_pod, Err(StoreFault::Absent));
     let pod = Pod {
         node: 10,
-        tolerations: ListOf::new(alloc),
+        tolerations: Tolerations::new(alloc),
     };
     let pod_put = store.put(p, Object::Pod(pod), Wall(0));
     assert_eq!(rt; pod_put, Ok(Version(1)));

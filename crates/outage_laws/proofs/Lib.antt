@@ -3,7 +3,6 @@ pub mod Ready
 pub mod Turns
 pub mod Rest
 pub mod Passes
-pub mod Names
 pub mod Marked
 pub mod Silent
 pub mod Gone

@@ -27,11 +27,11 @@ use Rattle.kube_objects.proofs.Own.{heard-own}
 use Rattle.history_laws.specs.Tails.{IsTail}
 use Rattle.history_laws.proofs.Plainly.{upper, same_self, true_is}
 use Rattle.eviction_laws.proofs.Cache.{Mirrors, mirrors_more}
-use Rattle.eviction_laws.proofs.KeyNames.{key_is}
+use Rattle.kube_objects.proofs.KeyOrder.{same_key}
+use Rattle.history_laws.specs.Tails.{Among}
 use Rattle.row_laws.specs.Keys.{is_ticking}
 use Rattle.outage_laws.specs.Marked.{grace_period, IsReadyKnown}
 use Rattle.outage_laws.proofs.Rest.{is_pass}
-use Rattle.outage_laws.proofs.Names.{InNames}
 
 -- ---- when a node was last heard of
 
@@ -118,7 +118,7 @@ pub other_node : (x name : ℕ) → (x ≡ name → ⊥) → key_eq (node_key x)
 other_node x name differs = by_test (key_eq (node_key x) (node_key name)) refl
   where
     by_test : (b : Bool) → key_eq (node_key x) (node_key name) ≡ b → b ≡ false
-    by_test true is = absurd (differs (ap (λ (key : Key). key.name) (key_is (node_key x) (node_key name) is)))
+    by_test true is = absurd (differs (ap (λ (key : Key). key.name) (same_key (node_key x) (node_key name) is)))
     by_test false is = refl
 
 mark_elsewhere : (x name k : ℕ) (q : Identity) (given : Version) (written : Node) (tried : Option Answer) (h : List Entry) → (x ≡ name → ⊥) → stored (node_key name) (add k q (Mark x given written tried) h) ≡ stored (node_key name) h
@@ -203,10 +203,10 @@ module _ (doc : Doc) (by_run : ProbesByRun doc) (q : Identity) (name a m : ℕ) 
   rest [] h s = s
   rest (x ∷ xs) h s = rest xs (mark doc m q x h) (stay_marked x h s)
 
-  pub reach : (xs : List ℕ) (h : List Entry) → InNames name xs → Markable q name a held node h → Stands q name m (for_each (mark doc m q) xs h)
+  pub reach : (xs : List ℕ) (h : List Entry) → Among name xs → Markable q name a held node h → Stands q name m (for_each (mark doc m q) xs h)
   reach [] h at s = absurd at
   reach (x ∷ xs) h at s = ⊎_elim (λ same. rest xs (mark doc m q x h) (subst (λ x. Stands q name m (mark doc m q x h)) (sym same) (marked h s))) (λ differs. reach xs (mark doc m q x h) (later differs at) (others x h differs s)) (cases_eq x name)
     where
-      later : (x ≡ name → ⊥) → (name ≡ x) ⊎ InNames name xs → InNames name xs
+      later : (x ≡ name → ⊥) → (name ≡ x) ⊎ Among name xs → Among name xs
       later differs (inl same) = absurd (differs (sym same))
       later differs (inr at) = at

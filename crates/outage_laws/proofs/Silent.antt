@@ -30,7 +30,7 @@ use Rattle.outage_laws.specs.Marked.{grace_period, IsPosted, StaysPosted, IsMark
 use Rattle.outage_laws.proofs.Turns.{ready, to_tick, next_turn, below_processes}
 use Rattle.outage_laws.proofs.Rest.{is_pass, keep_later, keep_passed, keep_mode, keep_zones}
 use Rattle.outage_laws.proofs.Passes.{turn_phases, passes_find}
-use Rattle.outage_laws.proofs.Names.{named_node}
+use Rattle.history_laws.proofs.Named.{named_node}
 use Rattle.outage_laws.proofs.Marked.{Heard, foreign_heard, own_heard, passed, Stands, stands_more, reach}
 
 -- ---- a tick's sync

@@ -6,7 +6,7 @@ ghost use Rattle.outage_laws.specs.Marked.{NodesAreMarked};
 ghost use Rattle.outage_laws.specs.Passes.{PassesFind};
 
 /// A pod that tolerates a leader's taint of its node for some seconds is gone by the first attended beat at which they are over on the leader's
-/// clock since the taint, whatever other taints the node has; and where no other one counts, the leader deletes it no sooner than in more than
+/// clock since the taint, whatever other taints the node has; and if no other one counts, the leader deletes it no sooner than in more than
 /// a second less: for every document with the project's own rules, those of evictions too, whose times of day don't begin before zero.
 pub fn pods_go_in_time()
     ensures go { PodsGo }

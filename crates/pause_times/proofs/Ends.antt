@@ -1,6 +1,10 @@
 -- The end of the pause, or stall, that a beat lies in is that of the last one that has begun.
 use Rattle.std.proofs.Common.{◌≡◌, ◌<◌, ◌≤◌, ℕ, zero, suc, ◌+◌, ◌-◌, ◌++◌, ◌&&◌, nat_le, nat_lt, leb, Bool, true, false, List, [], ◌∷◌, Option, Some, None, length, get_or, take, append_assoc, refl, is_some, sym, ap, ◌∙◌, subst, leb-true, leb-false, arith}
-use Rattle.std.specs.List.Sorted.{IsPartitionPoint, IsNonDecreasingBy}
+use denote.Param.Members.{Mut}
+use denote.Ref.{Bor}
+use Rattle.std.specs.Fn.{Called, ComputesKey}
+use Rattle.std.specs.List.Sorted.{IsPartitionedBy, IsPartitionPoint, IsNonDecreasingBy}
+use Rattle.std.proofs.lemmas.List.Sorted.{IsPartitionPoint-from_clause, IsPartitionedBy-leb}
 use Rattle.std.proofs.lemmas.Bool.{ltb-true, ltb-false}
 use Rattle.std.proofs.lemmas.List.{append-nil, take_more}
 use Rattle.kube_base.specs.declared.numbers.Beat.{Beat}
@@ -88,6 +92,13 @@ rising (x ∷ xs) o (suc i) (suc j) d below inside = rising xs o.2 i j d (omega 
 -- the pauses from n on are those that haven't begun
 abbrev pub AreBegun : List Pause → ℕ → ℕ → Type 0
 AreBegun xs k n = IsPartitionPoint (λ x. leb x.begins.0 k ≡ true) (λ x. leb x.begins.0 k ≡ false) xs n
+
+-- what the search found of pauses in order
+pub begun-found : {F : Type 0} {g : Mut F (Bor Pause × Unit {0}) Bool} {f : F} (xs : List Pause) (k n : ℕ) → AreInOrder xs
+    → ((q : Pause → Bool) → ComputesKey g q f → IsPartitionedBy q xs → IsPartitionPoint (λ y. q y ≡ true) (λ y. q y ≡ false) xs n)
+    → ((a : Bor Pause × Unit {0}) (r : Bool) (f' : F) → Called g f a r f' → (r ≡ leb a.0.now.begins.0 k) × (f' ≡ f)) → AreBegun xs k n
+begun-found xs k n order point calls =
+    IsPartitionPoint-from_clause (λ (x : Pause). leb x.begins.0 k) xs n point (IsPartitionedBy-leb (λ (x : Pause). x.begins.0) xs k (rising xs order)) calls
 
 end-early : (k : ℕ) (x : Pause) → k < x.begins.0 → end_in k x ≡ None
 end-early k x lt = by_test (nat_le x.begins.0 k) refl

@@ -27,7 +27,7 @@ impl Pauses {
         }
     }
 
-    /// Adds the pause of a process that an event begins, where it begins one.
+    /// Adds the pause of a process that an event begins, if it begins one.
     pub fn add(&mut self, me: ProcId, event: &Event) -> Result<(), NoMemory>
         requires { IfSome (pause_of me.0 event.now.what) (λ beats. event.now.beat.0 + beats < 2 ^ 32) }
         ensures { OnOk result (self.new.all.items ≡ self.old.all.items ++ pauses_in me.0 event.now) }
@@ -65,7 +65,7 @@ impl Pauses {
         }
     }
 
-    /// The reading at which the process can do what is due at a reading. It looks at no beat where the process is never paused.
+    /// The reading at which the process can do what is due at a reading. It looks at no beat if the process is never paused.
     pub fn can_at(&self, clock: &Clock, at: Local) -> Local
         ensures value { (doc : Doc) (p : ℕ) → PausesStand doc p self.now → IsClockOf doc p clock.now → result.0 ≡ can_of doc p at.0 }
         ensures range { at.0 ≤ 10 ^ 19 → result.0 ≤ 10 ^ 19 }

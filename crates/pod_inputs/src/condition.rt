@@ -90,7 +90,7 @@ fn pressure_marks(
     )
 }
 
-/// Adds a taint with this key, where its cause holds.
+/// Adds a taint with this key, if its cause holds.
 #[tactic(auto, unfolding(crate::specs::Rows::mark_at))]
 fn mark(names: &mut Names, taints: &mut Taints, holds: bool, key: &str) -> Result<(), ReadFault>
     ensures { Gives (λ _. (taints.new, names.new)) result

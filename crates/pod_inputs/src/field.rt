@@ -30,7 +30,7 @@ fn instant_in(path: &Path, key: &str, found: &Value) -> Result<Wall, ReadFault>
     or_refuse(read_time(text.as_bytes()), OUT_OF_RANGE, path, key)
 }
 
-/// A truth value, which is false where it is missing.
+/// A truth value, which is false if it is missing.
 pub(crate) fn flag(path: &Path, key: &str, value: Option<&Value>) -> Result<bool, ReadFault>
     ensures { Gives (λ flag. flag) result
         (spec.flag_at (path.now ++ key.now) (option_map (λ v. view v.now) value.entry)) }

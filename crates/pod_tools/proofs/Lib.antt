@@ -1,5 +1,4 @@
 pub mod Ages
 pub mod Loops
 pub mod Pieces
-pub mod Same
 pub mod Slots

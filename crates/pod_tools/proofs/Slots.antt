@@ -4,19 +4,11 @@ use Rattle.std.proofs.lemmas.Bool.{eqb-true}
 use Rattle.std.proofs.lemmas.Bool.Decides.{nat_tests}
 use Rattle.std.proofs.lemmas.List.Folds.{list_any-append}
 use Rattle.std.specs.List.{list_any}
+use Rattle.kube_base.proofs.Lists.{get-set}
 use Rattle.kube_objects.specs.declared.node.Taint.{Taint}
 use Rattle.kube_objects.specs.declared.pod.Toleration.{Toleration}
 use Rattle.kube_objects.specs.Tolerations.{effect_fits, value_fits, tolerates}
 use Rattle.pod_tools.specs.ByKey.{in_slot, or_empty, slot}
-
-slice_get-set : {X : Type 0} (xs : List X) (i p : ℕ) (x : X) → i < length xs → slice_get (slice_set xs i x) p ≡ cond (i == p) (Some x) (slice_get xs p)
-slice_get-set [] i p x below = absurd (omega (arith, below))
-slice_get-set (y ∷ xs) zero zero x below = refl
-slice_get-set (y ∷ xs) zero (suc p) x below = ap (λ b. cond b (Some x) (slice_get xs p)) (let apart : false ≡ (zero == suc p) = grind (arith, nat_tests) in apart)
-slice_get-set (y ∷ xs) (suc i) zero x below = ap (λ b. cond b (Some x) (Some y)) (let apart : false ≡ (suc i == zero) = grind (arith, nat_tests) in apart)
-slice_get-set (y ∷ xs) (suc i) (suc p) x below =
-    slice_get-set xs i p x (omega (arith, below))
-    ∙ ap (λ b. cond b (Some x) (slice_get xs p)) (let same : (i == p) ≡ (suc i == suc p) = grind (arith, nat_tests) in same)
 
 in_slot-get_or : (slots : List (List Toleration)) (i : ℕ) (d : List Toleration) → i < length slots → get_or slots i d ≡ in_slot slots i
 in_slot-get_or [] i d below = absurd (omega (arith, below))
@@ -89,7 +81,7 @@ module _ (taint : Taint) where
       → (told keyless || told (in_slot (slice_set slots (slot mix t.key) (was ++ t ∷ [])) (slot mix taint.key)))
       ≡ ((told keyless || told (in_slot slots (slot mix taint.key))) || tolerates t taint)
   put_slot mix keyless slots t was none below is =
-      ap (λ o. told keyless || told (or_empty o)) (slice_get-set slots (slot mix t.key) (slot mix taint.key) (was ++ t ∷ []) below)
+      ap (λ o. told keyless || told (or_empty o)) (get-set slots (slot mix t.key) (slot mix taint.key) (was ++ t ∷ []) below)
       ∙ by_test (slot mix t.key == slot mix taint.key) refl
     where
       by_test : (b : Bool) → (slot mix t.key == slot mix taint.key) ≡ b

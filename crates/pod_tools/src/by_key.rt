@@ -6,7 +6,7 @@ ghost use Rattle.kube_objects.specs.declared.node.Taint.{Taint};
 ghost use Rattle.pod_tools.specs.ByKey as spec;
 
 use kube_base::NoMemory;
-use kube_objects::{Taint, Toleration, Tolerations};
+use kube_objects::{Taint, Toleration, TolerationList};
 use std::alloc::Global;
 use taint_match::tolerates;
 
@@ -17,8 +17,8 @@ const SLOTS: usize = 256;
 #[derive(Drop)]
 pub(crate) struct Slots {
     mix: u64,
-    keyless: Tolerations,
-    slots: Vec<Tolerations>,
+    keyless: TolerationList,
+    slots: Vec<TolerationList>,
 }
 
 impl Slots {
@@ -28,11 +28,11 @@ impl Slots {
     {
         let mut slots = Vec::with_capacity(alloc, SLOTS)?;
         for _ in 0..SLOTS {
-            slots.push(Tolerations::new(alloc))?;
+            slots.push(TolerationList::new(alloc))?;
         }
         Ok(Slots {
             mix,
-            keyless: Tolerations::new(alloc),
+            keyless: TolerationList::new(alloc),
             slots,
         })
     }
@@ -84,14 +84,14 @@ fn slot_of(mix: u64, key: u32) -> usize
 /// All tolerations of a pod, and the same by their keys.
 #[derive(Drop)]
 pub(crate) struct ByKey {
-    pub(crate) all: Tolerations,
+    pub(crate) all: TolerationList,
     slots: Slots,
     ghost right: { spec.IsRight all slots },
 }
 
 impl ByKey {
     /// These tolerations.
-    pub(crate) fn new(alloc: Global, mix: u64, all: Tolerations) -> Result<ByKey, NoMemory>
+    pub(crate) fn new(alloc: Global, mix: u64, all: TolerationList) -> Result<ByKey, NoMemory>
         ensures { IfOk result (λ by_key. by_key.all ≡ all) }
     {
         let slots = in_slots(alloc, mix, all.as_slice())?;

@@ -4,20 +4,20 @@ ghost use Rattle.std.specs.List.{list_any};
 ghost use Rattle.pod_tools.specs.Feasible as spec;
 
 use kube_base::{NOT_READY, NoMemory, UNREACHABLE};
-use kube_objects::{Effect, Operator, Toleration, Tolerations};
+use kube_objects::{Effect, Operator, Toleration, TolerationList, Tolerations};
 
 /// The tolerations with the defaults at their end: five minutes for NoExecute taints with the key `node.kubernetes.io/not-ready`,
 /// then `node.kubernetes.io/unreachable`, each unless a given toleration for that effect has that key or an empty one.
-pub fn defaulted(tolerations: &Tolerations) -> Result<Tolerations, NoMemory>
+pub fn defaulted(tolerations: &Tolerations) -> Result<TolerationList, NoMemory>
     ensures { IfOk result (λ all. all ≡ spec.defaulted tolerations.now) }
 {
-    let mut all = tolerations.copy()?;
+    let mut all = tolerations.to_list()?;
     add_default(&mut all, NOT_READY, tolerations.as_slice())?;
     add_default(&mut all, UNREACHABLE, tolerations.as_slice())?;
     Ok(all)
 }
 
-fn add_default(all: &mut Tolerations, key: u32, given: &[Toleration]) -> Result<(), NoMemory>
+fn add_default(all: &mut TolerationList, key: u32, given: &[Toleration]) -> Result<(), NoMemory>
     ensures { OnOk result (all.new ≡ all.old ++ spec.default_for key given.now) }
 {
     if is_spoken_of(key, given) {

@@ -39,7 +39,7 @@ impl Judgements {
         Ok(Judgements { slots })
     }
 
-    /// The answer for the pod at a place, where one for equal tolerations is remembered.
+    /// The answer for the pod at a place, if one for equal tolerations is remembered.
     pub(crate) fn recall(
         &self,
         pod: u32,
@@ -75,7 +75,7 @@ impl Judgements {
     }
 }
 
-/// What was found, for another pod, where that has the same tolerations.
+/// What was found, for another pod, if that has the same tolerations.
 fn again(judged: &Judged, pod: u32, given: &[Toleration]) -> Result<Option<Placement>, NoMemory>
     ensures { (nodes : List NodeRow) → IsRight nodes judged.now
         → IfOk result (λ found. IfSome found (λ p. p ≡ spec.placement nodes pod given.now)) }

@@ -9,7 +9,7 @@ use std::alloc::Global;
 /// When a terminated pod was created, in microseconds since 1970, and its place.
 pub(crate) type Age = (u64, u32);
 
-/// The first of the terminated pods that is kept, in their order by age, or none where none is kept: those before it are
+/// The first of the terminated pods that is kept, in their order by age, or none if none is kept: those before it are
 /// collected.
 pub(crate) fn first_to_keep(
     alloc: Global,

@@ -56,7 +56,7 @@ fn mix_of(pods: &[PodRow]) -> u64 {
     hasher.finish() | 1
 }
 
-/// Adds the answer for a pod, where it names no node.
+/// Adds the answer for a pod, if it names no node.
 fn add_placement(
     alloc: Global,
     placements: &mut Placements,
@@ -79,7 +79,7 @@ fn add_placement(
     placements.push(placement)
 }
 
-/// The answer for the pod at a place: that for a pod with equal tolerations, where it is remembered.
+/// The answer for the pod at a place: that for a pod with equal tolerations, if it is remembered.
 fn placement_by(
     alloc: Global,
     judgements: &mut Judgements,
@@ -97,32 +97,16 @@ fn placement_by(
     if let Some(placement) = judgements.recall(pod, given)? {
         return Ok(placement);
     }
-    let placement = placement_of(alloc, mix, nodes, pod, given)?;
-    judgements.remember(given, &placement)?;
-    Ok(placement)
-}
-
-/// The answer for the pod at a place.
-fn placement_of(
-    alloc: Global,
-    mix: u64,
-    nodes: &[NodeRow],
-    pod: u32,
-    given: &Tolerations,
-) -> Result<Placement, NoMemory>
-    requires nodes { length nodes.now ≤ 1000 }
-    requires tolerations { length given.now ≤ 100 }
-    ensures { IfOk result (λ p. p ≡ spec.placement nodes.now pod given.now) }
-{
     let all = defaulted(given)?;
     let count = all.as_slice().len() as u32;
     let tolerations = ByKey::new(alloc, mix, all)?;
-    let nodes = feasible(alloc, &tolerations, nodes)?;
-    Ok(Placement {
+    let placement = Placement {
         pod,
         tolerations: count,
-        nodes,
-    })
+        nodes: feasible(alloc, &tolerations, nodes)?,
+    };
+    judgements.remember(given, &placement)?;
+    Ok(placement)
 }
 
 /// The places of the nodes whose taints these tolerations pass.

@@ -3,7 +3,7 @@ use kube_base::{ListOf, Names, Wall};
 use kube_objects::{Key, Node, Pod, Taints};
 
 /// A Pod with the fields that decide whether it is collected. It is terminated in the phases Succeeded and Failed, was created in a
-/// whole second, and is terminating where it has a deletion time.
+/// whole second, and is terminating if it has a deletion time.
 #[derive(Debug, Drop)]
 pub struct PodRow {
     pub key: Key,

@@ -30,7 +30,7 @@ pub(crate) fn add_small(text: &mut Vec<u8>, number: u32) -> Result<(), NoMemory>
     add_number(text, u64::from(number))
 }
 
-/// The text of a number, or the empty text where none is held.
+/// The text of a number, or the empty text if none is held.
 fn name_of(names: &Names, number: u32) -> &[u8]
     ensures { result.now ≡ spec.text_of names.now number }
 {

@@ -73,7 +73,7 @@ impl Allowance {
         }
     }
 
-    /// The least reading from which on a token is there, if none is taken before; none where there never is one.
+    /// The least reading from which on a token is there, if none is taken before; none if there never is one.
     pub fn ready_at(&self) -> Option<Local>
         ensures there { IfSome result (λ at. (now : ℕ) → at.0 ≤ now → has_room self.now now ≡ true) }
         ensures least { IfSome result (λ at. (now : ℕ) → has_room self.now now ≡ true → at.0 ≤ now) }

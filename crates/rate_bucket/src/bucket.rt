@@ -10,7 +10,7 @@ use std::marker::Model;
 const TOKEN: u128 = 1_000_000_000_000_000;
 
 /// A bucket of at most one token. It takes no memory. One that starts empty is empty at each change of its rate too; one that starts full is full
-/// at a change of its rate where its token is there by then.
+/// at a change of its rate if its token is there by then.
 ///
 /// Rates are whole numbers of tokens in 1,000 s. Readings are those of the controller's own clock, at most `most_local`.
 #[derive(Debug, Drop)]
@@ -57,7 +57,7 @@ impl Bucket {
         }
     }
 
-    /// Empties the bucket where the rate differs, and does nothing where it is equal.
+    /// Empties the bucket if the rate differs, and does nothing if it is equal.
     pub fn swap(&mut self, rate: u32, now: Local)
         requires { now.0 ≤ most_local }
         ensures { self.new ≡ swapped self.old rate now.0 }
@@ -67,7 +67,7 @@ impl Bucket {
         }
     }
 
-    /// Where the rate differs the bucket is full, if its token is there, and else empty. Does nothing where the rate is equal.
+    /// If the rate differs the bucket is full, if its token is there, and else empty. Does nothing if the rate is equal.
     pub fn carry(&mut self, rate: u32, now: Local)
         requires { now.0 ≤ most_local }
         ensures { self.new ≡ carried self.old rate now.0 }
@@ -93,7 +93,7 @@ impl Bucket {
         self.rate != 0 && (self.full || grown)
     }
 
-    /// Takes the token, where it is there. With rate 0 it never is.
+    /// Takes the token, if it is there. With rate 0 it never is.
     pub fn try_take(&mut self, now: Local) -> bool
         requires { now.0 ≤ most_local }
         ensures taken { result ≡ has_token self.old now.0 }

@@ -1,5 +1,5 @@
 -- A leader in a calm was stopped and its release was accepted: below it stands the leader's own record, and above it the released one.
-use Rattle.std.proofs.Common.{◌≡◌, ◌<◌, ◌≤◌, ℕ, suc, ◌+◌, ◌*◌, true, List, [], ◌∷◌, length, Option, Some, None, IfSome, refl, sym, ap, ◌∙◌, subst, inl, inr, ⊎_elim, arith}
+use Rattle.std.proofs.Common.{◌≡◌, ◌<◌, ◌≤◌, ℕ, suc, ◌+◌, ◌*◌, true, List, [], ◌∷◌, Option, Some, None, refl, sym, ap, ◌∙◌, subst, inl, inr, ⊎_elim, arith}
 use Rattle.std.proofs.lemmas.Bool.{cases_eq}
 use Rattle.kube_objects.specs.declared.call.Reply.{Reply}
 use Rattle.kube_objects.specs.declared.call.Reply.TheVariants.{Done, Found, Absent, Exists, Conflict, Unchanged}
@@ -10,23 +10,17 @@ use Rattle.kube_objects.specs.declared.lease.Lease.{Lease}
 use Rattle.kube_objects.specs.declared.object.Object.{Object}
 use Rattle.kube_objects.specs.declared.object.Object.TheVariants as object
 use Rattle.kube_objects.specs.Answers.{answer, written, if_done}
-use Rattle.kube_objects.specs.Document.{Doc, end_beat, is_controller}
-use Rattle.kube_objects.specs.Elector.{succeeds}
+use Rattle.kube_objects.specs.Document.{Doc, is_controller}
 use Rattle.kube_objects.specs.Entry.{Entry, Identity, Call, Fact, Sends, Answers, actor_of, entry}
 use Rattle.kube_objects.specs.Keys.{key_eq}
 use Rattle.kube_objects.specs.Newest.{when, has, join}
 use Rattle.kube_objects.specs.Stored.{Held, election, request_write, at_key, write_of, stored, holds, last_write, next_version}
-use Rattle.kube_objects.specs.Wire.{Back, back_of}
-use Rattle.history.specs.History.{history, whole_history}
-use Rattle.history.specs.Premise.{greatest_below}
+use Rattle.history.specs.History.{history}
 use Rattle.history.specs.Safe.{Acts}
 use Rattle.history_laws.specs.Tails.{IsTail}
 use Rattle.history_laws.proofs.Plainly.{upper, some_is, none_is}
 use Rattle.history_laws.proofs.Tailed.{tail_all, tail_trans, later_tail, same_head}
 use Rattle.lease_laws.proofs.EachKind.{top_stays}
-use Rattle.lease_laws.proofs.Premises.{rates_at_most}
-use Rattle.gap_laws.proofs.Waits.{WaitedFor, Took, Topped, Waits}
-use Rattle.gap_laws.proofs.Histories.{whole_known}
 use Rattle.call_laws.proofs.Above.{Place, place_of, in_head}
 use Rattle.call_laws.proofs.Making.{MadeAnswer, are_made}
 use Rattle.call_laws.proofs.Placing.{in_own_beat}
@@ -34,7 +28,7 @@ use Rattle.takeover_laws.specs.Calm.{IsQuiet, WritesElection}
 use Rattle.takeover_laws.proofs.Writers.{writer_acts}
 use Rattle.calm_laws.specs.Bounds.{LastsFor}
 use Rattle.calm_laws.proofs.Looks.{object_of}
-use Rattle.stay_laws.proofs.Rivals.{plainly}
+use Rattle.stay_laws.proofs.Rivals.{won_waited}
 use Rattle.stay_laws.proofs.Won.{Won, is_won}
 use Rattle.silence_laws.specs.Silence.{LeadsUntil, Bears, IsStopped, IsReleased}
 use Rattle.silence_laws.proofs.Kept.{not_below}
@@ -162,15 +156,7 @@ module _ (doc : Doc) (near far b e : ℕ) (q : Identity) (l : LeadsUntil doc nea
 
   -- the leader's first write stands below what comes three ways before b, or later
   pub first_low : (x : Entry) (T : List Entry) → IsTail (x ∷ T) (history doc (suc e)) → b ≤ x.beat + 3 * far → IsTail (first doc near far b e q l s R low_e quiet) T
-  first_low x T at late =
-      tail_trans (first doc near far b e q l s R low_e quiet) (history doc (suc z.beat)) T (in_own_beat doc (suc e) z (taken.o doc near far b e q l s R low_e quiet).low (first_e doc near far b e q l s R low_e quiet))
-      (history_below doc z.beat e x T at sooner (omega (arith, sooner, beat_before doc e x T at)))
-    where
-      z : Entry
-      z = (taken.o doc near far b e q l s R low_e quiet).e
-
-      sooner : (taken.o doc near far b e q l s R low_e quiet).e.beat < x.beat
-      sooner = let ways = ways doc near far b e q l s R low_e quiet in omega (arith, ways.comes_least, taken.j_early doc near far b e q l s R low_e quiet, late, s.one, s.ways, l.long)
+  first_low = taken.first_low doc near far b e q l s R low_e quiet
 
   first_r : IsTail (first doc near far b e q l s R low_e quiet) R
   first_r = first_low (entry rel.at 2 q (Answers rel.call (Done rel.version) rel.comes (Some rel.object))) R R_e (omega (arith, rel.least))
@@ -195,9 +181,6 @@ module _ (doc : Doc) (near far b e : ℕ) (q : Identity) (l : LeadsUntil doc nea
 
   -- ---- what is stored above it, while no other controller acts
 
-  known : Waits doc plainly (end_beat doc) (whole_history doc)
-  known = whole_known doc s.sound s.rules (greatest_below doc (length doc.controllers)) (rates_at_most doc) plainly (λ x h at from late. (omega arith, omega arith))
-
   module _ (n : ℕ) (within : n ≤ e) (idle : (r : Identity) → is_controller doc r.process ≡ true → (r.process ≡ q.process → ⊥) → (k : ℕ) → k ≤ n → Acts doc r k → ⊥) where
     -- nobody writes it
     pub none_writes : (x : Entry) (T : List Entry) → IsTail (x ∷ T) (history doc (suc n)) → IsTail released T → has (at_key election (write_of x.fact)) ≡ true → x.beat + far ≤ n → stored election T ≡ stored election released → ⊥
@@ -220,19 +203,8 @@ module _ (doc : Doc) (near far b e : ℕ) (q : Identity) (l : LeadsUntil doc nea
             writer_acts doc s.rules near far 0 e n w.who w.role (l.others w.who.process w.role other) (s.calls w.who.process w.role) within s.one (λ k from to. idle w.who w.role other k to) x T at w.actor
             (subst (WritesElection 0) (sym w.fact) (omega arith, wrote)) late
 
-        back : Back
-        back = record { who = w.who; call = w.call; reply = w.reply; comes = w.comes }
-
-        back_is : back_of x.actor x.fact ≡ Some back
-        back_is = ap (λ d. back_of x.actor d) w.fact ∙ ap (λ who. back_of who (Answers w.call w.reply w.comes w.wrote)) w.actor
-
-        took : Took doc plainly back x.beat T
-        took =
-            (subst (λ o. IfSome o (λ b. is_controller doc b.who.process ≡ true → succeeds b.call.request b.reply ≡ true → Topped doc x T × Took doc plainly b x.beat T)) back_is
-            (known.answers x T (tail_trans (x ∷ T) (history doc (suc e)) (whole_history doc) at_e (later_tail doc (suc e) (suc (end_beat doc)) (omega (arith, s.end))))) w.role w.so).1
-
         base : is_free.y.beat ≤ w.call.sent
-        base = (subst (λ t. IfSome t (λ y. (y.beat ≤ w.call.sent) × WaitedFor doc plainly w.who w.call.sent y)) (same_as ∙ is_free.top) took.base).0
+        base = (won_waited doc s.sound s.rules e s.end x T at_e w is_free.y (same_as ∙ is_free.top)).0
 
         its_own : w.who.process ≡ q.process → ⊥
         its_own mine_is =

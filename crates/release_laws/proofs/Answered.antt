@@ -1,15 +1,12 @@
 -- Another's call is answered after the release, or sooner than one way after the stop; a Get of it that is answered sooner fails.
-use Rattle.std.proofs.Common.{◌≡◌, ◌⊎◌, ◌<◌, ◌≤◌, ℕ, suc, ◌+◌, ◌*◌, true, false, List, ◌∷◌, Option, Some, refl, sym, ap, ◌∙◌, subst, inl, inr, ⊎_elim, arith}
+use Rattle.std.proofs.Common.{◌≡◌, ◌⊎◌, ◌<◌, ◌≤◌, ℕ, suc, ◌+◌, ◌*◌, true, List, ◌∷◌, Some, refl, sym, ap, ◌∙◌, subst, inl, inr, ⊎_elim, arith}
 use Rattle.std.proofs.lemmas.Bool.{cases_lt}
 use Rattle.kube_objects.specs.declared.call.Reply.{Reply}
 use Rattle.kube_objects.specs.declared.call.Reply.TheVariants.{Done}
 use Rattle.kube_objects.specs.declared.call.Request.{Request}
-use Rattle.kube_objects.specs.declared.call.Request.TheVariants.{Get}
 use Rattle.kube_objects.specs.Answers.{answer, written}
 use Rattle.kube_objects.specs.Document.{Doc, is_controller}
-use Rattle.kube_objects.specs.Elector.{Fails, Asks, moment, observed_at, leads, follow_on}
-use Rattle.kube_objects.specs.Entry.{Entry, Identity, Call, Sends, Answers, Delivers, actor_of, entry}
-use Rattle.kube_objects.specs.Stored.{election, key_of}
+use Rattle.kube_objects.specs.Entry.{Entry, Identity, Call, Sends, Answers, entry}
 use Rattle.kube_objects.specs.Wire.{Sent, back_of, reply_arrival}
 use Rattle.history.specs.History.{history}
 use Rattle.history.specs.Steps.{answered}
@@ -25,22 +22,15 @@ use Rattle.call_laws.proofs.Starting.{actor_is}
 use Rattle.takeover_laws.specs.Calm.{IsSteady, IsInTime}
 use Rattle.takeover_laws.proofs.Rounds.{sent_is}
 use Rattle.takeover_laws.proofs.Writers.{Sending, sending_of}
-use Rattle.calm_laws.proofs.Asked.{IsWrite, IsNext, next_is, fails_not, Reason, InTurn, AfterReply, reason_of}
-use Rattle.calm_laws.proofs.Origins.{Origin, origin}
+use Rattle.calm_laws.proofs.Origins.{Origin}
 use Rattle.stay_laws.proofs.Closing.{within_below}
 use Rattle.silence_laws.specs.Silence.{LeadsUntil, Bears, IsStopped, IsReleased}
 use Rattle.silence_laws.proofs.Kept.{not_below}
-use Rattle.silence_laws.proofs.Looking.{asks_election}
 use Rattle.silence_laws.proofs.Setting.{request_way}
 use Rattle.silence_laws.proofs.Waiting.{beats_rise}
-use Rattle.silence_laws.proofs.Ways as ways_of
-use Rattle.silence_laws.proofs.Ways.{reply_way, beat_before, IsWay}
-use Rattle.succession_laws.proofs.Blocking.{blocked}
+use Rattle.silence_laws.proofs.Ways.{beat_before, IsWay}
+use Rattle.succession_laws.proofs.Asking.{AfterGet, none_early}
 use Rattle.succession_laws.proofs.Ordered.{AreAnswered, ordered}
-use Rattle.succession_laws.proofs.Records.{OfIt}
-use Rattle.succession_laws.proofs.Timely.{timely}
-use Rattle.succession_laws.proofs.Timely as in_time
-use Rattle.succession_laws.proofs.Following.{no_get}
 use Rattle.release_laws.proofs.Accepted.{F, F_e, R, R_e, released, first_low, of_it}
 
 module _ (doc : Doc) (near far b e : ℕ) (q : Identity) (l : LeadsUntil doc near far b e q) (s : Bears doc near far b e q) (stop : IsStopped doc b e q) (rel : IsReleased doc near far b e q)
@@ -160,108 +150,14 @@ module _ (doc : Doc) (near far b e : ℕ) (q : Identity) (l : LeadsUntil doc nea
         by_place (inr (inr low)) =
             inr (⊎_elim (λ lt. lt) (λ le. absurd (not_last low le)) (cases_lt o.e.beat (b + far)), tail_trans o.low (o.e ∷ o.low) below (inr (tail_all o.low)) low)
 
-  -- ---- a Get that is answered below the release
-
-  pub get_fails : (r : ℕ) (w : Call) (reply : Reply) (T : List Entry) → w.request ≡ Get election → IsTail (entry r 3 c (Delivers w reply true) ∷ T) (history doc (suc e))
-      → (o : Origin doc c w reply T r) → o.e.beat < b + far → IsTail o.low below → b ≤ o.e.beat + 3 * far → follow_on doc c r w.kind w.request reply (entry r 3 c (Delivers w reply true) ∷ T) ≡ Fails
-  get_fails r w reply T get at o early under late =
-      blocked doc near far b e q l s c role other r upto w reply T get at o of.y of.top of.who of.mine of.by of.lease of.object of.holder of.duration
-      (omega (arith, way.most, timely doc near far b e q l s o.e.beat by early o.e o.low e_own step low of))
-    where
-      upto : r ≤ e
-      upto = beat_before doc e (entry r 3 c (Delivers w reply true)) T at
-
-      e_at : IsTail (o.e ∷ o.low) (history doc (suc e))
-      e_at = tail_trans (o.e ∷ o.low) T (history doc (suc e)) o.answered (tail_trans T _ (history doc (suc e)) (inr (tail_all T)) at)
-
-      e_own : IsTail (o.e ∷ o.low) (history doc (suc o.e.beat))
-      e_own = in_own_beat doc (suc e) o.e o.low e_at
-
-      by : o.e.beat ≤ e
-      by = beat_before doc e o.e o.low e_at
-
-      step : 1 ≤ o.e.step
-      step = omega (arith, o.step)
-
-      low : IsTail ((in_time.first doc near far b e q l s).e ∷ (in_time.first doc near far b e q l s).low) o.low
-      low = in_time.first_low doc near far b e q l s o.e.beat o.e o.low e_own step late (omega arith)
-
-      of : OfIt doc q o.low
-      of = of_it doc near far b e q l s stop rel o.low (first_low doc near far b e q l s stop rel o.e o.low e_at late) under
-
-      way : ways_of.IsWay near far o.e.beat r
-      way = reply_way doc s.rules near far e c role steady o.e o.low e_at o.step r upto o.comes_is
-
   -- so a write that is sent after a Get is sent after one that was answered above it
-  pub record Late (x : Entry) (T : List Entry) (request : Request) : Type 0 where
-    pub waiting : Call
-    pub reply : Reply
-    pub before : List Entry
-    pub get : waiting.request ≡ Get election
-    pub o : Origin doc c waiting reply before x.beat
-    pub below : IsTail before T
-    pub late : IsTail above o.low
-    pub by : o.e.beat + near ≤ x.beat
-    pub follows : follow_on doc c x.beat waiting.kind waiting.request reply T ≡ Asks request
-    pub step : 3 ≤ x.step
-
-  pub late_write : (x : Entry) (T : List Entry) (call : Call) (arrives : Option ℕ) → IsTail (x ∷ T) (history doc (suc e)) → x.actor ≡ actor_of c → x.fact ≡ Sends call arrives → leads c T ≡ false → IsWrite call.request → b ≤ x.beat + 2 * far → Late x T call.request
-  late_write x T call arrives at actor fact unled write since = by_reason reason.0
+  pub late_get : (x : Entry) (T : List Entry) (request : Request) (f : AfterGet doc near far b e q l s c role other x T request) → b ≤ x.beat + 2 * far → IsTail above f.o.low
+  late_get x T request f since = ⊎_elim (λ low. low) (λ early. absurd (sooner early.0 early.1)) (meets f.waiting f.reply f.before x.beat f.o high)
     where
-      sending_x : Sending doc 0 e c call arrives
-      sending_x = (sending_of doc s.rules near far 0 e e c role steady my_time (omega arith) s.one call arrives x T at actor fact (omega arith)).0
+      high : IsTail f.before (history doc (suc e))
+      high = tail_trans f.before _ (history doc (suc e)) (inr (tail_all f.before)) f.counts
 
-      reason : Reason doc x.beat c call.request T × (3 ≤ x.step)
-      reason = reason_of doc s.rules (suc e) c role x T call arrives at actor fact unled sending_x.opens
-
-      x_upto : x.beat ≤ e
-      x_upto = beat_before doc e x T at
-
-      by_reason : Reason doc x.beat c call.request T → Late x T call.request
-      by_reason (InTurn get) = absurd (no_get call.request election get write)
-      by_reason (AfterReply f) = record {
-        waiting = f.waiting;
-        reply = f.reply;
-        before = f.before;
-        get = get;
-        o = o;
-        below = subst (IsTail f.before) (sym f.is) (inr (tail_all f.before));
-        late = ⊎_elim (λ low. low) (λ early. absurd (sooner early.0 early.1)) (meets f.waiting f.reply f.before x.beat o high);
-        by = omega (arith, way.least);
-        follows = f.follows;
-        step = reason.1;
-      }
-        where
-          low : List Entry
-          low = entry x.beat 3 c (Delivers f.waiting f.reply true) ∷ f.before
-
-          at_low : IsTail low (history doc (suc e))
-          at_low = subst (λ g. IsTail g (history doc (suc e))) f.is (tail_trans T (x ∷ T) (history doc (suc e)) (inr (tail_all T)) at)
-
-          o : Origin doc c f.waiting f.reply f.before x.beat
-          o = origin doc s.rules (suc e) c (entry x.beat 3 c (Delivers f.waiting f.reply true)) f.before f.waiting f.reply at_low refl refl
-
-          high : IsTail f.before (history doc (suc e))
-          high = tail_trans f.before low (history doc (suc e)) (inr (tail_all f.before)) at_low
-
-          next : IsNext f.waiting.request call.request
-          next = next_is c (moment doc c x.beat) (observed_at doc c T) f.waiting.kind f.waiting.request f.reply call.request f.follows
-
-          key : key_of f.waiting.request ≡ election
-          key =
-              asks_election doc s.sound s.rules e s.end c role o.begun.f f.waiting o.begun.arrives
-              (in_head o.begun.f o.begun.before (history doc (suc e)) (tail_trans (o.begun.f ∷ o.begun.before) f.before (history doc (suc e)) o.begun.position high)) o.begun.actor o.begun.fact
-
-          get : f.waiting.request ≡ Get election
-          get = (next.written write).1 ∙ ap Get (sym (ap key_of (next.written write).1) ∙ key)
-
-          e_at : IsTail (o.e ∷ o.low) (history doc (suc e))
-          e_at = tail_trans (o.e ∷ o.low) f.before (history doc (suc e)) o.answered high
-
-          way : ways_of.IsWay near far o.e.beat x.beat
-          way = reply_way doc s.rules near far e c role steady o.e o.low e_at o.step x.beat x_upto o.comes_is
-
-          sooner : o.e.beat < b + far → IsTail o.low (R doc near far b e q l s stop rel) → ⊥
-          sooner lt under =
-              fails_not call.request (sym (get_fails x.beat f.waiting f.reply f.before get at_low o lt under (omega (arith, way.most, since)))
-              ∙ ap (follow_on doc c x.beat f.waiting.kind f.waiting.request f.reply) (sym f.is) ∙ f.follows)
+      sooner : f.o.e.beat < b + far → IsTail f.o.low below → ⊥
+      sooner lt under =
+          none_early doc near far b e q l s c role other x T request f since lt
+          (λ at low. of_it doc near far b e q l s stop rel f.o.low (first_low doc near far b e q l s stop rel f.o.e f.o.low at (omega (arith, f.way.most, since))) under)

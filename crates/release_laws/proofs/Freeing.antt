@@ -16,7 +16,7 @@ use Rattle.history_laws.proofs.Counting.{only_value, when_value}
 use Rattle.history_laws.proofs.Plainly.{none_is, false_is}
 use Rattle.lease_laws.proofs.Invariant.{gives_up}
 use Rattle.calm_laws.proofs.Added.{SentFor, sends_for}
-use Rattle.stay_laws.proofs.Giving.{attempt_keeps}
+use Rattle.lease_laws.proofs.Given.{attempt_keeps}
 
 -- a request by which nobody holds the Lease any more
 abbrev pub Frees : Request → Type 0

@@ -1,17 +1,16 @@
 -- The counts grow with the beats.
-use Rattle.std.proofs.Common.{◌≡◌, ◌+◌, ◌*◌, ◌^◌, ◌≤◌, ℕ, Bool, List, [], ◌++◌, length, None, sym, ap, ◌∙◌, arith, length-append}
+use Rattle.std.proofs.Common.{◌≡◌, ◌+◌, ◌*◌, ◌^◌, ◌≤◌, ℕ, Bool, List, [], ◌++◌, length, suc, add-one, sym, ap, ◌∙◌, arith, length-append}
 use Rattle.std.proofs.lemmas.List.Elements.{filter-append}
 use Rattle.std.specs.List.{filter}
 use Rattle.kube_objects.specs.declared.deed.Act.{Act}
 use Rattle.kube_objects.specs.declared.deed.Deed.{Deed}
 use Rattle.kube_objects.specs.Document.{Doc, end_beat}
-use Rattle.agenda_laws.specs.Ahead.{IsNextBeat}
 use Rattle.history.specs.History.{history}
 use Rattle.history.specs.Printed.{printed}
 use Rattle.replay_top.specs.declared.counts.Counts.{Counts}
 use Rattle.replay_top.specs.Counts.{AreAtMost, count_of, counts_of, is_lead, is_taint, is_eviction}
 use Rattle.replay_top.specs.Generated.{whole_counts}
-use Rattle.replay_top.proofs.Grown.{put-silent, last-passed}
+use Rattle.replay_top.proofs.Grown.{put-silent}
 
 count-more : (p : Act → Bool) (front more : List Deed) → count_of p (front ++ more) ≡ count_of p front + count_of p more
 count-more p front more =
@@ -48,9 +47,8 @@ counts-next front deeds given whole old new all same was more =
 pub counts-first : (doc : Doc) → counts_of [] ≡ counts_of (printed (history doc 0))
 counts-first doc = ap counts_of (sym (put-silent doc doc.objects []))
 
-pub counts-last : (doc : Doc) (k : ℕ) → k ≤ end_beat doc + 1 → IsNextBeat doc k None
-    → counts_of (printed (history doc k)) ≡ whole_counts doc
-counts-last doc k within next = ap (λ h. counts_of (printed h)) (sym (last-passed doc k within next))
+pub counts-last : (doc : Doc) (k last : ℕ) → last ≡ end_beat doc → history doc (last + 1) ≡ history doc k → counts_of (printed (history doc k)) ≡ whole_counts doc
+counts-last doc k last is past = ap (λ h. counts_of (printed h)) (sym past ∙ ap (history doc) (add-one last) ∙ ap (λ n. history doc (suc n)) is)
 
 -- a bound by the beats that were done
 pub none-most : (k : ℕ) (c : Counts) → c ≡ counts_of [] → AreAtMost (k * 2 ^ 64) c

@@ -1,7 +1,6 @@
 -- ---- numbers
 pub mod Numbers
 -- ---- a text as it is written
-pub mod Added
 pub mod Said
 pub mod Writables
 pub mod Grown

@@ -1,5 +1,5 @@
 -- A text that is written from a buffer.
-use Rattle.std.proofs.Common.{◌≡◌, ℕ, List, [], ◌++◌, Result, Ok, Err, OnOk, OnErr, sym, ap, ◌∙◌, subst, append_assoc}
+use Rattle.std.proofs.Common.{◌≡◌, ℕ, List, [], ◌++◌, Result, Ok, Err, OnOk, OnErr, refl, sym, ap, ◌∙◌, subst, append_assoc}
 use Rattle.std.proofs.lemmas.List.{append-nil}
 use Rattle.byte_edge.specs.Bytes.{Gives, Gave, Taken}
 use Rattle.byte_edge.proofs.Fronts.{gives-both, gives-nothing}
@@ -52,6 +52,10 @@ gave-longer before after said more whole longer g = (
     gives = g.1.gives;
   },
 )
+
+-- and one of that and more
+pub spoken-longer : (before now : Taken) (buffer said more : List ℕ) → Spoken before now buffer said → Gave before now (said ++ more)
+spoken-longer before now buffer said more s = gave-longer before now said more (said ++ more) refl (spoken-so_far before now buffer said s)
 
 pub written-all : {T : Type 0} (before after : Taken) (text : List ℕ) (r : Result T WriteFault) → Written before after text r → OnOk r (Gives before after text)
 written-all before after text (Ok done) w = w

@@ -1,5 +1,5 @@
 -- The objects that a world shows are the state, by their order and their look-ups; and how a state is answered.
-use Rattle.std.proofs.Common.{◌≡◌, ◌⊎◌, ◌<◌, ◌≤◌, ◌+◌, ℕ, Bool, true, false, cond, List, [], ◌∷◌, Option, Some, None, option_map, Result, Ok, Err, IfOk, Less, Equal, Greater, inl, inr, refl, sym, ap, ◌∙◌, subst, arith, codes}
+use Rattle.std.proofs.Common.{◌≡◌, ◌⊎◌, ◌<◌, ◌≤◌, ◌+◌, ℕ, Bool, true, false, cond, List, [], ◌∷◌, Option, Some, None, option_map, Result, Ok, Err, IfOk, Less, Equal, Greater, inl, inr, refl, sym, ap, ◌∙◌, subst, codes}
 use Rattle.std.proofs.lemmas.Bool.{false≢true, le-leb, lt-leb}
 use Rattle.std.proofs.lemmas.Bool.Decides.{nat_tests}
 use Rattle.std.proofs.lemmas.Cmp.{nat_cmp_total, on_total, then_total}
@@ -10,8 +10,6 @@ use Rattle.std.specs.List.Sorted.{IsStrictlySortedBy}
 use Rattle.std.specs.Map.{keys_of, lookup}
 use Rattle.std.specs.Ordering.{is_eq, match_ordering, nat_cmp, ordering_reverse}
 use Rattle.std.specs.declared.cmp.Ordering.{Ordering}
-use Rattle.agenda_laws.specs.Standing.{standing_below, standing_beats}
-use Rattle.agenda_laws.proofs.Standing.{standing_later}
 use Rattle.kube_objects.proofs.KeyOrder.{same_key, key_itself}
 use Rattle.kube_objects.specs.declared.key.Key.{Key}
 use Rattle.kube_objects.specs.declared.object.Object.{Object}
@@ -259,14 +257,11 @@ state-readable names doc k are lawful named within scale few =
     let h = history doc k in
     states_readable names doc are lawful named k within (stored_after h) (ordered_at h h) (λ q. lookups h q ∙ as_objects (stored q h)) scale few
 
-pub ok-then : {A E : Type 0} {P Q : Type 0} (r : Result A E) → (P → Q) → IfOk r (λ x. P) → IfOk r (λ x. Q)
-ok-then (Ok x) then holds = then holds
-ok-then (Err e) then holds = tt
+pub ok-both : {A E : Type 0} (P : A → Type 0) {Q R : Type 0} (r : Result A E) → (Q → R) → IfOk r P → IfOk r (λ x. Q) → IfOk r (λ x. P x × R)
+ok-both P (Ok x) then one two = (one, then two)
+ok-both P (Err e) then one two = tt
 
--- ---- how many beats are done
-
-pub counts-up : (doc : Doc) (k m first now : ℕ) → k ≤ m → now ≤ first + standing_below doc k → now ≤ first + standing_below doc m
-counts-up doc k m first now later most = let more = standing_later doc k m later in omega (arith, more, most)
+-- ---- values that are others by name
 
 pub moved : {A B C : Type 0} (P : A → B → C → Type 0) {a a' : A} {b b' : B} {c c' : C} → a ≡ a' → b ≡ b' → c ≡ c' → P a b c → P a' b' c'
 moved P {a} {a'} {b} {b'} {c} {c'} p q r holds = subst (λ x. P x b' c') p (subst (λ y. P a y c') q (subst (λ z. P a b z) r holds))

@@ -8,6 +8,7 @@ use Rattle.history.specs.Safe.{Holder, Exclusive, ExclusiveUntilEmptied}
 use Rattle.history.specs.Spacing.{Spacing, SpacingInRows}
 use Rattle.script_reader.specs.declared.document.Document.{Document}
 use Rattle.script_reader.specs.Documents.{doc_of}
+use Rattle.script_reader.specs.Lawful.{IsLawfulDoc}
 use Rattle.script_reader.specs.Walk.{document_walk}
 use Rattle.trace_audit.specs.Alone.{entries_in, OneActs}
 use Rattle.replay_top.specs.declared.asked.Asked.TheVariants.{Audit}
@@ -33,6 +34,17 @@ pub record IsSafe (doc : Doc) : Type 0 where
 pub record IsSafeUntilEmptied (doc : Doc) : Type 0 where
   pub holder : Holder doc
   pub exclusive : ExclusiveUntilEmptied doc
+
+-- of every lawful document: the first where its lease premise holds, until_emptied where its leases are long enough, all others always. That
+-- evictions are never early, are prompt and keep the limit asks for nothing
+pub record LawfulAreSafe : Type 0 where
+  pub safe : (doc : Doc) → IsLawfulDoc doc → lease_premise doc ≡ true → IsSafe doc
+  pub until_emptied : (doc : Doc) → IsLawfulDoc doc → lease_part doc ≡ true → IsSafeUntilEmptied doc
+  pub spacing_in_rows : (doc : Doc) → IsLawfulDoc doc → SpacingInRows doc
+  pub not_early : (doc : Doc) → NotEarly doc
+  pub prompt : (doc : Doc) → Prompt doc
+  pub limit : (doc : Doc) → Limit doc
+  pub timely : (doc : Doc) → IsLawfulDoc doc → IsTimely doc
 
 -- of every document that can be read: the first three where its lease premise holds, until_emptied where its leases are long enough, all others
 -- always. That evictions are never early and keep the limit needs no reading

@@ -7,7 +7,6 @@ pub mod Names
 pub mod Outcome
 pub mod Replays
 pub mod Replies
-pub mod Runs
 pub mod Sizes
 pub mod Spoken
 pub mod State

@@ -1,8 +1,9 @@
 -- The words that ask for a generated document.
-use Rattle.std.specs.Prelude.{ℕ, ◌≤◌, ◌&&◌, nat_le, List, [], ◌∷◌, codes, decimal, Option, Some, None, if◌then◌else◌}
+use Rattle.std.specs.Prelude.{ℕ, ◌&&◌, nat_le, List, [], ◌∷◌, codes, decimal, Option, Some, None, if◌then◌else◌}
 use Rattle.std.specs.Str.{bytes_eq}
 use Rattle.std.specs.Str.Parse.{digits_value}
 use Rattle.kube_base.specs.Times.{◌>>=◌}
+use Rattle.world_gen.specs.Generated.{AreInRange}
 use Rattle.replay_top.specs.declared.sizes.Sizes.{Sizes}
 
 -- the word is what a number from least to most is in decimal: digits alone, with no leading 0 but in 0 itself
@@ -26,8 +27,5 @@ sizes_of (word ∷ seed ∷ nodes ∷ pods ∷ beats ∷ []) = if bytes_eq word 
 sizes_of _ = None
 
 -- the ranges of sizes
-pub record AreWithin (s : Sizes) : Type 0 where
-  pub some : 1 ≤ s.nodes
-  pub nodes : s.nodes ≤ 1000
-  pub pods : s.pods ≤ 30000
-  pub beats : s.beats ≤ 100000
+abbrev pub AreWithin : Sizes → Type 0
+AreWithin s = AreInRange s.nodes s.pods s.beats

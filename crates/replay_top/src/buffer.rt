@@ -2,7 +2,7 @@
 use byte_edge::{Failed, Sink};
 use std::alloc::Global;
 
-/// Text that waits for the sink. It fails only where memory is wanted.
+/// Text that waits for the sink. It fails only if memory runs out.
 #[derive(Debug, Drop)]
 pub(crate) struct Buffer {
     pub(crate) text: Vec<u8>,

@@ -1,42 +1,30 @@
 // A generated document is run, and one line is written of it.
 ghost use Rattle.std.specs.Prelude.{◌≡◌, ◌≤◌, ◌+◌, ◌++◌, ℕ, List, Some, IfOk, OnOk, decimal};
-ghost use Rattle.agenda_laws.specs.Standing.{standing_beats};
+ghost use Rattle.agenda_laws.specs.Standing.{standing_beats, standing_below};
 ghost use Rattle.byte_edge.specs.Bytes.{Rose};
 ghost use Rattle.kube_objects.specs.Document.{Doc, end_beat};
-ghost use Rattle.history.specs.History.{history};
-ghost use Rattle.script_reader.specs.Lawful.{IsLawfulDoc};
-ghost use Rattle.world_core.specs.Worlds.{at_of, end_of, IsReady, WorldStands};
+ghost use Rattle.world_core.specs.Worlds.{at_of};
+ghost use Rattle.world_runs.specs.Runs.{IsGoing, Runs};
 ghost use Rattle.replay_top.specs.Claims.{IsSafe};
 ghost use Rattle.replay_top.specs.Generated.{counted_line, counts_text, document_of, generated_line, sizes_text, whole_counts};
 ghost use Rattle.replay_top.specs.Outcome.{Ends, IsRunEnd, unread};
 ghost use Rattle.replay_top.specs.Replies.{done};
-ghost use Rattle.replay_top.specs.Runs.{Runs};
 ghost use Rattle.replay_top.specs.Sizes.{AreWithin};
 ghost use Rattle.replay_top.specs.Timely.{IsTimely};
 ghost use Rattle.replay_top.specs.declared.sizes.Sizes.{Sizes};
 
 use crate::counts::Counts;
+use crate::safe::lawful_documents_are_safe;
 use crate::sizes::Sizes;
-use crate::trace::{beat_at, next_of};
 use byte_edge::Sink;
-use calm_laws::takeovers_are_bounded;
-use document_laws::lawful_documents_are_sound;
-use eviction_laws::evictions_are_timely;
-use gap_laws::{gaps_last, others_wait};
 use itoa::Buffer;
-use kube_base::{NoMemory, Steps};
-use lease_laws::{acting_is_alike, lease_is_safe};
-use release_laws::releases_are_followed;
+use kube_base::{Beat, NoMemory, Steps};
 use run_edge::{Status, Verdict, tell};
-use settle_laws::calm_spans_settle;
-use silence_laws::{releases_last, silences_last};
-use spacing_laws::taints_are_spaced;
-use stay_laws::leaders_stay;
 use std::alloc::Global;
-use succession_laws::{leaders_act_on, successors_lead};
 use trace_writer::add;
 use world_core::World;
 use world_gen::{generate, generated_documents_are_lawful};
+use world_runs::next_deeds;
 use zone_state::Policies;
 
 /// Runs the generated document of these sizes and writes its line.
@@ -68,21 +56,7 @@ fn generated_documents_are_safe()
     ensures timely { (sizes : Sizes) → AreWithin sizes → IsTimely (document_of sizes) }
 {
     generated_documents_are_lawful();
-    lawful_documents_are_sound();
-    lease_is_safe();
-    acting_is_alike();
-    taints_are_spaced();
-    evictions_are_timely();
-    takeovers_are_bounded();
-    leaders_stay();
-    gaps_last();
-    others_wait();
-    calm_spans_settle();
-    silences_last();
-    releases_last();
-    successors_lead();
-    releases_are_followed();
-    leaders_act_on();
+    lawful_documents_are_safe();
 }
 
 /// The line of the generated document of these sizes, which is run.
@@ -96,31 +70,45 @@ fn line_of<L>(
     ensures line { IfOk result (λ text. text.items ≡ generated_line sizes) }
     ensures counted { steps.new ≤ steps.old + standing_beats (document_of sizes) }
 {
-    let document = generate(alloc, sizes.seed, sizes.nodes, sizes.pods, sizes.beats)?;
-    let world = World::new(alloc, document)?;
-    let counts = count_beats(world, policies, steps)?;
+    let counts = counts_of(alloc, sizes, policies, steps)?;
     let mut text = Vec::new(alloc);
     add_line(&mut text, sizes, counts)?;
     Ok(text)
 }
 
-/// Does all beats that have entries and counts their lines.
-fn count_beats<L>(
-    mut world: World,
+/// The counts of the generated document of these sizes, which is run.
+fn counts_of<L>(
+    alloc: Global,
+    sizes: Sizes,
     policies: &Policies,
     steps: &mut Steps<L>,
 ) -> Result<Counts, NoMemory>
-    requires ready { IsReady world }
-    requires first { at_of world ≡ 0 }
-    requires runs { (count : ℕ) × Runs world count }
-    ensures whole { (doc : Doc) → IsLawfulDoc doc → WorldStands doc 0 (history doc 0) world → end_of world ≡ end_beat doc
+    requires { AreWithin sizes }
+    ensures whole { IfOk result (λ counts. counts ≡ whole_counts (document_of sizes)) }
+    ensures counted { steps.new ≤ steps.old + standing_beats (document_of sizes) }
+{
+    let document = generate(alloc, sizes.seed, sizes.nodes, sizes.pods, sizes.beats)?;
+    let last = document.settings.end_beat;
+    let mut world = World::new(alloc, document)?;
+    count_beats(&mut world, last, policies, steps)
+}
+
+/// Does all beats with entries up to the last one and counts their lines.
+fn count_beats<L>(
+    world: &mut World,
+    last: Beat,
+    policies: &Policies,
+    steps: &mut Steps<L>,
+) -> Result<Counts, NoMemory>
+    requires going { IsGoing last.0 world.old }
+    requires first { at_of world.old ≡ 0 }
+    requires runs { (doc : Doc) × (first : ℕ) × Runs doc first steps.old world.old }
+    ensures whole { (doc : Doc) (first : ℕ) → Runs doc first steps.old world.old → last.0 ≡ end_beat doc
         → IfOk result (λ counts. counts ≡ whole_counts doc) }
-    ensures counted { (doc : Doc) → IsLawfulDoc doc → WorldStands doc 0 (history doc 0) world → end_of world ≡ end_beat doc
-        → steps.new ≤ steps.old + standing_beats doc }
+    ensures counted { (doc : Doc) (first : ℕ) → Runs doc first steps.old world.old → steps.new ≤ first + standing_below doc (last.0 + 1) }
 {
     let mut counts = Counts::none();
-    'beats: while let Some(beat) = next_of(&world) {
-        let deeds = beat_at(&mut world, beat, policies, steps)?;
+    'beats: while let Some(deeds) = next_deeds(world, last, policies, steps)? {
         counts = counts.and(deeds.as_slice());
     }
     Ok(counts)

@@ -12,6 +12,7 @@ mod generating;
 mod processes;
 mod reading;
 mod running;
+mod safe;
 mod sizes;
 mod state;
 mod summary;

@@ -21,25 +21,16 @@ ghost use Rattle.replay_top.specs.declared.sizes.Sizes.{Sizes};
 use crate::command::{Command, Run, command_in};
 use crate::generating::write_generated;
 use crate::reading::document_in;
+use crate::safe::lawful_documents_are_safe;
 use crate::state::write_state;
 use crate::trace::write_trace;
 use byte_edge::{Sink, Source, TakeFault};
-use calm_laws::takeovers_are_bounded;
-use document_laws::{documents_are_lawful, lawful_documents_are_sound};
-use eviction_laws::evictions_are_timely;
-use gap_laws::{gaps_last, others_wait};
+use document_laws::documents_are_lawful;
 use kube_base::Steps;
-use lease_laws::{acting_is_alike, lease_is_safe};
 use manifest_json::ReadFault;
-use release_laws::releases_are_followed;
 use run_edge::{Status, Verdict, ask, take_input, tell_refusal, tell_too_large, tell_usage};
 use script_reader::Document;
-use settle_laws::calm_spans_settle;
-use silence_laws::{releases_last, silences_last};
-use spacing_laws::{taints_are_spaced, turns_are_spaced_in_rows};
-use stay_laws::leaders_stay;
 use std::alloc::Global;
-use succession_laws::{leaders_act_on, successors_lead};
 use trace_writer::WriteFault;
 use zone_state::Policies;
 
@@ -98,22 +89,7 @@ fn documents_are_safe()
     ensures { AreSafe }
 {
     documents_are_lawful();
-    lawful_documents_are_sound();
-    lease_is_safe();
-    acting_is_alike();
-    taints_are_spaced();
-    turns_are_spaced_in_rows();
-    evictions_are_timely();
-    takeovers_are_bounded();
-    leaders_stay();
-    gaps_last();
-    others_wait();
-    calm_spans_settle();
-    silences_last();
-    releases_last();
-    successors_lead();
-    releases_are_followed();
-    leaders_act_on();
+    lawful_documents_are_safe();
 }
 
 /// Reads the document that the source has and runs it.

@@ -44,7 +44,7 @@ fn sizes_by(seed: &str, nodes: &str, pods: &str, beats: &str) -> Option<Sizes>
     })
 }
 
-/// The number that is written so in decimal, without a sign and without a leading zero, where it is in this range.
+/// The number that is written so in decimal, without a sign and without a leading zero, if it is in this range.
 pub(crate) fn number_in(word: &str, least: u64, most: u64) -> Option<u64>
     ensures number { result ≡ number least most word.now }
     ensures within { IfSome result (λ n. (least ≤ n) × (n ≤ most)) }

@@ -1,22 +1,16 @@
 // What is stored after a beat, as a manifest.
-ghost use Rattle.std.specs.Prelude.{◌≡◌, ◌≢◌, ◌≤◌, ◌+◌, ℕ, [], Some, true, IfOk};
+ghost use Rattle.std.specs.Prelude.{◌≡◌, ◌≢◌, ◌≤◌, ◌+◌, [], Some, true, IfOk};
 ghost use Rattle.std.specs.List.{list_all};
-ghost use Rattle.agenda_laws.specs.Standing.{standing_beats, standing_below};
+ghost use Rattle.agenda_laws.specs.Standing.{standing_below};
 ghost use Rattle.byte_edge.specs.Bytes.{Rose};
-ghost use Rattle.kube_objects.specs.Document.{Doc, end_beat};
-ghost use Rattle.history.specs.History.{history};
 ghost use Rattle.manifest_json.specs.Written.{is_writable_item, list_of};
 ghost use Rattle.script_reader.specs.Documents.{doc_of};
-ghost use Rattle.script_reader.specs.Lawful.{AreLawfulFrom, IsLawfulDoc, IsWellNamed};
+ghost use Rattle.script_reader.specs.Lawful.{IsLawfulDoc, IsWellNamed};
 ghost use Rattle.script_reader.specs.Walk.{numbers_of as numbers_in_order};
-ghost use Rattle.world_core.specs.Waits.{beat_of};
-ghost use Rattle.world_core.specs.Worlds.{at_of, end_of, names_of, IsReady, WorldStands};
 ghost use Rattle.replay_top.specs.Outcome.{Ends, IsUndone, unread};
 ghost use Rattle.replay_top.specs.Replies.{state_answer};
-ghost use Rattle.replay_top.specs.Runs.{IsNextUpTo, IsRunUpTo, Runs, StandsForNext};
 ghost use Rattle.replay_top.specs.State.{IsReadAgain, ReadsBack, line_of, state_text};
 
-use crate::trace::{beat_at, next_of};
 use byte_edge::Sink;
 use kube_base::{Beat, ListOf, Names, NoMemory, Steps};
 use kube_objects::{Items, Proc};
@@ -26,6 +20,7 @@ use script_reader::Document;
 use std::alloc::Global;
 use trace_writer::add;
 use world_core::World;
+use world_runs::run_up_to;
 use zone_state::Policies;
 
 /// The code of a beat after the end of the document.
@@ -69,16 +64,15 @@ fn text_after<L>(
     requires lawful { IsLawfulDoc (doc_of document) }
     requires named { IsWellNamed document.names (doc_of document) }
     requires within { last.0 ≤ document.settings.end_beat.0 }
-    ensures text { IfOk result (λ text. text.items ≡ state_text document last.0) }
-    ensures reads_back { IfOk result (λ text. ReadsBack document last.0) }
+    ensures text { IfOk result (λ text. (text.items ≡ state_text document last.0) × ReadsBack document last.0) }
     ensures counted { steps.new ≤ steps.old + standing_below (doc_of document) (last.0 + 1) }
 {
     let known = numbers_of(alloc, document.controllers.as_slice())?;
-    let first = World::new(alloc, document)?;
-    let world = run_up_to(first, last, policies, steps)?;
+    let mut world = World::new(alloc, document)?;
+    run_up_to(&mut world, last, policies, steps)?;
     let items = world.objects()?;
     let names = world.names();
-    // They hold what every list of names does.
+    // Reading the length lets the checker use what every list of names keeps.
     let _held = names.len();
     list_line(alloc, names, known.as_slice(), &items)
 }
@@ -92,42 +86,6 @@ fn numbers_of(alloc: Global, procs: &[Proc]) -> Result<ListOf<u32>, NoMemory>
         numbers.push(proc.name)?;
     }
     Ok(numbers)
-}
-
-/// Does the beats that have entries up to this beat.
-fn run_up_to<L>(
-    mut world: World,
-    last: Beat,
-    policies: &Policies,
-    steps: &mut Steps<L>,
-) -> Result<World, NoMemory>
-    requires ready { IsReady world }
-    requires first { at_of world ≡ 0 }
-    requires within { last.0 ≤ end_of world }
-    requires runs { (count : ℕ) × Runs world count }
-    ensures names { IfOk result (λ w. names_of w ≡ names_of world) }
-    ensures stands { (doc : Doc) → IsLawfulDoc doc → WorldStands doc 0 (history doc 0) world → end_of world ≡ end_beat doc
-        → IfOk result (IsRunUpTo doc last.0) }
-    ensures counted { (doc : Doc) → IsLawfulDoc doc → WorldStands doc 0 (history doc 0) world → end_of world ≡ end_beat doc
-        → steps.new ≤ steps.old + standing_below doc (last.0 + 1) }
-{
-    'beats: while let Some(beat) = next_up_to(&world, last) {
-        beat_at(&mut world, beat, policies, steps)?;
-    }
-    Ok(world)
-}
-
-/// The next beat with an entry, if it comes no later than this beat.
-fn next_up_to(world: &World, last: Beat) -> Option<Beat>
-    requires ready { IsReady world.now }
-    requires within { last.0 ≤ end_of world.now }
-    ensures { (doc : Doc) → AreLawfulFrom doc 0 doc.events → StandsForNext doc world.now → end_of world.now ≡ end_beat doc
-        → IsNextUpTo doc (at_of world.now) last.0 (beat_of result) }
-{
-    match next_of(world) {
-        Some(beat) => if beat.0 <= last.0 { Some(beat) } else { None },
-        None => None,
-    }
 }
 
 /// The objects as a `v1` List in one line.

@@ -1,42 +1,34 @@
 // A document is run, and its trace is written as the beats are done.
-ghost use Rattle.std.specs.Prelude.{◌≡◌, ◌≤◌, ◌+◌, ◌++◌, ℕ, List, Option, Some, length, All, OnOk, OnErr, IfOk, IfErr, IsErr};
-ghost use Rattle.std.specs.List.{AllByRecursion};
-ghost use Rattle.agenda_laws.specs.Ahead.{IsNextBeat};
-ghost use Rattle.agenda_laws.specs.Standing.{standing_beats};
+ghost use Rattle.std.specs.Prelude.{◌≡◌, ◌≤◌, ◌+◌, ◌++◌, ℕ, List, length, All, OnOk, OnErr, IfOk, IfErr};
+ghost use Rattle.agenda_laws.specs.Standing.{standing_beats, standing_below};
 ghost use Rattle.byte_edge.specs.Bytes.{Rose, Gives, Gave, Taken};
-ghost use Rattle.kube_base.specs.Steps.{counted};
 ghost use Rattle.kube_objects.specs.Document.{Doc, end_beat, processes as process_count};
 ghost use Rattle.kube_objects.specs.Writable.{IsWritable};
-ghost use Rattle.history.specs.History.{history};
-ghost use Rattle.history.specs.Printed.{printed};
 ghost use Rattle.script_reader.specs.Documents.{doc_of};
-ghost use Rattle.script_reader.specs.Lawful.{AreLawfulFrom, IsLawfulDoc, IsWellNamed};
+ghost use Rattle.script_reader.specs.Lawful.{IsLawfulDoc, IsWellNamed};
 ghost use Rattle.trace_writer.specs.Lines.{lines_of};
-ghost use Rattle.world_core.specs.Waits.{beat_of};
-ghost use Rattle.world_core.specs.Worlds.{at_of, end_of, names_of, IsReady, WasRead, WorldStands};
+ghost use Rattle.world_core.specs.Worlds.{at_of, names_of};
+ghost use Rattle.world_runs.specs.Runs.{IsGoing, Runs};
 ghost use Rattle.replay_top.specs.Traces.{trace, trace_of, trace_before, first_of};
 ghost use Rattle.replay_top.specs.Names.{process_names as names_in_order};
-ghost use Rattle.replay_top.specs.Runs.{Runs, StandsForNext};
 ghost use Rattle.replay_top.specs.Spoken.{Spoken, Written};
 
 use crate::buffer::Buffer;
 use crate::processes::process_names;
-use beat_laws::nodes_are_few;
 use byte_edge::{Failed, Sink, give_all};
-use history_laws::{calls_are_numbered, starts_are_few};
 use kube_base::{Beat, ListOf, Name, Names, NoMemory, Steps};
-use kube_objects::{Deed, Deeds};
+use kube_objects::Deed;
 use script_reader::{Document, lease_premise};
 use std::alloc::Global;
 use trace_writer::{FirstLine, WriteFault, write_deed, write_first};
-use world_agenda::next_beat;
 use world_core::World;
+use world_runs::next_deeds;
 use zone_state::Policies;
 
 /// The text that is held before it is given to the sink, in bytes.
 const PIECE: usize = 16_384;
 
-/// Runs the document and writes its trace. After a fault or want of memory a prefix of it was written.
+/// Runs the document and writes its trace. After a fault or out of memory a prefix of it was written.
 pub(crate) fn write_trace<K: Sink, L>(
     alloc: Global,
     sink: &mut K,
@@ -51,15 +43,17 @@ pub(crate) fn write_trace<K: Sink, L>(
     ensures failed { IfErr result (λ e. e ≡ WriteFault.Sink → Rose (K.faults sink.old) (K.faults sink.new)) }
     ensures counted { steps.new ≤ steps.old + standing_beats (doc_of document) }
 {
+    let last = document.settings.end_beat;
     let mut buffer = Buffer::new(alloc);
     match start(alloc, &mut buffer, document) {
-        Ok((world, processes)) => {
+        Ok((mut world, processes)) => {
             write_beats(
                 alloc,
                 sink,
-                world,
+                &mut world,
+                last,
                 processes.as_slice(),
-                buffer,
+                &mut buffer,
                 policies,
                 steps,
             )
@@ -79,8 +73,8 @@ fn start(
     ensures text { OnOk result (buffer.new.text.items ≡ buffer.old.text.items ++ first_of (doc_of document)) }
     ensures processes { IfOk result (λ r. r.1 ≡ names_in_order document.names (doc_of document)) }
     ensures names { IfOk result (λ r. names_of r.0 ≡ document.names) }
-    ensures kept { IfOk result (λ r. IsReady r.0 × (at_of r.0 ≡ 0) × (end_of r.0 ≡ document.settings.end_beat.0)) }
-    ensures stands { IfOk result (λ r. WorldStands (doc_of document) 0 (history (doc_of document) 0) r.0) }
+    ensures first { IfOk result (λ r. IsGoing document.settings.end_beat.0 r.0 × (at_of r.0 ≡ 0)) }
+    ensures runs { (steps : ℕ) → IfOk result (λ r. Runs (doc_of document) steps steps r.0) }
 {
     add_first(alloc, buffer, &document)?;
     let processes = process_names(alloc, &document)?;
@@ -104,6 +98,72 @@ fn add_first(alloc: Global, buffer: &mut Buffer, document: &Document) -> Result<
     }
 }
 
+/// Does all beats with entries up to the last one and writes their lines, after the text so far.
+fn write_beats<K: Sink, L>(
+    alloc: Global,
+    sink: &mut K,
+    world: &mut World,
+    last: Beat,
+    processes: &[Name],
+    buffer: &mut Buffer,
+    policies: &Policies,
+    steps: &mut Steps<L>,
+) -> Result<(), WriteFault>
+    requires going { IsGoing last.0 world.old }
+    requires first { at_of world.old ≡ 0 }
+    requires runs { (doc : Doc) × (first : ℕ) × Runs doc first steps.old world.old × (length processes.now ≡ process_count doc) }
+    ensures written { (doc : Doc) (first : ℕ) (before : Taken) → Runs doc first steps.old world.old → last.0 ≡ end_beat doc
+        → Spoken before (K.taken sink.old) buffer.old.text.items (trace_before doc (names_of world.old) processes.now 0)
+        → Written before (K.taken sink.new) (trace_of doc (names_of world.old) processes.now) result }
+    ensures failed { IfErr result (λ e. e ≡ WriteFault.Sink → Rose (K.faults sink.old) (K.faults sink.new)) }
+    ensures counted { (doc : Doc) (first : ℕ) → Runs doc first steps.old world.old → steps.new ≤ first + standing_below doc (last.0 + 1) }
+{
+    'beats: loop {
+        match next_deeds(world, last, policies, steps) {
+            Ok(Some(deeds)) => match write_lines(
+                alloc,
+                sink,
+                buffer,
+                world.names(),
+                processes,
+                deeds.as_slice(),
+            ) {
+                Ok(()) => {}
+                Err(fault) => return Err(fault),
+            },
+            Ok(None) => break,
+            Err(NoMemory) => return Err(WriteFault::NoMemory),
+        }
+    }
+    match give_all(sink, &buffer.text) {
+        Ok(()) => Ok(()),
+        Err(Failed) => Err(WriteFault::Sink),
+    }
+}
+
+/// Adds the lines of deeds to the text so far, and gives it if it is long.
+fn write_lines<K: Sink>(
+    alloc: Global,
+    sink: &mut K,
+    buffer: &mut Buffer,
+    names: &Names,
+    processes: &[Name],
+    deeds: &[Deed],
+) -> Result<(), WriteFault>
+    requires { All (IsWritable names.now (length processes.now)) deeds.now }
+    ensures spoken { (before : Taken) (said : List ℕ) → Spoken before (K.taken sink.old) buffer.old.text.items said
+        → OnOk result (Spoken before (K.taken sink.new) buffer.new.text.items (said ++ lines_of names.now processes.now deeds.now)) }
+    ensures front { (before : Taken) (said : List ℕ) → Spoken before (K.taken sink.old) buffer.old.text.items said
+        → OnErr result (Gave before (K.taken sink.new) (said ++ lines_of names.now processes.now deeds.now)) }
+    ensures counted { K.faults sink.old ≤ K.faults sink.new }
+    ensures failed { IfErr result (λ e. e ≡ WriteFault.Sink → Rose (K.faults sink.old) (K.faults sink.new)) }
+{
+    match add_lines(alloc, buffer, names, processes, deeds) {
+        Ok(()) => give_long(sink, &mut buffer.text),
+        Err(NoMemory) => Err(WriteFault::NoMemory),
+    }
+}
+
 /// Adds the lines of deeds.
 fn add_lines(
     alloc: Global,
@@ -124,100 +184,14 @@ fn add_lines(
     Ok(())
 }
 
-/// Does all beats that have entries and writes their lines, after the text so far.
-fn write_beats<K: Sink, L>(
-    alloc: Global,
-    sink: &mut K,
-    mut world: World,
-    processes: &[Name],
-    mut buffer: Buffer,
-    policies: &Policies,
-    steps: &mut Steps<L>,
-) -> Result<(), WriteFault>
-    requires ready { IsReady world }
-    requires first { at_of world ≡ 0 }
-    requires runs { Runs world (length processes.now) }
-    ensures written { (doc : Doc) (before : Taken) → IsLawfulDoc doc → WorldStands doc 0 (history doc 0) world
-        → end_of world ≡ end_beat doc
-        → Spoken before (K.taken sink.old) buffer.text.items (trace_before doc (names_of world) processes.now 0)
-        → Written before (K.taken sink.new) (trace_of doc (names_of world) processes.now) result }
-    ensures failed { IfErr result (λ e. e ≡ WriteFault.Sink → Rose (K.faults sink.old) (K.faults sink.new)) }
-    ensures counted { (doc : Doc) → IsLawfulDoc doc → WorldStands doc 0 (history doc 0) world → end_of world ≡ end_beat doc
-        → steps.new ≤ steps.old + standing_beats doc }
-{
-    'beats: while let Some(beat) = next_of(&world) {
-        match give_long(sink, &mut buffer.text) {
-            Ok(()) => {}
-            Err(Failed) => return Err(WriteFault::Sink),
-        }
-        let deeds = match beat_at(&mut world, beat, policies, steps) {
-            Ok(deeds) => deeds,
-            Err(NoMemory) => return Err(WriteFault::NoMemory),
-        };
-        match add_lines(
-            alloc,
-            &mut buffer,
-            world.names(),
-            processes,
-            deeds.as_slice(),
-        ) {
-            Ok(()) => {}
-            Err(NoMemory) => return Err(WriteFault::NoMemory),
-        }
-    }
-    match give_all(sink, &buffer.text) {
-        Ok(()) => Ok(()),
-        Err(Failed) => Err(WriteFault::Sink),
-    }
-}
-
-/// The next beat with an entry; None where there is none up to the end.
-pub(crate) fn next_of(world: &World) -> Option<Beat>
-    requires ready { IsReady world.now }
-    ensures { (doc : Doc) → AreLawfulFrom doc 0 doc.events → StandsForNext doc world.now → end_of world.now ≡ end_beat doc
-        → IsNextBeat doc (at_of world.now) (beat_of result) }
-{
-    if world.finished() {
-        return None;
-    }
-    next_beat(world)
-}
-
-/// Does the next beat with an entry, and answers what of it is printed.
-pub(crate) fn beat_at<L>(
-    world: &mut World,
-    beat: Beat,
-    policies: &Policies,
-    steps: &mut Steps<L>,
-) -> Result<Deeds, NoMemory>
-    requires ready { IsReady world.old }
-    requires ahead { (at_of world.old ≤ beat.0) × (beat.0 ≤ end_of world.old) }
-    ensures kept { OnOk result (IsReady world.new × (at_of world.new ≡ beat.0 + 1) × (end_of world.new ≡ end_of world.old)
-        × (names_of world.new ≡ names_of world.old)) }
-    ensures stands { (doc : Doc) → IsLawfulDoc doc → StandsForNext doc world.old → end_of world.old ≡ end_beat doc
-        → IsNextBeat doc (at_of world.old) (Some beat.0)
-        → IfOk result (λ deeds. StandsForNext doc world.new
-        × (printed (history doc (at_of world.old)) ++ deeds ≡ printed (history doc (at_of world.new)))) }
-    ensures writable { (doc : Doc) → WasRead doc world.old → StandsForNext doc world.old → end_of world.old ≡ end_beat doc
-        → IsNextBeat doc (at_of world.old) (Some beat.0)
-        → IfOk result (AllByRecursion (IsWritable (names_of world.old) (process_count doc))) }
-    ensures counted { steps.new ≡ counted steps.old 1 }
-{
-    calls_are_numbered();
-    starts_are_few();
-    nodes_are_few();
-    world.skip_to(beat);
-    world.beat(policies, steps)
-}
-
-/// Gives the text so far, where it is long.
-fn give_long<K: Sink>(sink: &mut K, text: &mut Vec<u8>) -> Result<(), Failed>
+/// Gives the text so far, if it is long.
+fn give_long<K: Sink>(sink: &mut K, text: &mut Vec<u8>) -> Result<(), WriteFault>
     ensures spoken { (before : Taken) (said : List ℕ) → Spoken before (K.taken sink.old) text.old.items said
         → OnOk result (Spoken before (K.taken sink.new) text.new.items said) }
     ensures front { (before : Taken) (said : List ℕ) → Spoken before (K.taken sink.old) text.old.items said
         → OnErr result (Gave before (K.taken sink.new) said) }
     ensures counted { K.faults sink.old ≤ K.faults sink.new }
-    ensures failed { IsErr result → Rose (K.faults sink.old) (K.faults sink.new) }
+    ensures failed { IfErr result (λ e. e ≡ WriteFault.Sink → Rose (K.faults sink.old) (K.faults sink.new)) }
 {
     if text.len() < PIECE {
         return Ok(());
@@ -227,6 +201,6 @@ fn give_long<K: Sink>(sink: &mut K, text: &mut Vec<u8>) -> Result<(), Failed>
             text.clear();
             Ok(())
         }
-        Err(Failed) => Err(Failed),
+        Err(Failed) => Err(WriteFault::Sink),
     }
 }

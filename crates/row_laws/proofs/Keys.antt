@@ -60,11 +60,8 @@ module _ (q : Identity) (place : Place) (name : ℕ) where
       by_test false is = refl
 
   other_head : (k : ℕ) (who : Actor) (node : ℕ) (written : Node) (tried : Option Answer) (h : List Entry) → (node == name) ≡ false → holds h k who (at_key (node_key name) (try_write (node_write node written) tried)) ≡ None
-  other_head k who node written None h other = refl
   other_head k who node written (Some (answer.Done version)) h other = ap (λ b. holds h k who (when b (node_write node written).1)) (other_key node other)
-  other_head k who node written (Some answer.Absent) h other = refl
-  other_head k who node written (Some answer.Exists) h other = refl
-  other_head k who node written (Some (answer.Conflict version)) h other = refl
+  other_head k who node written d h other = refl
 
   -- no entry of the term's ticks, or a queued taint of another node
   quiet_mode : (who : Actor) (d : Fact) → is_plain_tick q who d ≡ false → mode_says q who d ≡ None

@@ -12,7 +12,7 @@ mod telling;
 
 pub use answer::{Answer, Question};
 pub use asking::ask;
-pub use exiting::exit_status;
+pub use exiting::{exit_of, exit_status};
 pub use refusing::{refuse, refuse_as, tell_refusal, tell_too_large};
 pub use status::{Status, Verdict};
 pub use taking::take_input;

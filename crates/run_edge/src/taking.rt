@@ -9,7 +9,7 @@ use std::alloc::Global;
 /// The most bytes that an input may have.
 const LARGEST: usize = 16_777_216;
 
-/// Takes all that the source has, where there are no more bytes than an input may have; else one more, which is lost with them.
+/// Takes all that the source has, if there are no more bytes than an input may have; else one more, which is lost with them.
 pub fn take_input<S: Source>(alloc: Global, source: &mut S) -> Result<Vec<u8>, TakeFault>
     ensures whole { (bytes : List ℕ) → S.left source.old ≡ Some bytes
         → IfOk result (λ taken. IsInput bytes (S.left source.new) taken.items) }

@@ -4,5 +4,6 @@ pub mod Loops
 pub mod Named
 pub mod OwnWaits
 pub mod Parsed
+mod PlainShares
 mod SetLoops
 mod Walks

@@ -45,23 +45,15 @@ upstream_120 = record {
   ready_burst = 15;
 }
 
+-- those of 1.20 but for six
 abbrev pub upstream_136 : Rules
-upstream_136 = record {
+upstream_136 = record upstream_120 {
   retries = retries_words.Ticks;
   respect = respect_words.Record;
-  first_sync_millis = 700;
-  probe = probe_words.Record;
-  judge = judge_words.Pass;
-  first_sight = first_sight_words.Strip;
-  queue = queue_words.Again;
-  bucket = bucket_words.Full;
-  evict_from = evict_from_words.Seen;
   evict_burst = 15;
   evict_rate = 10_000;
   release = release_words.Reread;
   in_release = in_release_words.Acts;
-  ready_millis = 100;
-  ready_burst = 15;
 }
 
 abbrev pub rules_of : Preset → Rules

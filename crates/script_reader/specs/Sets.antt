@@ -1,7 +1,7 @@
 -- Sets of pods that are alike. A set says these Pods: for each member of `on` in order so many on its node. The J-th of them, from 0
 -- through all members, has the set's name, `-` and J as its name, and the set's namespace and tolerations. They stand behind all objects,
 -- set by set. Source: profile.
-use Rattle.std.specs.Prelude.{ℕ, ◌+◌, nat_le, List, [], ◌∷◌, ◌++◌, length, replicate, sum_by, codes, Result, Ok}
+use Rattle.std.specs.Prelude.{◌≡◌, ℕ, ◌+◌, nat_le, List, [], ◌∷◌, ◌++◌, length, replicate, sum_by, codes, Result, Ok}
 use Rattle.std.specs.Prelude.{if◌then◌else◌}
 use Rattle.std.specs.Fmt.{decimal}
 use Rattle.serde_json.specs.Data.{Data, Items, no_items, item}
@@ -33,6 +33,12 @@ share_at names path value = do
   node ← numbered names text
   pods ← needed_whole 1 100_000 path (codes "pods") known
   Ok (record { node = node.0; pods = pods }, node.1)
+
+-- a member that has no fault: wherever it stands it says so many pods on the node of this name
+abbrev pub IsPlainShare : Data → List ℕ → ℕ → Type 0
+IsPlainShare value text pods =
+    (names : Texts) (path : List ℕ)
+    → share_at names path value ≡ (numbered names text >>= λ node. Ok (record { node = node.0; pods = pods }, node.1))
 
 -- the members from a place on, behind earlier ones
 unfoldable pub shares_from : Texts → List ℕ → ℕ → List Share → Items → Result (List Share × Texts) Refusal

@@ -125,14 +125,18 @@ is_key_of tables.PodSet key = is_set_key key
 is_key_of tables.Share key = is_share_key key
 is_key_of (tables.Event kind) key = bytes_eq key (codes "beat") || bytes_eq key (codes "type") || is_type_key kind key
 
-abbrev pub all_known : Table → Members → Bool
-all_known table no_members = true
-all_known table (member key d ms) = is_key_of table key && all_known table ms
+-- the keys of these members are among a table's
+abbrev pub all_known : (List ℕ → Bool) → Members → Bool
+all_known is_key no_members = true
+all_known is_key (member key d ms) = is_key key && all_known is_key ms
 
-abbrev pub knows_members : Table → Option Members → Bool
-knows_members table None = true
-knows_members table (Some ms) = all_known table ms
+abbrev pub knows_members : (List ℕ → Bool) → Option Members → Bool
+knows_members is_key None = true
+knows_members is_key (Some ms) = all_known is_key ms
 
--- the value has no key that its table doesn't have
+-- the value has no key but a table's
+abbrev pub known_by : (List ℕ → Bool) → List ℕ → Data → Result Data Refusal
+known_by is_key path d = if knows_members is_key (as_object d) then Ok d else refuse UNKNOWN_KEY path
+
 abbrev pub known_in : Table → List ℕ → Data → Result Data Refusal
-known_in table path d = if knows_members table (as_object d) then Ok d else refuse UNKNOWN_KEY path
+known_in table = known_by (is_key_of table)

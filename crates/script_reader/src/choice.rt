@@ -14,7 +14,7 @@ use manifest_json::codes::OUT_OF_RANGE;
 use manifest_json::{Path, ReadFault};
 use serde_json::Value;
 
-/// Whose rules a document goes by where it says nothing else: the project's own, or those of a version of Kubernetes.
+/// Whose rules a document goes by if it says nothing else: the project's own, or those of a version of Kubernetes.
 #[derive(Clone, Copy)]
 pub enum Preset {
     Own,
@@ -22,7 +22,7 @@ pub enum Preset {
     Upstream136,
 }
 
-/// The preset: the project's own where none is given.
+/// The preset: the project's own if none is given.
 pub(crate) fn preset_at(path: &Path, value: &Value) -> Result<Preset, ReadFault>
     ensures { Gives (λ preset. preset) result (choices.preset_at path.now (view value.now)) }
 {

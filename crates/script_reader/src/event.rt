@@ -24,21 +24,24 @@ use manifest_json::{Path, ReadFault};
 use serde_json::Value;
 use std::alloc::Global;
 
-/// No more events than the version allows.
+/// The document's events, no more than the version allows.
 #[tactic(auto, unfolding(crate::specs::Walk::events_in))]
-pub(crate) fn events_in(
+pub(crate) fn events_at(
     alloc: Global,
     players: &Players,
     scope: Scope,
     names: &mut Names,
-    value: &Value,
+    document: &Value,
 ) -> Result<Events, ReadFault>
     requires { AreNamed players.now }
     ensures { Gives (λ events. (events, names.new)) result
-        (walk.events_in scope (seen players.now) names.old (view value.now)) }
+        (walk.events_at scope (seen players.now) names.old (view document.now)) }
 {
+    let Some(found) = document.get("events") else {
+        return Ok(Events::new(alloc));
+    };
     let path = path_of(alloc, "/events")?;
-    let all = array_in(event_limit(scope.version), &path, value)?;
+    let all = array_in(event_limit(scope.version), &path, found)?;
     events_of(alloc, players, scope, names, all)
 }
 
@@ -110,7 +113,7 @@ fn type_at(version: Version, path: &Path, value: &Value) -> Result<EventType, Re
 }
 
 /// A type of events. A pause is one from version 3 on, a stall of the store from version 4 on.
-fn type_of(version: Version, text: &str) -> Option<EventType>
+pub fn type_of(version: Version, text: &str) -> Option<EventType>
     ensures { result ≡ walk.type_of version text.now }
 {
     if text == "rate" {

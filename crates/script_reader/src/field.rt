@@ -256,19 +256,14 @@ pub fn name_number_at(
     number(names, text)
 }
 
-/// A name under a key, or the default.
+/// The name of a namespace: `default` if none is given.
 #[tactic(auto, unfolding(crate::specs::Fields::name_at))]
-pub(crate) fn name_at<'v>(
-    default: &'v str,
-    path: &Path,
-    key: &str,
-    object: &'v Value,
-) -> Result<&'v str, ReadFault>
+pub(crate) fn namespace_at<'v>(path: &Path, object: &'v Value) -> Result<&'v str, ReadFault>
     ensures { Gives (λ text. text.now) result
-        (spec.name_at default.now path.now key.now (view object.now)) }
+        (spec.name_at (codes "default") path.now (codes "namespace") (view object.now)) }
 {
-    let text = text_at(default, path, key, object)?;
-    if_name(path, key, text)
+    let text = text_at("default", path, "namespace", object)?;
+    if_name(path, "namespace", text)
 }
 
 fn if_name<'v>(path: &Path, key: &str, text: &'v str) -> Result<&'v str, ReadFault>
@@ -281,7 +276,7 @@ fn if_name<'v>(path: &Path, key: &str, text: &'v str) -> Result<&'v str, ReadFau
     }
 }
 
-/// The status that a kubelet posts: True where none is given.
+/// The status that a kubelet posts: True if none is given.
 #[tactic(auto, unfolding(crate::specs::Fields::posted_at))]
 pub(crate) fn status_at(path: &Path, key: &str, object: &Value) -> Result<ReadyStatus, ReadFault>
     ensures { Gives (λ status. status) result
@@ -317,7 +312,7 @@ fn status_of(text: &str) -> Option<ReadyStatus>
     }
 }
 
-/// The name of a rate policy: `standard` where none is given.
+/// The name of a rate policy: `standard` if none is given.
 #[tactic(auto, unfolding(crate::specs::Fields::policy_at))]
 pub(crate) fn policy_at(path: &Path, key: &str, object: &Value) -> Result<RatePolicy, ReadFault>
     ensures { Gives (λ policy. policy) result

@@ -70,7 +70,7 @@ pub fn rates_of(document: &Document, controller: usize) -> ClockRates
     )
 }
 
-/// Of a controller's two longest pauses one more than the beats of each, or nothing where there is none.
+/// Of a controller's two longest pauses one more than the beats of each, or nothing if there is none.
 #[derive(Clone, Copy, Debug)]
 pub struct LongestPauses {
     pub longest: u64,
@@ -174,7 +174,7 @@ fn least_seconds(document: &Document) -> u32
     least
 }
 
-/// The seconds for which others wait for a controller's lease: its own, or, where each goes by its own, at least the least of all. Takes
+/// The seconds for which others wait for a controller's lease: its own, or, if each goes by its own, at least the least of all. Takes
 /// no memory.
 pub fn waited_seconds(document: &Document, controller: usize) -> u32
     requires { controller < length document.now.controllers }

@@ -1,16 +1,18 @@
 // Controllers and kubelets.
 ghost use Rattle.std.specs.Prelude.{◌≡◌, ◌≤◌, [], codes, false, length, IfOk};
+ghost use Rattle.serde_json.specs.Find.{get};
 ghost use Rattle.serde_json.specs.View.{view, items_view};
 ghost use Rattle.manifest_json.specs.Faults.{Gives};
 ghost use Rattle.manifest_json.specs.Walk.{member_path};
 ghost use Rattle.script_reader.specs.Cast.{Stands};
+ghost use Rattle.script_reader.specs.Fields as fields;
 ghost use Rattle.script_reader.specs.Walk as walk;
 
 use crate::cast::{Named, Team};
 use crate::choice::Preset;
 use crate::field::{
-    array_in, fault_under, flag_at, member_of, name_number_at, not_empty, path_of, signed_at,
-    status_at, whole_at,
+    array_in, fault_at, fault_under, flag_at, member_of, name_number_at, not_empty, path_of,
+    signed_at, status_at, whole_at,
 };
 use crate::limits::kubelet_limit;
 use crate::parts::{Clock, Timings};
@@ -19,7 +21,7 @@ use crate::table::{Table, Version, object_in};
 use crate::waits::waits_at;
 use kube_base::Names;
 use kube_objects::{NumberList, Proc, ReadyStatus, Settings, WaitLists};
-use manifest_json::codes::{BAD_SETTINGS, DUPLICATE};
+use manifest_json::codes::{BAD_SETTINGS, DUPLICATE, MISSING_KEY};
 use manifest_json::fault::fault;
 use manifest_json::{Path, ReadFault};
 use serde_json::Value;
@@ -46,22 +48,26 @@ fn clock_at(path: &Path, value: &Value) -> Result<Clock, ReadFault>
     })
 }
 
-/// One to 16 controllers.
+/// The document's controllers, one to 16.
 #[tactic(auto, unfolding(crate::specs::Walk::controllers_in))]
-pub(crate) fn controllers_in(
+pub(crate) fn controllers_at(
     alloc: Global,
     version: Version,
     settings: &Settings,
     preset: Preset,
     names: &mut Names,
-    value: &Value,
+    document: &Value,
 ) -> Result<Team, ReadFault>
     ensures gives { Gives (λ team. ((team.named.procs, team.waits), names.new)) result
-        (walk.controllers_in version settings.now preset names.old (view value.now)) }
+        (fields.required (codes "/controllers") (walk.controllers_in version settings.now preset names.old)
+        (get (codes "controllers") (view document.now))) }
     ensures stands { IfOk result (λ team. Stands team.named) }
 {
+    let Some(found) = document.get("controllers") else {
+        return Err(fault_at(alloc, MISSING_KEY, "/controllers"));
+    };
     let path = path_of(alloc, "/controllers")?;
-    let all = array_in(16, &path, value)?;
+    let all = array_in(16, &path, found)?;
     let some = not_empty(&path, all)?;
     controllers_of(alloc, version, settings, preset, names, some)
 }
@@ -167,21 +173,24 @@ fn proc_of(name: u32, clock: Clock, watch: bool, ready: ReadyStatus, timings: Ti
     }
 }
 
-/// No more kubelets than the version allows.
+/// The document's kubelets, no more than the version allows.
 #[tactic(auto, unfolding(crate::specs::Walk::kubelets_in))]
-pub(crate) fn kubelets_in(
+pub(crate) fn kubelets_at(
     alloc: Global,
     version: Version,
     settings: &Settings,
     names: &mut Names,
-    value: &Value,
+    document: &Value,
 ) -> Result<Named, ReadFault>
     ensures gives { Gives (λ named. (named.procs, names.new)) result
-        (walk.kubelets_in version settings.now names.old (view value.now)) }
+        (fields.default_of ([], names.old) (walk.kubelets_in version settings.now names.old) (get (codes "kubelets") (view document.now))) }
     ensures stands { IfOk result Stands }
 {
+    let Some(found) = document.get("kubelets") else {
+        return Ok(Named::new(alloc));
+    };
     let path = path_of(alloc, "/kubelets")?;
-    let all = array_in(kubelet_limit(version), &path, value)?;
+    let all = array_in(kubelet_limit(version), &path, found)?;
     kubelets_of(alloc, settings, names, all)
 }
 

@@ -1,10 +1,9 @@
 // The document in bytes.
-ghost use Rattle.std.specs.Prelude.{◌≡◌, ◌≤◌, ◌<◌, ◌^◌, [], codes, length, IfOk};
+ghost use Rattle.std.specs.Prelude.{◌≡◌, ◌≤◌, codes, length, IfOk};
 ghost use Rattle.serde_json.specs.Find.{get};
 ghost use Rattle.serde_json.specs.View.{view};
 ghost use Rattle.manifest_json.specs.Faults.{Gives};
 ghost use Rattle.manifest_json.specs.Kept as kept;
-ghost use Rattle.script_reader.specs.Cast.{Stands, AreNamed, seen};
 ghost use Rattle.script_reader.specs.Fields as fields;
 ghost use Rattle.script_reader.specs.Limits as limits;
 ghost use Rattle.script_reader.specs.SetParts.{listed_objects};
@@ -13,18 +12,18 @@ ghost use Rattle.script_reader.specs.Walk as walk;
 ghost use Rattle.script_reader.specs.Walk.{document_walk};
 
 use crate::Document;
-use crate::cast::{Named, Players, Team};
+use crate::cast::{Players, Team};
 use crate::choice::Preset;
-use crate::event::events_in;
+use crate::event::events_at;
 use crate::field::{fault_at, object_at, path_of};
 use crate::limits::scale_of;
 use crate::parts::Scope;
-use crate::process::{controllers_in, kubelets_in};
+use crate::process::{controllers_at, kubelets_at};
 use crate::sets::sets_in;
 use crate::settings::settings_at;
 use crate::table::{Table, Version, known_in};
 use kube_base::{NameHash, Names};
-use kube_objects::{Events, Items, Settings};
+use kube_objects::{Items, Settings};
 use manifest_json::codes::{BAD_JSON, MISSING_KEY, TOP_SHAPE, WRONG_TYPE};
 use manifest_json::{Kept, Listed, Objects, ReadFault, read_kept};
 use serde_json::Value;
@@ -64,8 +63,8 @@ pub fn document_of(alloc: Global, hash: NameHash, value: &Value) -> Result<Docum
     let version = version(alloc, value)?;
     let given = settings(alloc, version, value)?;
     let mut names = Names::keyed(alloc, hash)?;
-    let team = controllers(alloc, version, &given.0, given.1, &mut names, value)?;
-    let kubelets = kubelets(alloc, version, &given.0, &mut names, value)?;
+    let team = controllers_at(alloc, version, &given.0, given.1, &mut names, value)?;
+    let kubelets = kubelets_at(alloc, version, &given.0, &mut names, value)?;
     let objects = objects_at(alloc, version, &mut names, team.named.known(), value)?;
     let Team { named, waits } = team;
     let players = Players {
@@ -76,7 +75,7 @@ pub fn document_of(alloc: Global, hash: NameHash, value: &Value) -> Result<Docum
         version,
         end: given.0.end_beat,
     };
-    let events = events(alloc, &players, scope, &mut names, value)?;
+    let events = events_at(alloc, &players, scope, &mut names, value)?;
     let Players {
         controllers,
         kubelets,
@@ -158,58 +157,11 @@ fn settings(alloc: Global, version: Version, value: &Value) -> Result<(Settings,
     ensures { Gives (λ found. found) result
         (fields.required (codes "/settings") (walk.settings_at version (codes "/settings")) (get (codes "settings") (view value.now))) }
 {
-    match value.get("settings") {
-        Some(found) => settings_in(alloc, version, found),
-        None => Err(fault_at(alloc, MISSING_KEY, "/settings")),
-    }
-}
-
-fn settings_in(
-    alloc: Global,
-    version: Version,
-    found: &Value,
-) -> Result<(Settings, Preset), ReadFault>
-    ensures { Gives (λ found. found) result
-        (walk.settings_at version (codes "/settings") (view found.now)) }
-{
+    let Some(found) = value.get("settings") else {
+        return Err(fault_at(alloc, MISSING_KEY, "/settings"));
+    };
     let path = path_of(alloc, "/settings")?;
     settings_at(version, &path, found)
-}
-
-fn controllers(
-    alloc: Global,
-    version: Version,
-    settings: &Settings,
-    preset: Preset,
-    names: &mut Names,
-    value: &Value,
-) -> Result<Team, ReadFault>
-    ensures gives { Gives (λ team. ((team.named.procs, team.waits), names.new)) result
-        (fields.required (codes "/controllers") (walk.controllers_in version settings.now preset names.old)
-        (get (codes "controllers") (view value.now))) }
-    ensures stands { IfOk result (λ team. Stands team.named) }
-{
-    match value.get("controllers") {
-        Some(found) => controllers_in(alloc, version, settings, preset, names, found),
-        None => Err(fault_at(alloc, MISSING_KEY, "/controllers")),
-    }
-}
-
-fn kubelets(
-    alloc: Global,
-    version: Version,
-    settings: &Settings,
-    names: &mut Names,
-    value: &Value,
-) -> Result<Named, ReadFault>
-    ensures gives { Gives (λ named. (named.procs, names.new)) result
-        (fields.default_of ([], names.old) (walk.kubelets_in version settings.now names.old) (get (codes "kubelets") (view value.now))) }
-    ensures stands { IfOk result Stands }
-{
-    match value.get("kubelets") {
-        Some(found) => kubelets_in(alloc, version, settings, names, found),
-        None => Ok(Named::new(alloc)),
-    }
 }
 
 /// The objects, with the Pods of the sets behind them.
@@ -234,6 +186,7 @@ fn objects_at(
     })
 }
 
+#[tactic(auto, unfolding(crate::specs::Walk::objects_in))]
 fn listed(
     alloc: Global,
     version: Version,
@@ -247,29 +200,12 @@ fn listed(
     ensures stands { IfOk result (λ listed. kept.Stands listed.kept) }
     ensures scale { IfOk result (λ listed. listed.kept.scale ≡ limits.scale_of version) }
 {
-    match value.get("objects") {
-        Some(found) => objects_in(alloc, version, names, known, found),
-        None => Ok(Listed {
+    let Some(found) = value.get("objects") else {
+        return Ok(Listed {
             kept: Kept::new(alloc, scale_of(version)),
             skipped: 0,
-        }),
-    }
-}
-
-#[tactic(auto, unfolding(crate::specs::Walk::objects_in))]
-fn objects_in(
-    alloc: Global,
-    version: Version,
-    names: &mut Names,
-    known: &[u32],
-    found: &Value,
-) -> Result<Listed, ReadFault>
-    requires { length known.now ≤ 15000 }
-    ensures gives { Gives (λ listed. (listed_objects listed, names.new)) result
-        (walk.objects_in version names.old known.now (view found.now)) }
-    ensures stands { IfOk result (λ listed. kept.Stands listed.kept) }
-    ensures scale { IfOk result (λ listed. listed.kept.scale ≡ limits.scale_of version) }
-{
+        });
+    };
     let path = path_of(alloc, "/objects")?;
     let listed = read_kept(alloc, scale_of(version), names, known, found, &path)?;
     Ok(listed)
@@ -290,22 +226,5 @@ fn sets(
     match value.get("podSets") {
         Some(found) => sets_in(alloc, names, objects, found),
         None => Ok(()),
-    }
-}
-
-fn events(
-    alloc: Global,
-    players: &Players,
-    scope: Scope,
-    names: &mut Names,
-    value: &Value,
-) -> Result<Events, ReadFault>
-    requires { AreNamed players.now }
-    ensures { Gives (λ events. (events, names.new)) result
-        (fields.default_of ([], names.old) (walk.events_in scope (seen players.now) names.old) (get (codes "events") (view value.now))) }
-{
-    match value.get("events") {
-        Some(found) => events_in(alloc, players, scope, names, found),
-        None => Ok(Events::new(alloc)),
     }
 }

@@ -60,26 +60,18 @@ fn upstream_120() -> Rules
     }
 }
 
-/// The rules of Kubernetes 1.36.
+/// The rules of Kubernetes 1.36: those of 1.20 but for six.
 fn upstream_136() -> Rules
     ensures { result ≡ spec.upstream_136 }
 {
     Rules {
         retries: RetryRule::Ticks,
         respect: RespectRule::Record,
-        first_sync_millis: 700,
-        probe: ProbeRule::Record,
-        judge: JudgeRule::Pass,
-        first_sight: SightRule::Strip,
-        queue: QueueRule::Again,
-        bucket: BucketRule::Full,
-        evict_from: EvictRule::Seen,
         evict_burst: 15,
         evict_rate: 10_000,
         release: ReleaseRule::Reread,
         in_release: ReleaseActing::Acts,
-        ready_millis: 100,
-        ready_burst: 15,
+        ..upstream_120()
     }
 }
 

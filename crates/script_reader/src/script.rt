@@ -62,17 +62,8 @@ impl Script {
     {
         match what {
             What::Pause(id, _) => self.pauses_up_to(*id, beat),
-            What::Rate(_, _) => false,
-            What::Delay(_, _, _) => false,
-            What::Loss(_, _, _) => false,
-            What::Crash(_) => false,
-            What::Start(_) => false,
-            What::Stop(_) => false,
-            What::Watch(_, _) => false,
-            What::Ready(_, _) => false,
             What::Stall(_) => self.stalls_up_to(beat),
-            What::Put(_, _) => false,
-            What::Remove(_) => false,
+            _ => false,
         }
     }
 

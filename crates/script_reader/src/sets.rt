@@ -1,5 +1,5 @@
 // Sets of pods that are alike.
-ghost use Rattle.std.specs.Prelude.{◌≡◌, ◌≤◌, ◌++◌, [], codes, length, replicate, string_bytes, IfOk, OnOk};
+ghost use Rattle.std.specs.Prelude.{◌≡◌, ◌≤◌, ◌++◌, [], codes, length, replicate, string_bytes, IfOk, IfSome, OnOk};
 ghost use Rattle.serde_json.specs.View.{view, items_view};
 ghost use Rattle.manifest_json.specs.Faults.{Gives};
 ghost use Rattle.manifest_json.specs.Kept.{Stands};
@@ -9,8 +9,8 @@ ghost use Rattle.script_reader.specs.Sets as spec;
 ghost use Rattle.script_reader.specs.SetParts.{AreCounted, alike};
 
 use crate::field::{
-    array_in, fault_under, member_of, name_at, needed_name, needed_whole, not_empty, object_at,
-    path_of,
+    array_in, fault_under, member_of, namespace_at, needed_name, needed_whole, not_empty,
+    object_at, path_of,
 };
 use crate::parts::Share;
 use crate::table::{Table, known_in};
@@ -19,9 +19,12 @@ use kube_base::{ListOf, Names, NoMemory};
 use kube_objects::{Key, Kind, NumberList, Object, Pod, Tolerations};
 use manifest_json::codes::{MISSING_KEY, OUT_OF_RANGE, TOO_MANY, WRONG_TYPE};
 use manifest_json::fault::fault;
-use manifest_json::{Kept, Path, ReadFault, number, read_tolerations};
+use manifest_json::{Kept, Path, ReadFault, is_name, number, number_given, read_tolerations};
 use serde_json::Value;
 use std::alloc::Global;
+
+/// As many Pods as any document may have.
+const MOST_PODS: usize = 450_000;
 
 /// The members of `on`, and how many pods they have together.
 #[derive(Drop)]
@@ -52,7 +55,39 @@ pub(crate) fn sets_in(
 {
     let path = path_of(alloc, "/podSets")?;
     let all = array_in(100_000, &path, value)?;
+    names.make_room(pods_about(all))?;
     sets_of(alloc, names, kept, all)
+}
+
+/// How many pods the sets say, for which room is made at once, and at most as many as a document may have. What has a fault doesn't count.
+fn pods_about(sets: &[Value]) -> usize {
+    let mut pods: usize = 0;
+    for set in sets {
+        if let Some(members) = members_of(set) {
+            for member in members {
+                pods = pods.saturating_add(share_about(member)).min(MOST_PODS);
+            }
+        }
+    }
+    pods
+}
+
+fn members_of(set: &Value) -> Option<&[Value]> {
+    let members = set.get("on")?.as_array()?;
+    Some(members.as_slice())
+}
+
+/// The last of a member's keys is how many pods are on its node.
+fn share_about(member: &Value) -> usize {
+    match pods_in(member) {
+        Some(pods) => pods.min(MOST_PODS as u64) as usize,
+        None => 0,
+    }
+}
+
+fn pods_in(member: &Value) -> Option<u64> {
+    let (_, pods) = member.as_object()?.last_key_value()?;
+    pods.as_u64()
 }
 
 fn sets_of(
@@ -108,7 +143,7 @@ fn set_at(
 {
     object_at(WRONG_TYPE, path, value)?;
     known_in(Table::PodSet, path, value)?;
-    let text = name_at("default", path, "namespace", value)?;
+    let text = namespace_at(path, value)?;
     let space = number(names, text)?;
     let name = set_name_at(path, value)?;
     let tolerations = read_tolerations(alloc, names, path, value)?;
@@ -206,8 +241,38 @@ fn share_in(names: &mut Names, path: &Path, place: usize, value: &Value) -> Resu
     ensures { Gives (λ share. (share, names.new)) result
         (spec.share_at names.old (member_path path.now (codes "/") place) (view value.now)) }
 {
-    let here = path.member("/", place)?;
-    share_at(names, &here, value)
+    match plain_share(value) {
+        Some((text, pods)) => {
+            let node = number(names, text)?;
+            Ok(Share { node, pods })
+        }
+        None => {
+            let here = path.member("/", place)?;
+            share_at(names, &here, value)
+        }
+    }
+}
+
+/// The node and the pods of a member without a fault, told with no path: of one that has both keys and no more, a name and a number in range.
+fn plain_share(value: &Value) -> Option<(&str, u32)>
+    ensures { IfSome result (λ share. spec.IsPlainShare (view value.now) share.0.now share.1) }
+{
+    let members = value.as_object()?;
+    let (first, node) = members.first_key_value()?;
+    let (last, pods) = members.last_key_value()?;
+    let text = node.as_str()?;
+    let pods = pods.as_u64()?;
+    if members.len() == 2
+        && first.as_str() == "node"
+        && last.as_str() == "pods"
+        && is_name(text)
+        && 1 <= pods
+        && pods <= 100_000
+    {
+        Some((text, pods as u32))
+    } else {
+        None
+    }
 }
 
 #[tactic(auto, unfolding(crate::specs::Sets::share_at))]
@@ -299,7 +364,7 @@ fn pod_onto(
     ensures scale { kept.new.scale ≡ kept.old.scale }
 {
     let text = pod_name(alloc, pattern.name.as_str(), j)?;
-    let name = number(names, text.as_str())?;
+    let name = number_given(names, text)?;
     let key = Key {
         kind: Kind::Pod,
         space: pattern.space,
@@ -320,8 +385,10 @@ fn pod_name(alloc: Global, name: &str, j: usize) -> Result<String, NoMemory>
     ensures { IfOk result (λ text. string_bytes text ≡ spec.pod_name name.now j) }
 {
     let mut digits = Buffer::new();
-    let mut text = String::from_str(alloc, name)?;
+    let digits = digits.format(j);
+    let mut text = String::with_capacity(alloc, name.len() + 1 + digits.len())?;
+    text.push_str(name)?;
     text.push_str("-")?;
-    text.push_str(digits.format(j))?;
+    text.push_str(digits)?;
     Ok(text)
 }

@@ -1,5 +1,5 @@
 // The tables of a document: its versions, the types of its events, and the keys of its objects.
-ghost use Rattle.std.specs.Prelude.{◌≡◌};
+ghost use Rattle.std.specs.Prelude.{◌≡◌, ℕ, Bool, List};
 ghost use Rattle.serde_json.specs.Find.{as_object};
 ghost use Rattle.serde_json.specs.View.{view, members_view};
 ghost use Rattle.manifest_json.specs.Faults.{Gives};
@@ -53,6 +53,32 @@ pub enum Table {
     Event(EventType),
 }
 
+/// The tables of some input's objects.
+pub trait Keys: Copy {
+    /// Whether an object of this table may have this key.
+    ghost is_key: { Self → List ℕ → Bool };
+
+    /// Whether an object of this table may have this key.
+    fn has_key(self, key: &str) -> bool
+        ensures { result ≡ is_key self key.now };
+}
+
+impl Keys for Table {
+    ghost is_key = { spec.is_key_of };
+
+    fn has_key(self, key: &str) -> bool {
+        match self {
+            Table::Top(sets) => is_top_key(sets, key),
+            Table::Settings(version) => is_settings_key(version, key),
+            Table::Controller(version) => is_controller_key(version, key),
+            Table::Kubelet => is_kubelet_key(key),
+            Table::PodSet => is_set_key(key),
+            Table::Share => key == "node" || key == "pods",
+            Table::Event(kind) => key == "beat" || key == "type" || is_type_key(kind, key),
+        }
+    }
+}
+
 /// The value is an object with no key that its table doesn't have.
 #[tactic(auto, unfolding(crate::specs::Walk::object_in))]
 pub(crate) fn object_in(table: Table, path: &Path, value: &Value) -> Result<(), ReadFault>
@@ -63,8 +89,8 @@ pub(crate) fn object_in(table: Table, path: &Path, value: &Value) -> Result<(), 
 }
 
 /// The value has no key that its table doesn't have.
-pub(crate) fn known_in(table: Table, path: &Path, value: &Value) -> Result<(), ReadFault>
-    ensures { Gives (λ _. view value.now) result (spec.known_in table path.now (view value.now)) }
+pub fn known_in<K: Keys>(table: K, path: &Path, value: &Value) -> Result<(), ReadFault>
+    ensures { Gives (λ _. view value.now) result (spec.known_by (K.is_key table) path.now (view value.now)) }
 {
     if knows_members(table, value) {
         Ok(())
@@ -73,8 +99,8 @@ pub(crate) fn known_in(table: Table, path: &Path, value: &Value) -> Result<(), R
     }
 }
 
-fn knows_members(table: Table, value: &Value) -> bool
-    ensures { result ≡ spec.knows_members table (as_object (view value.now)) }
+fn knows_members<K: Keys>(table: K, value: &Value) -> bool
+    ensures { result ≡ spec.knows_members (K.is_key table) (as_object (view value.now)) }
 {
     match value.as_object() {
         Some(members) => all_known(table, members),
@@ -82,29 +108,15 @@ fn knows_members(table: Table, value: &Value) -> bool
     }
 }
 
-fn all_known(table: Table, members: &Map<String, Value>) -> bool
-    ensures { result ≡ spec.all_known table (members_view members.now.entries) }
+fn all_known<K: Keys>(table: K, members: &Map<String, Value>) -> bool
+    ensures { result ≡ spec.all_known (K.is_key table) (members_view members.now.entries) }
 {
     for (key, _) in members {
-        if !is_key_of(table, key.as_str()) {
+        if !table.has_key(key.as_str()) {
             return false;
         }
     }
     true
-}
-
-fn is_key_of(table: Table, key: &str) -> bool
-    ensures { result ≡ spec.is_key_of table key.now }
-{
-    match table {
-        Table::Top(sets) => is_top_key(sets, key),
-        Table::Settings(version) => is_settings_key(version, key),
-        Table::Controller(version) => is_controller_key(version, key),
-        Table::Kubelet => is_kubelet_key(key),
-        Table::PodSet => is_set_key(key),
-        Table::Share => key == "node" || key == "pods",
-        Table::Event(kind) => key == "beat" || key == "type" || is_type_key(kind, key),
-    }
 }
 
 /// Whether the version is 2 or a later one.
@@ -131,7 +143,7 @@ pub(crate) fn is_from_three(version: Version) -> bool
     }
 }
 
-pub(crate) fn is_four(version: Version) -> bool
+pub fn is_four(version: Version) -> bool
     ensures { result ≡ spec.is_four version }
 {
     match version {

@@ -10,8 +10,8 @@ ghost use Rattle.script_reader.specs.Walk as walk;
 
 use crate::cast::{Players, Sort, find_process};
 use crate::field::{
-    fault_under, name_at, name_number_at, needed_flag, needed_status, needed_text, needed_whole,
-    or_refuse,
+    fault_under, name_number_at, namespace_at, needed_flag, needed_status, needed_text,
+    needed_whole, or_refuse,
 };
 use crate::table::EventType;
 use kube_base::{Names, ProcId};
@@ -184,7 +184,7 @@ fn remove_at(names: &mut Names, path: &Path, value: &Value) -> Result<What, Read
         (walk.remove_at names.old path.now (view value.now)) }
 {
     let kind = kind_at(path, value)?;
-    let text = name_at("default", path, "namespace", value)?;
+    let text = namespace_at(path, value)?;
     let space = space_of(names, kind, text)?;
     let name = name_number_at(names, path, "name", value)?;
     Ok(What::Remove(Key { kind, space, name }))

@@ -1,10 +1,10 @@
 -- In a calm whose leaders renew in time, it isn't so that no steady controller has a success by the bound.
 use Rattle.std.specs.Int.{div_ceil}
-use Rattle.std.proofs.Common.{◌≡◌, ◌<◌, ◌≤◌, ℕ, suc, ◌+◌, ◌-◌, ◌*◌, ◌/◌, max, true, false, List, ◌∷◌, Option, Some, None, refl, sym, ap, ◌∙◌, subst, ⊎_elim, arith}
+use Rattle.std.proofs.Common.{◌≡◌, ◌<◌, ◌≤◌, ℕ, suc, ◌+◌, ◌-◌, ◌*◌, max, true, false, List, ◌∷◌, Option, Some, None, refl, sym, ap, ◌∙◌, subst, ⊎_elim, arith}
 use Rattle.std.proofs.lemmas.Bool.{eq-eqb, cases_lt}
-use Rattle.kube_objects.specs.Document.{Doc, processes, end_beat, is_controller, call_timeout, retry_period, renew_deadline}
+use Rattle.kube_objects.specs.Document.{Doc, processes, end_beat, is_controller, retry_period, renew_deadline}
 use Rattle.kube_objects.specs.Elector.{leads}
-use Rattle.kube_objects.specs.Entry.{Entry, Identity, Fact, First, Event, Starts, Stops, Sends, Answers, Delivers, Expires, Leads, Ends, Crashes, Stalls, Ticks, actor_of, StepsDown, ReleaseBegins, ReleaseEnds, ReleaseStops}
+use Rattle.kube_objects.specs.Entry.{Entry, Identity, Fact, Answers, actor_of}
 use Rattle.kube_objects.specs.Identities.{identity, of_process}
 use Rattle.kube_objects.specs.Newest.{when, has}
 use Rattle.kube_objects.specs.Clocks.{local}
@@ -18,7 +18,6 @@ use Rattle.history.specs.Sound.{IsSound}
 use Rattle.history_laws.specs.Tails.{IsTail}
 use Rattle.history_laws.proofs.Plainly.{true_is}
 use Rattle.history_laws.proofs.Tailed.{tail_all, tail_trans, in_tail, later_tail, turn_tail, before_turn}
-use Rattle.takeover_laws.specs.Waits.{longest_wait, shortest_wait}
 use Rattle.span_laws.specs.Looks.{IsGreatest}
 use Rattle.span_laws.specs.Quotients.{most_beats}
 use Rattle.span_laws.specs.Spans.{IsEnough}
@@ -31,8 +30,8 @@ use Rattle.takeover_laws.specs.Calm.{IsSteady, IsQuiet, IsCalm, IsInTime, Writes
 use Rattle.takeover_laws.proofs.Standing.{controllers_first, persists}
 use Rattle.takeover_laws.proofs.Writers.{writer_acts}
 use Rattle.calm_laws.specs.Bounds.{early_record, LastsFor, IsCandidate, AreBeats}
-use Rattle.calm_laws.proofs.Bounded.{events_low, next_multiple, no_candidate}
-use Rattle.calm_laws.proofs.Kept.{IsKept}
+use Rattle.calm_laws.proofs.Bounded.{events_low, no_candidate, lost_in, wait_in, needed_in, in_beats}
+use Rattle.takeover_laws.proofs.Taking.{IsKept}
 use Rattle.calm_laws.proofs.Looks.{object_of}
 use Rattle.stay_laws.specs.Stays.{Stays}
 use Rattle.stay_laws.proofs.Staying.{leaders_stay}
@@ -45,22 +44,7 @@ use Rattle.settle_laws.proofs.Writing.{kept, lasts}
 -- a write by a call that was sent at a beat or later is one by a call since an earlier beat
 writes_since : (a b : ℕ) (d : Fact) → a ≤ b → WritesElection b d → WritesElection a d
 writes_since a b (Answers call reply comes wrote) le writes = let from = writes.0 in (omega (arith, le, from), writes.1)
-writes_since a b (First key object) le writes = absurd writes
-writes_since a b (Event w version) le writes = absurd writes
-writes_since a b (Sends call arrives) le writes = absurd writes
-writes_since a b (Delivers call reply counted) le writes = absurd writes
-writes_since a b (Expires call) le writes = absurd writes
-writes_since a b (Ticks t) le writes = absurd writes
-writes_since a b Starts le writes = absurd writes
-writes_since a b Crashes le writes = absurd writes
-writes_since a b Stops le writes = absurd writes
-writes_since a b (Stalls beats) le writes = absurd writes
-writes_since a b StepsDown le writes = absurd writes
-writes_since a b (ReleaseBegins at_deadline) le writes = absurd writes
-writes_since a b ReleaseEnds le writes = absurd writes
-writes_since a b ReleaseStops le writes = absurd writes
-writes_since a b Ends le writes = absurd writes
-writes_since a b (Leads version) le writes = absurd writes
+writes_since a b d le writes = absurd writes
 
 -- who stays from a beat on stays from a later one on
 stays_later : (doc : Doc) (q : Identity) (j n e : ℕ) → j ≤ n → Stays doc q j e → Stays doc q n e
@@ -230,34 +214,25 @@ calm_spans_settle doc near far a e sound rules calm time one ways end renewed ol
 pub settling_is_told : SettlingIsTold
 settling_is_told doc near far a e sound rules calm time one ways end renewed old ends p later slow fast c some_slow some_fast after most_lasts early all within =
     subst (IsSettled doc near far a e) sum
-    (calm_spans_settle doc near far a e sound rules calm time one ways end renewed old in_beats p later slow fast lost wait needed c
-    (record { lost_is = next_multiple (call_timeout doc p) slow some_slow; wait_is = (rounded_is slow (longest_wait doc p) some_slow).0; needed_is = (rounded_is fast (shortest_wait doc p) some_fast).1 })
-    after first (omega arith) (omega arith) (omega arith) most_lasts enough most early all (rounded_is slow most_lasts some_slow).0 ((bounds_are_exact (needed + 2 * near) (wait + 2 * far) enough).0 some_step).1 (omega (arith, sum, within)))
+    (calm_spans_settle doc near far a e sound rules calm time one ways end renewed old old_in_beats p later slow fast (lost_in doc p slow) (wait_in doc p slow) (needed_in doc p fast) c
+    (in_beats doc p slow fast some_slow some_fast)
+    after first (omega arith) (omega arith) (omega arith) most_lasts enough most early all (rounded_is slow most_lasts some_slow).0 ((bounds_are_exact (needed_in doc p fast + 2 * near) (wait_in doc p slow + 2 * far) enough).0 some_step).1 (omega (arith, sum, within)))
   where
-    in_beats : AllEndBy doc near far a e old
-    in_beats q role s =
+    old_in_beats : AllEndBy doc near far a e old
+    old_in_beats q role s =
         let b : EndsInBeats doc far a e old q = ends q role s in
         record { slow = b.slow; beats = div_ceil (retry_period doc q + renew_deadline doc q) b.slow; runs = b.runs; beats_is = (rounded_is b.slow (retry_period doc q + renew_deadline doc q) b.some).0; in_old = b.in_old }
-
-    lost : ℕ
-    lost = call_timeout doc p / slow
-
-    wait : ℕ
-    wait = div_ceil (longest_wait doc p) slow
-
-    needed : ℕ
-    needed = div_ceil (shortest_wait doc p) fast
 
     enough : ℕ
     enough = div_ceil most_lasts slow
 
     first : ℕ
-    first = max later (max lost (old + 4 * far - 1) + wait)
+    first = max later (max (lost_in doc p slow) (old + 4 * far - 1) + wait_in doc p slow)
 
     most : ℕ
-    most = most_beats (needed + 2 * near) (wait + 2 * far) enough
+    most = most_beats (needed_in doc p fast + 2 * near) (wait_in doc p slow + 2 * far) enough
 
-    some_step : 1 ≤ needed + 2 * near
+    some_step : 1 ≤ needed_in doc p fast + 2 * near
     some_step = omega (arith, one)
 
     sum : a + first + most + 4 * far ≡ a + settle_bound doc near far p later slow fast old most_lasts

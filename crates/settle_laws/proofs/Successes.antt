@@ -3,14 +3,14 @@ use Rattle.std.proofs.Common.{◌≡◌, ◌<◌, ◌≤◌, ℕ, suc, ◌+◌, 
 use Rattle.std.proofs.lemmas.Bool.{cases_lt}
 use Rattle.kube_base.specs.declared.numbers.Version.{Version}
 use Rattle.kube_objects.specs.declared.call.Reply.{Reply}
-use Rattle.kube_objects.specs.declared.call.Reply.TheVariants.{Found, Done, Absent, Exists, Conflict, Unchanged}
+use Rattle.kube_objects.specs.declared.call.Reply.TheVariants.{Done}
 use Rattle.kube_objects.specs.declared.call.Request.{Request}
 use Rattle.kube_objects.specs.declared.call.Request.TheVariants.{Get, Create, Update, PostStatus}
 use Rattle.kube_objects.specs.declared.key.Key.{Key}
 use Rattle.kube_objects.specs.Answers.{written}
 use Rattle.kube_objects.specs.Document.{Doc, processes, end_beat, is_controller}
-use Rattle.kube_objects.specs.Elector.{Moment, Succeeds, follow_write, follow, succeeds}
-use Rattle.kube_objects.specs.Entry.{Entry, Identity, Call, CallKind, Plain, Fast, Release, Sends, Answers, Delivers, actor_of, Look, Emptying}
+use Rattle.kube_objects.specs.Elector.{Moment, Succeeds, follow_write, follow, succeeds, not_done}
+use Rattle.kube_objects.specs.Entry.{Entry, Identity, Call, CallKind, Fast, Sends, Answers, Delivers, actor_of}
 use Rattle.kube_objects.specs.Keys.{key_eq}
 use Rattle.kube_objects.specs.Own.{ReleasesByStop}
 use Rattle.kube_objects.specs.Stored.{election, key_of}
@@ -41,7 +41,7 @@ high_of doc = greatest_below doc (length doc.controllers)
 pub asked_of : (doc : Doc) → IsSound doc → ReleasesByStop doc → (n : ℕ) → n ≤ end_beat doc → (q : Identity) → is_controller doc q.process ≡ true → (f : Entry) (T : List Entry) (call : Call) (arrives : Option ℕ) → IsTail (f ∷ T) (history doc (suc n))
     → f.actor ≡ actor_of q → f.fact ≡ Sends call arrives → Asked doc (high_of doc) (view (history doc (suc n))) q call.sent call.kind call.request
 asked_of doc sound rules n end q role f T call arrives at actor fact =
-    let right = (turn_right doc (high_of doc) (rates_at_most doc) (bears_own doc (high_of doc) rules) sound (processes doc) n end).entries f (in_head f T (history doc (suc n)) at) in
+    let right = (turn_right doc (high_of doc) (rates_at_most doc) (bears_own doc (high_of doc) rules) sound (processes doc) n end).core.entries f (in_head f T (history doc (suc n)) at) in
     let sent : SentRight doc (high_of doc) n (view (history doc (suc n))) (record { who = q; call = call; arrives = arrives }) =
     subst (λ o. IfSome o (SentRight doc (high_of doc) n (view (history doc (suc n))))) (sent_is f q call arrives actor fact) right.0 in
     sent.may.controller role
@@ -50,11 +50,7 @@ asked_of doc sound rules n end q role f T call arrives at actor fact =
 
 reply_done : (reply : Reply) (key : Key) (lease : _) → succeeds (Create key lease) reply ≡ true → (version : Version) × (reply ≡ Done version)
 reply_done (Done version) key lease is = (version, refl)
-reply_done Absent key lease is = absurd (cc)
-reply_done (Found version l) key lease is = absurd (cc)
-reply_done Exists key lease is = absurd (cc)
-reply_done (Conflict version) key lease is = absurd (cc)
-reply_done Unchanged key lease is = absurd (cc)
+reply_done reply key lease is = absurd (cc)
 
 pub done_of : (r : Request) (reply : Reply) → succeeds r reply ≡ true → (version : Version) × (reply ≡ Done version)
 done_of (Create key lease) reply is = reply_done reply key lease is
@@ -62,33 +58,13 @@ done_of (Update key given lease) reply is = reply_done reply key lease is
 done_of (Get key) reply is = absurd (cc)
 done_of (PostStatus name status at) reply is = absurd (cc)
 
+no_success : (kind : CallKind) (v : Version) → not_done kind ≡ Succeeds v → ⊥
+no_success Fast v is = cc
+no_success kind v is = cc
+
 write_succeeds : (kind : CallKind) (key : Key) (lease : _) (reply : Reply) (v : Version) → follow_write kind reply ≡ Succeeds v → succeeds (Create key lease) reply ≡ true
 write_succeeds kind key lease (Done version) v is = refl
-write_succeeds Plain key lease Absent v is = absurd (cc)
-write_succeeds Plain key lease (Found version l) v is = absurd (cc)
-write_succeeds Plain key lease Exists v is = absurd (cc)
-write_succeeds Plain key lease (Conflict version) v is = absurd (cc)
-write_succeeds Plain key lease Unchanged v is = absurd (cc)
-write_succeeds Fast key lease Absent v is = absurd (cc)
-write_succeeds Fast key lease (Found version l) v is = absurd (cc)
-write_succeeds Fast key lease Exists v is = absurd (cc)
-write_succeeds Fast key lease (Conflict version) v is = absurd (cc)
-write_succeeds Fast key lease Unchanged v is = absurd (cc)
-write_succeeds Release key lease Absent v is = absurd (cc)
-write_succeeds Release key lease (Found version l) v is = absurd (cc)
-write_succeeds Release key lease Exists v is = absurd (cc)
-write_succeeds Release key lease (Conflict version) v is = absurd (cc)
-write_succeeds Release key lease Unchanged v is = absurd (cc)
-write_succeeds (Look begun) key lease Absent v is = absurd (cc)
-write_succeeds (Look begun) key lease (Found version l) v is = absurd (cc)
-write_succeeds (Look begun) key lease Exists v is = absurd (cc)
-write_succeeds (Look begun) key lease (Conflict version) v is = absurd (cc)
-write_succeeds (Look begun) key lease Unchanged v is = absurd (cc)
-write_succeeds (Emptying begun) key lease Absent v is = absurd (cc)
-write_succeeds (Emptying begun) key lease (Found version l) v is = absurd (cc)
-write_succeeds (Emptying begun) key lease Exists v is = absurd (cc)
-write_succeeds (Emptying begun) key lease (Conflict version) v is = absurd (cc)
-write_succeeds (Emptying begun) key lease Unchanged v is = absurd (cc)
+write_succeeds kind key lease reply v is = absurd (no_success kind v is)
 
 -- what a reply is followed by says so
 pub follow_succeeds : (q : Identity) (m : Moment) (seen : ℕ) (kind : CallKind) (r : Request) (reply : Reply) (v : Version) → follow q m seen kind r reply ≡ Succeeds v → succeeds r reply ≡ true

@@ -6,7 +6,7 @@ use Rattle.kube_objects.specs.declared.deed.Actor.{Actor}
 use Rattle.kube_objects.specs.Clocks.{local}
 use Rattle.kube_objects.specs.Document.{Doc, processes, end_beat, is_controller, retry_period, renew_deadline}
 use Rattle.kube_objects.specs.Elector.{succeeds, leads, deadline_says, deadline, is_before}
-use Rattle.kube_objects.specs.Entry.{Entry, Identity, Call, Fact, First, Event as Happens, Starts, Stops, Sends, Answers, Delivers, Expires, Leads, Ends, Crashes, Stalls, Ticks, actor_of, entry, StepsDown, ReleaseBegins, ReleaseEnds, ReleaseStops}
+use Rattle.kube_objects.specs.Entry.{Entry, Identity, Call, Fact, Delivers, Leads, actor_of, entry, StepsDown, ReleaseBegins, ReleaseEnds, ReleaseStops}
 use Rattle.kube_objects.specs.Identities.{is_by}
 use Rattle.kube_objects.specs.Newest.{has}
 use Rattle.kube_objects.specs.Pauses.{is_paused, can_at}
@@ -83,22 +83,11 @@ module _ (doc : Doc) (rules : ReleasesByStop doc) (a e n : ℕ) (end : e ≤ end
           (omega (arith, reached, local_up doc q.process x.beat last by, local_up doc q.process settled e (omega (arith, room, within))))
           awake (local doc q.process last + retry_period doc q.process)
           (omega (arith, local_up doc q.process x.beat last by)) (omega (arith, local_up doc q.process a last from))
-  set_by x T at who (Delivers w reply false) actor fact made comes led t is = absurd (none_is t is)
-  set_by x T at who (First key object) actor fact made comes led t is = absurd (none_is t is)
-  set_by x T at who (Happens w version) actor fact made comes led t is = absurd (none_is t is)
-  set_by x T at who (Sends call arrives) actor fact made comes led t is = absurd (none_is t is)
-  set_by x T at who (Answers call reply comes_at wrote) actor fact made comes led t is = absurd (none_is t is)
-  set_by x T at who (Expires call) actor fact made comes led t is = absurd (none_is t is)
-  set_by x T at who (Ticks tick) actor fact made comes led t is = absurd (none_is t is)
-  set_by x T at who Starts actor fact made comes led t is = absurd (none_is t is)
-  set_by x T at who Crashes actor fact made comes led t is = absurd (none_is t is)
-  set_by x T at who Stops actor fact made comes led t is = absurd (none_is t is)
-  set_by x T at who (Stalls beats) actor fact made comes led t is = absurd (none_is t is)
   set_by x T at who StepsDown actor fact made comes led t is = absurd made
   set_by x T at who (ReleaseBegins at_deadline) actor fact made comes led t is = absurd made
   set_by x T at who ReleaseEnds actor fact made comes led t is = absurd made
   set_by x T at who ReleaseStops actor fact made comes led t is = absurd made
-  set_by x T at who Ends actor fact made comes led t is = absurd (none_is t is)
+  set_by x T at who d actor fact made comes led t is = absurd (none_is t is)
 
   says_by : (x : Entry) (T : List Entry) → IsTail (x ∷ T) (history doc (suc n)) → (t : ℕ) → deadline_says doc q x.beat x.actor (leads q T) x.fact ≡ Some t → IsEarly x.beat t
   says_by x T at t is = set_by x T at x.actor x.fact refl refl (are_made doc rules (suc n) x T at) (added doc rules (suc n) x T at) (leads q T) t is

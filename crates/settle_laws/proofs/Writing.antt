@@ -3,7 +3,7 @@
 use Rattle.std.proofs.Common.{◌≡◌, ◌⊎◌, ◌<◌, ◌≤◌, ℕ, suc, ◌+◌, nat_lt, Bool, true, false, List, [], ◌∷◌, Option, Some, None, IfSome, refl, sym, ap, ◌∙◌, subst, inl, inr, ⊎_elim, arith}
 use Rattle.std.proofs.lemmas.Bool.{ltb-false, eq-eqb, cases_lt}
 use Rattle.kube_objects.specs.declared.call.Reply.{Reply}
-use Rattle.kube_objects.specs.declared.call.Reply.TheVariants.{Found, Done, Absent, Exists, Conflict, Unchanged}
+use Rattle.kube_objects.specs.declared.call.Reply.TheVariants.{Done}
 use Rattle.kube_objects.specs.declared.call.Request.{Request}
 use Rattle.kube_objects.specs.declared.call.Request.TheVariants.{Get, Create, Update, PostStatus}
 use Rattle.kube_objects.specs.declared.lease.Lease.{Lease}
@@ -36,7 +36,7 @@ use Rattle.takeover_laws.proofs.Rounds.{request_comes}
 use Rattle.takeover_laws.proofs.Writers.{sends_of, sending_of}
 use Rattle.calm_laws.specs.Bounds.{early_record, LastsFor}
 use Rattle.calm_laws.proofs.Changes.{Change, Unwritten, Put, Written, IsWritten, IsStored, stored_as, unchanged, put_stored, early_stored, change_of}
-use Rattle.calm_laws.proofs.Kept.{IsKept}
+use Rattle.takeover_laws.proofs.Taking.{IsKept}
 use Rattle.calm_laws.proofs.Looks.{object_of}
 use Rattle.takeover_laws.proofs.Waits.{blocked_time, blocked_most}
 use Rattle.settle_laws.specs.Settles.{AllLastFor}
@@ -55,11 +55,7 @@ done_lasts doc p kind q lease time (Done version) r o mine le fit is = subst (La
     by_key : (b : Bool) → when b (Some (object.Lease lease)) ≡ Some o → Some (object.Lease lease) ≡ o
     by_key true is = some_is (Some (object.Lease lease)) o is
     by_key false is = absurd (none_is o is)
-done_lasts doc p kind q lease time Absent r o mine le fit is = absurd (none_is o is)
-done_lasts doc p kind q lease time (Found version l) r o mine le fit is = absurd (none_is o is)
-done_lasts doc p kind q lease time Exists r o mine le fit is = absurd (none_is o is)
-done_lasts doc p kind q lease time (Conflict version) r o mine le fit is = absurd (none_is o is)
-done_lasts doc p kind q lease time Unchanged r o mine le fit is = absurd (none_is o is)
+done_lasts doc p kind q lease time reply r o mine le fit is = absurd (none_is o is)
 
 written_lasts : (doc : Doc) (p : ℕ) (kind : CallKind) (q : Identity) (time : ℕ) (r : Request) (h : List Entry) (o : Option Object) → lease_duration doc p ≤ time → lease_duration doc q.process ≤ time → FitRequest doc kind q r
     → at_key election (request_write r (written r h)) ≡ Some o → LastsFor doc p time o

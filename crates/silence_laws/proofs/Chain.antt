@@ -31,6 +31,7 @@ use Rattle.call_laws.proofs.Making.{MadeAs, MadeSend, HasStopped, IsOpen, are_ma
 use Rattle.call_laws.proofs.Placing.{in_own_beat}
 use Rattle.call_laws.proofs.Starting.{actor_is}
 use Rattle.call_laws.proofs.Waiting.{calls_wait}
+use Rattle.call_laws.proofs.Sending.{is_free}
 use Rattle.takeover_laws.specs.Asking.{HasAsked}
 use Rattle.takeover_laws.specs.Calm.{IsSteady, IsInTime}
 use Rattle.takeover_laws.specs.Waits.{longest_wait, shortest_wait}
@@ -45,7 +46,7 @@ use Rattle.stay_laws.proofs.Giving.{gives_at_stop}
 use Rattle.silence_laws.proofs.Kept.{Kept, kept_of}
 use Rattle.silence_laws.proofs.Stepping.{low, quiet_low, IsReached, first_gets}
 use Rattle.silence_laws.proofs.Waiting.{history_below, beats_rise, one_sending, counted_after, says_done, never_expires}
-use Rattle.silence_laws.proofs.Ways.{sent_freely, beat_before, Went, went}
+use Rattle.silence_laws.proofs.Ways.{beat_before, Went, went}
 
 some_none : {A : Type 0} (x : A) → Some x ≡ None → ⊥
 some_none x is = cc
@@ -271,7 +272,7 @@ module _ (doc : Doc) (rules : ReleasesByStop doc) (near far e : ℕ) (one : 1 �
         none_g z Z high low = none z Z (tail_trans (z ∷ Z) G Q high G_q) low
 
         idle_g : call_in c G ≡ None
-        idle_g = (sent_freely doc rules (suc e) c role g G later.w later.o.begun.arrives (in_e (g ∷ G) g_t) later.o.begun.actor later.o.begun.fact later.o.begun.opens).idle
+        idle_g = (is_free doc rules (suc e) c role g G later.w later.o.begun.arrives (in_e (g ∷ G) g_t) later.o.begun.actor later.o.begun.fact later.o.begun.opens).idle
 
         order : r ≤ g.beat
         order = beats_rise doc e g G (in_e (g ∷ G) g_t) (entry r 3 c (Delivers look.w (Found y.version lease) true)) S below_g

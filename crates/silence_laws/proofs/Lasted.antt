@@ -26,6 +26,7 @@ use Rattle.call_laws.proofs.Above.{place_of, in_head}
 use Rattle.call_laws.proofs.Making.{MadeAs, MadeEnd, are_made}
 use Rattle.call_laws.proofs.Placing.{in_own_beat, not_before}
 use Rattle.call_laws.proofs.Starting.{actor_is}
+use Rattle.call_laws.proofs.Sending.{is_free}
 use Rattle.takeover_laws.specs.Calm.{IsSteady}
 use Rattle.takeover_laws.proofs.Fresh.{turn_leads}
 use Rattle.takeover_laws.proofs.Standing.{controllers_first}
@@ -46,10 +47,9 @@ use Rattle.silence_laws.proofs.Owning.{IsQuietIn, IsOwn, IsForeign}
 use Rattle.silence_laws.proofs.Recent.{z_e}
 use Rattle.silence_laws.proofs.Rival.{own, kept, w, c, low_e, elsewhere, steady, time, sent, foreign, others, long, asked_e, LastLook, last_look}
 use Rattle.silence_laws.proofs.Setting.{none_else}
-use Rattle.silence_laws.proofs.Taken.{first, first_e, ways, j_early, rival}
-use Rattle.silence_laws.proofs.Taken as taken
-use Rattle.silence_laws.proofs.Waiting.{counted_after, history_below}
-use Rattle.silence_laws.proofs.Ways.{IsWay, Went, went, sent_freely, request_way, reply_way, beat_before}
+use Rattle.silence_laws.proofs.Taken.{first, first_low, rival}
+use Rattle.silence_laws.proofs.Waiting.{counted_after}
+use Rattle.silence_laws.proofs.Ways.{IsWay, Went, went, request_way, reply_way, beat_before}
 
 -- whose process has gone is down
 gone_is : (o : Option ℕ) (rest : Option (Option ℕ)) → has o ≡ true → join (upper (gone o) rest) ≡ None
@@ -134,7 +134,7 @@ module _ (doc : Doc) (near far b e : ℕ) (q : Identity) (l : LeadsUntil doc nea
   G_n = tail_trans G (g ∷ G) (history doc n) (inr (tail_all G)) (tail_trans (g ∷ G) (history doc (suc g.beat)) (history doc n) (in_own_beat doc (suc e) g G g_e) (later_tail doc (suc g.beat) n g_n))
 
   up_G : alive p.process G ≡ Some p.incarnation
-  up_G = (sent_freely doc s.rules (suc e) p won.role g G L.look.w L.look.o.begun.arrives g_e L.look.o.begun.actor L.look.o.begun.fact L.look.o.begun.opens).up
+  up_G = (is_free doc s.rules (suc e) p won.role g G L.look.w L.look.o.begun.arrives g_e L.look.o.begun.actor L.look.o.begun.fact L.look.o.begun.opens).up
 
   up_S : alive p.process L.S ≡ Some p.incarnation
   up_S = (counted_after doc s.rules (suc e) p (entry d 3 p (Delivers L.look.w (Found mine.y.version mine.lease) true)) L.S L.look.w (Found mine.y.version mine.lease) heard_e refl refl).up
@@ -174,18 +174,10 @@ module _ (doc : Doc) (near far b e : ℕ) (q : Identity) (l : LeadsUntil doc nea
 
     -- one from the silence on was written after the leader's, where all writes are its own
     since_silence : b ≤ j → ⊥
-    since_silence le = rival doc near far b e q l s H H_e quiet f (actor_is p q (sym o.actor ∙ f.own o.e o.low o_low first_low wrote))
+    since_silence le = rival doc near far b e q l s H H_e quiet f (actor_is p q (sym o.actor ∙ f.own o.e o.low o_low first_below wrote))
       where
-        z : Entry
-        z = (taken.o doc near far b e q l s H H_e quiet).e
-
-        sooner : z.beat < o.e.beat
-        sooner = let ways = ways doc near far b e q l s H H_e quiet in omega (arith, ways.comes_least, j_early doc near far b e q l s H H_e quiet, le, back.most, s.one, s.ways)
-
-        first_low : IsTail (first doc near far b e q l s H H_e quiet) o.low
-        first_low =
-            tail_trans (first doc near far b e q l s H H_e quiet) (history doc (suc z.beat)) o.low (in_own_beat doc (suc e) z (taken.o doc near far b e q l s H H_e quiet).low (first_e doc near far b e q l s H H_e quiet))
-            (history_below doc z.beat e o.e o.low o_e sooner (omega (arith, sooner, beat_before doc e o.e o.low o_e)))
+        first_below : IsTail (first doc near far b e q l s H H_e quiet) o.low
+        first_below = first_low doc near far b e q l s H H_e quiet o.e o.low o_e (omega (arith, le, back.most))
 
     no_success : ⊥
     no_success =

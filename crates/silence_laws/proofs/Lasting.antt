@@ -2,10 +2,9 @@
 use Rattle.std.proofs.Common.{◌≡◌, ◌<◌, ◌≤◌, ℕ, suc, ◌+◌, ◌-◌, ◌*◌, true, ◌∷◌, Some, refl, sym, ap, ◌∙◌, inl, inr, ⊎_elim, arith}
 use Rattle.std.specs.Int.{div_ceil}
 use Rattle.kube_objects.specs.Document.{Doc, is_controller}
-use Rattle.kube_objects.specs.Entry.{Entry, Identity, Stops, actor_of}
+use Rattle.kube_objects.specs.Entry.{Entry, Identity, Stops}
 use Rattle.kube_objects.specs.Identities.{of_process}
 use Rattle.kube_objects.specs.Newest.{has}
-use Rattle.kube_objects.specs.Stored.{election, at_key, write_of}
 use Rattle.history.specs.History.{history}
 use Rattle.history_laws.specs.Tails.{In, IsTail}
 use Rattle.history_laws.proofs.Tailed.{tail_all, tail_trans, later_tail, same_head}
@@ -14,67 +13,46 @@ use Rattle.call_laws.proofs.Placing.{in_own_beat}
 use Rattle.call_laws.proofs.Starting.{actor_is}
 use Rattle.takeover_laws.specs.Calm.{IsSteady, IsQuiet}
 use Rattle.calm_laws.proofs.Origins.{Origin}
-use Rattle.stay_laws.proofs.Won.{Won, is_won}
+use Rattle.stay_laws.proofs.Won.{Won}
 use Rattle.span_laws.proofs.Quotients.{rounded_is, bounds_are_exact}
 use Rattle.silence_laws.specs.Least.{last_renewal, IsLead, TakesAtLeast, RunsWithin, SilencesLast, SilencesAreTold}
 use Rattle.silence_laws.specs.Silence.{LeadsUntil, Bears, ActsAlone}
 use Rattle.silence_laws.proofs.Chain.{opens_of}
 use Rattle.silence_laws.proofs.Lasted.{taken_late}
+use Rattle.silence_laws.proofs.Leading.{ItsWrite, its_write}
 use Rattle.silence_laws.proofs.Leading as leading
-use Rattle.calm_laws.proofs.Added.{LedBy}
 use Rattle.silence_laws.proofs.Owning.{IsForeign, own_or_foreign, sent_early}
 use Rattle.silence_laws.proofs.Recent.{recent, recent_enough}
 use Rattle.silence_laws.proofs.Rival.{w, elsewhere}
-use Rattle.silence_laws.proofs.Taken.{first, first_e, ways, long_after, sent_before}
-use Rattle.silence_laws.proofs.Taken as taken
-use Rattle.silence_laws.proofs.Waiting.{history_below, beats_rise}
+use Rattle.silence_laws.proofs.Taken.{first, first_low, long_after, sent_before}
+use Rattle.silence_laws.proofs.Waiting.{beats_rise}
 use Rattle.silence_laws.proofs.Ways.{IsWay, sent_at, request_way, reply_way, beat_before}
 
 module _ (doc : Doc) (near far b e : ℕ) (q : Identity) (l : LeadsUntil doc near far b e q) (s : Bears doc near far b e q) (alone : ActsAlone doc near far b q) (quiet : IsQuiet doc b e q.process) (k : ℕ) (lead : IsLead doc b e q k) where
-  abbrev r : Identity
-  r = lead.c
+  abbrev its : ItsWrite doc near far b e q l s k lead
+  its = its_write doc near far b e q l s k lead
 
-  abbrev role : is_controller doc r.process ≡ true
-  role = leading.role doc near far b e q l s k lead
+  abbrev o : Origin doc lead.c its.led.call its.led.reply its.led.before lead.x.beat
+  o = its.o
 
-  abbrev led : LedBy doc lead.x lead.version lead.before
-  led = leading.led doc near far b e q l s k lead
+  abbrev w0 : Won doc o.e o.low
+  w0 = its.w
 
-  abbrev o : Origin doc r led.call led.reply led.before lead.x.beat
-  o = leading.o doc near far b e q l s k lead
-
-  o_e : IsTail (o.e ∷ o.low) (history doc (suc e))
-  o_e = leading.o_e doc near far b e q l s k lead
-
-  writes : has (at_key election (write_of o.e.fact)) ≡ true
-  writes = leading.writes doc near far b e q l s k lead
-
-  steady : IsSteady doc near far 0 (b - 1) r.process
+  steady : IsSteady doc near far 0 (b - 1) lead.c.process
   steady = leading.steady doc near far b e q l s k lead
 
-  late : b ≤ o.e.beat + far
-  late = leading.late doc near far b e q l s k lead
-
-  first_low : IsTail (first doc near far b e q l s (history doc (suc e)) (tail_all (history doc (suc e))) quiet) o.low
-  first_low =
-      tail_trans (first doc near far b e q l s (history doc (suc e)) (tail_all (history doc (suc e))) quiet) (history doc (suc z.beat)) o.low (in_own_beat doc (suc e) z (taken.o doc near far b e q l s (history doc (suc e)) (tail_all (history doc (suc e))) quiet).low (first_e doc near far b e q l s (history doc (suc e)) (tail_all (history doc (suc e))) quiet))
-      (history_below doc z.beat e o.e o.low o_e sooner (omega (arith, sooner, beat_before doc e o.e o.low o_e)))
-    where
-      z : Entry
-      z = (taken.o doc near far b e q l s (history doc (suc e)) (tail_all (history doc (suc e))) quiet).e
-
-      sooner : (taken.o doc near far b e q l s (history doc (suc e)) (tail_all (history doc (suc e))) quiet).e.beat < o.e.beat
-      sooner = let ways = ways doc near far b e q l s (history doc (suc e)) (tail_all (history doc (suc e))) quiet in omega (arith, ways.comes_least, taken.j_early doc near far b e q l s (history doc (suc e)) (tail_all (history doc (suc e))) quiet, late, s.one, s.ways, l.long)
+  first_below : IsTail (first doc near far b e q l s (history doc (suc e)) (tail_all (history doc (suc e))) quiet) o.low
+  first_below = first_low doc near far b e q l s (history doc (suc e)) (tail_all (history doc (suc e))) quiet o.e o.low its.o_e (omega (arith, its.late))
 
   -- so somebody wrote first
   found : IsForeign doc near far b e q l s (history doc (suc e)) (tail_all (history doc (suc e))) quiet (first doc near far b e q l s (history doc (suc e)) (tail_all (history doc (suc e))) quiet) (o.e ∷ o.low)
-  found = ⊎_elim (λ all. absurd (lead.other (actor_is r q (sym o.actor ∙ all o.e o.low (inl refl) first_low writes)))) (λ f. f) (own_or_foreign doc near far b e q l s (history doc (suc e)) (tail_all (history doc (suc e))) quiet (first doc near far b e q l s (history doc (suc e)) (tail_all (history doc (suc e))) quiet) (o.e ∷ o.low) (inr first_low))
+  found = ⊎_elim (λ all. absurd (lead.other (actor_is lead.c q (sym o.actor ∙ all o.e o.low (inl refl) first_below its.writes)))) (λ f. f) (own_or_foreign doc near far b e q l s (history doc (suc e)) (tail_all (history doc (suc e))) quiet (first doc near far b e q l s (history doc (suc e)) (tail_all (history doc (suc e))) quiet) (o.e ∷ o.low) (inr first_below))
 
   abbrev f : IsForeign doc near far b e q l s (history doc (suc e)) (tail_all (history doc (suc e))) quiet (first doc near far b e q l s (history doc (suc e)) (tail_all (history doc (suc e))) quiet) (history doc (suc e))
   f = record {
     x = found.x;
     before = found.before;
-    position = tail_trans (found.x ∷ found.before) (o.e ∷ o.low) (history doc (suc e)) found.position o_e;
+    position = tail_trans (found.x ∷ found.before) (o.e ∷ o.low) (history doc (suc e)) found.position its.o_e;
     since = found.since;
     writes = found.writes;
     other = found.other;
@@ -86,10 +64,10 @@ module _ (doc : Doc) (near far b e : ℕ) (q : Identity) (l : LeadsUntil doc nea
     where
       by_place : IsTail (found.x ∷ found.before) (o.e ∷ o.low) → f.x.beat ≤ o.e.beat
       by_place (inl same) = omega (arith, ap (λ (x : Entry). x.beat) (same_head found.x o.e found.before o.low same))
-      by_place (inr low) = beats_rise doc e o.e o.low o_e found.x found.before low
+      by_place (inr low) = beats_rise doc e o.e o.low its.o_e found.x found.before low
 
   -- and it isn't the leader's process that leads again
-  other_process : r.process ≡ q.process → ⊥
+  other_process : lead.c.process ≡ q.process → ⊥
   other_process same =
       omega (
         arith,
@@ -104,37 +82,25 @@ module _ (doc : Doc) (near far b e : ℕ) (q : Identity) (l : LeadsUntil doc nea
         s.ways,
       )
     where
-      w0 : Won doc o.e o.low
-      w0 = is_won doc s.sound s.rules e s.end o.e o.low o_e (omega (arith, late, l.long, s.one, s.ways)) writes
-
-      whose : w0.who ≡ r
-      whose = actor_is w0.who r (sym w0.actor ∙ o.actor)
-
       early : w0.call.sent < b
-      early = sent_early doc near far b e q l s (history doc (suc e)) (tail_all (history doc (suc e))) quiet o.e o.low o_e w0 writes (ap (λ (p : Identity). p.process) whose ∙ same)
-
-      asked_e : IsTail (w0.f ∷ w0.low) (history doc (suc e))
-      asked_e = tail_trans (w0.f ∷ w0.low) (o.e ∷ o.low) (history doc (suc e)) (inr w0.asked) o_e
+      early = sent_early doc near far b e q l s (history doc (suc e)) (tail_all (history doc (suc e))) quiet o.e o.low its.o_e w0 its.writes (ap (λ (p : Identity). p.process) its.whose ∙ same)
 
       sent : w0.call.sent ≡ w0.f.beat
-      sent = sent_at doc s.rules (suc e) w0.who w0.f w0.low w0.call (Some o.e.beat) asked_e w0.f_actor w0.f_fact
+      sent = sent_at doc s.rules (suc e) w0.who w0.f w0.low w0.call (Some o.e.beat) its.asked_e w0.f_actor w0.f_fact
 
       asked_b : IsTail (w0.f ∷ w0.low) (history doc (suc (b - 1)))
-      asked_b = tail_trans (w0.f ∷ w0.low) (history doc (suc w0.f.beat)) (history doc (suc (b - 1))) (in_own_beat doc (suc e) w0.f w0.low asked_e) (later_tail doc (suc w0.f.beat) (suc (b - 1)) (omega (arith, early, sent)))
+      asked_b = tail_trans (w0.f ∷ w0.low) (history doc (suc w0.f.beat)) (history doc (suc (b - 1))) (in_own_beat doc (suc e) w0.f w0.low its.asked_e) (later_tail doc (suc w0.f.beat) (suc (b - 1)) (omega (arith, early, sent)))
 
-      unstopped : (x : Entry) → In x (history doc (suc (b - 1))) → x.fact ≡ Stops → has (of_process r.process x.actor) ≡ true → ⊥
+      unstopped : (x : Entry) → In x (history doc (suc (b - 1))) → x.fact ≡ Stops → has (of_process lead.c.process x.actor) ≡ true → ⊥
       unstopped x stands fact own = never (steady.stops x stands fact own)
         where
           never : x.beat < 0 → ⊥
           never lt = omega (arith, lt)
 
-      f_actor : w0.f.actor ≡ actor_of r
-      f_actor = w0.f_actor ∙ ap actor_of whose
-
       way : IsWay near far w0.f.beat o.e.beat
       way =
-          request_way doc s.rules near far (b - 1) r role steady w0.f w0.low w0.call o.e.beat asked_b f_actor w0.f_fact (opens_of doc s.rules (b - 1) r role unstopped w0.f w0.low w0.call (Some o.e.beat) asked_b f_actor w0.f_fact)
-          (λ j low high soon. l.goes j (omega (arith, high, beat_before doc e o.e o.low o_e)))
+          request_way doc s.rules near far (b - 1) lead.c its.role steady w0.f w0.low w0.call o.e.beat asked_b its.f_actor w0.f_fact (opens_of doc s.rules (b - 1) lead.c its.role unstopped w0.f w0.low w0.call (Some o.e.beat) asked_b its.f_actor w0.f_fact)
+          (λ j low high soon. l.goes j (omega (arith, high, beat_before doc e o.e o.low its.o_e)))
 
   -- ---- the number of beats
 
@@ -150,7 +116,7 @@ module _ (doc : Doc) (near far b e : ℕ) (q : Identity) (l : LeadsUntil doc nea
       )
     where
       way : IsWay near far o.e.beat lead.x.beat
-      way = reply_way doc s.rules near far e r role (l.others r.process role other_process) o.e o.low o_e o.step lead.x.beat (leading.k_e doc near far b e q l s k lead) o.comes_is
+      way = reply_way doc s.rules near far e lead.c its.role (l.others lead.c.process its.role other_process) o.e o.low its.o_e o.step lead.x.beat (leading.k_e doc near far b e q l s k lead) o.comes_is
 
 -- ---- the laws
 

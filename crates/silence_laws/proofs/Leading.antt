@@ -18,7 +18,7 @@ use Rattle.history_laws.specs.Tails.{IsTail}
 use Rattle.history_laws.proofs.Counting.{when_test, when_value}
 use Rattle.history_laws.proofs.Plainly.{some_is, none_is, false_is}
 use Rattle.history_laws.proofs.Tailed.{tail_all, tail_trans}
-use Rattle.gap_laws.proofs.Steps.{IsSuccess, success_is}
+use Rattle.lease_laws.proofs.Steps.{IsSuccess, success_is}
 use Rattle.call_laws.specs.Answering.{with_events}
 use Rattle.call_laws.proofs.Above.{in_head}
 use Rattle.call_laws.proofs.Placing.{forces_stand}
@@ -29,11 +29,11 @@ use Rattle.calm_laws.proofs.Asked.{IsWrite}
 use Rattle.calm_laws.proofs.Begun.{by_is}
 use Rattle.calm_laws.proofs.Origins.{Origin, origin}
 use Rattle.calm_laws.proofs.Replies.{wrote_by}
+use Rattle.stay_laws.proofs.Won.{Won, is_won}
 use Rattle.silence_laws.specs.Least.{IsLead}
 use Rattle.silence_laws.specs.Silence.{LeadsUntil, Bears}
 use Rattle.calm_laws.proofs.Added.{LedBy, leads_by}
 use Rattle.silence_laws.proofs.Looking.{asks_election}
-use Rattle.silence_laws.proofs.Rival.{w}
 use Rattle.silence_laws.proofs.Setting.{restrict}
 use Rattle.silence_laws.proofs.Ways.{beat_before}
 
@@ -71,13 +71,13 @@ module _ (doc : Doc) (near far b e : ℕ) (q : Identity) (l : LeadsUntil doc nea
   pub facts : (lead.x.actor ≡ actor_of r) × (lead.x.fact ≡ Leads lead.version)
   facts = lead_facts r lead.x.actor lead.x.fact lead.version lead.leads
 
-  pub led : LedBy doc lead.x lead.version lead.before
+  led : LedBy doc lead.x lead.version lead.before
   led = leads_by doc s.rules (suc e) lead.x lead.before lead.version lead.position facts.1
 
   own : led.q ≡ r
   own = actor_is led.q r (sym led.by ∙ facts.0)
 
-  pub role : is_controller doc r.process ≡ true
+  role : is_controller doc r.process ≡ true
   role = subst (λ (p : Identity). is_controller doc p.process ≡ true) own led.role
 
   won : IsSuccess led.call.request led.reply lead.version
@@ -86,23 +86,23 @@ module _ (doc : Doc) (near far b e : ℕ) (q : Identity) (l : LeadsUntil doc nea
   pub k_e : lead.x.beat ≤ e
   k_e = beat_before doc e lead.x lead.before lead.position
 
-  pub before_e : IsTail lead.before (history doc (suc e))
+  before_e : IsTail lead.before (history doc (suc e))
   before_e = tail_trans lead.before (lead.x ∷ lead.before) (history doc (suc e)) (inr (tail_all lead.before)) lead.position
 
-  pub heard_e : IsTail (entry lead.x.beat 3 r (Delivers led.call led.reply true) ∷ led.before) (history doc (suc e))
+  heard_e : IsTail (entry lead.x.beat 3 r (Delivers led.call led.reply true) ∷ led.before) (history doc (suc e))
   heard_e = subst (λ g. IsTail g (history doc (suc e))) (led.is ∙ ap (λ p. entry lead.x.beat 3 p (Delivers led.call led.reply true) ∷ led.before) own) before_e
 
-  pub S_e : IsTail led.before (history doc (suc e))
+  S_e : IsTail led.before (history doc (suc e))
   S_e = tail_trans led.before (entry lead.x.beat 3 r (Delivers led.call led.reply true) ∷ led.before) (history doc (suc e)) (inr (tail_all led.before)) heard_e
 
   -- its write
-  pub o : Origin doc r led.call led.reply led.before lead.x.beat
+  o : Origin doc r led.call led.reply led.before lead.x.beat
   o = origin doc s.rules (suc e) r (entry lead.x.beat 3 r (Delivers led.call led.reply true)) led.before led.call led.reply heard_e refl refl
 
-  pub o_e : IsTail (o.e ∷ o.low) (history doc (suc e))
+  o_e : IsTail (o.e ∷ o.low) (history doc (suc e))
   o_e = tail_trans (o.e ∷ o.low) led.before (history doc (suc e)) o.answered S_e
 
-  pub writes : has (at_key election (write_of o.e.fact)) ≡ true
+  writes : has (at_key election (write_of o.e.fact)) ≡ true
   writes = ap (λ d. has (at_key election (write_of d))) o.fact ∙ wrote_by led.call.request o.low lead.version (success_writes led.call.request led.reply won.0) key (sym o.reply_is ∙ won.1)
     where
       key : key_of led.call.request ≡ election
@@ -128,8 +128,46 @@ module _ (doc : Doc) (near far b e : ℕ) (q : Identity) (l : LeadsUntil doc nea
           some_is m lead.x.beat
           (sym (reply_passes doc near far r.process o.e.beat o.low passes (forces_stand doc s.rules (suc e) o.e o.low o_e (omega (arith, o.step))) (steady.passes m (omega arith) (omega (arith, passes.reply_most, le))).awake) ∙ o.comes_is)
 
-  pub late : b ≤ o.e.beat + far
+  late : b ≤ o.e.beat + far
   late = ⊎_elim (λ lt. lt_or lt) (λ le. absurd (not_before_b le)) (cases_lt (b - 1) (o.e.beat + far))
     where
       lt_or : b - 1 < o.e.beat + far → b ≤ o.e.beat + far
       lt_or lt = omega (arith, lt)
+
+  accepted : Won doc o.e o.low
+  accepted = is_won doc s.sound s.rules e s.end o.e o.low o_e (omega (arith, late, l.long, s.one, s.ways)) writes
+
+  whose : accepted.who ≡ r
+  whose = actor_is accepted.who r (sym accepted.actor ∙ o.actor)
+
+  -- ---- together
+
+  pub record ItsWrite : Type 0 where
+    pub role : is_controller doc r.process ≡ true
+    pub led : LedBy doc lead.x lead.version lead.before
+    pub heard_e : IsTail (entry lead.x.beat 3 r (Delivers led.call led.reply true) ∷ led.before) (history doc (suc e))
+    pub led_e : IsTail led.before (history doc (suc e))
+    pub o : Origin doc r led.call led.reply led.before lead.x.beat
+    pub o_e : IsTail (o.e ∷ o.low) (history doc (suc e))
+    pub writes : has (at_key election (write_of o.e.fact)) ≡ true
+    pub late : b ≤ o.e.beat + far
+    pub w : Won doc o.e o.low
+    pub whose : w.who ≡ r
+    pub f_actor : w.f.actor ≡ actor_of r
+    pub asked_e : IsTail (w.f ∷ w.low) (history doc (suc e))
+
+  pub its_write : ItsWrite
+  its_write = record {
+    role = role;
+    led = led;
+    heard_e = heard_e;
+    led_e = S_e;
+    o = o;
+    o_e = o_e;
+    writes = writes;
+    late = late;
+    w = accepted;
+    whose = whose;
+    f_actor = accepted.f_actor ∙ ap actor_of whose;
+    asked_e = tail_trans (accepted.f ∷ accepted.low) (o.e ∷ o.low) (history doc (suc e)) (inr accepted.asked) o_e;
+  }

@@ -19,7 +19,7 @@ use Rattle.history_laws.proofs.Order.{entries_are_earlier}
 use Rattle.history_laws.proofs.Plainly.{upper, and_right, false_is}
 use Rattle.history_laws.proofs.Tailed.{tail_all, tail_trans, turn_tail}
 use Rattle.lease_laws.proofs.Claims.{term_of}
-use Rattle.gap_laws.proofs.Steps.{IsSuccess, success_is}
+use Rattle.lease_laws.proofs.Steps.{IsSuccess, success_is}
 use Rattle.call_laws.proofs.Above.{in_head}
 use Rattle.call_laws.proofs.Placing.{in_own_beat}
 use Rattle.call_laws.proofs.Starting.{actor_is}

@@ -1,5 +1,5 @@
 -- What a reply shows to a candidate, while another's record is stored: that record.
-use Rattle.std.proofs.Common.{◌≡◌, ◌≤◌, ℕ, suc, ◌+◌, ◌==◌, Bool, true, false, cond, List, ◌∷◌, length, Option, Some, None, IfSome, refl, sym, ap, ◌∙◌, subst, inl, inr, ⊎_elim, arith}
+use Rattle.std.proofs.Common.{◌≡◌, ◌⊎◌, ◌≤◌, ℕ, suc, ◌+◌, ◌==◌, Bool, true, false, cond, List, ◌∷◌, length, Option, Some, None, IfSome, refl, sym, ap, ◌∙◌, subst, inl, inr, ⊎_elim, arith}
 use Rattle.kube_base.specs.declared.numbers.Version.{Version}
 use Rattle.kube_objects.specs.declared.call.Reply.{Reply}
 use Rattle.kube_objects.specs.declared.call.Reply.TheVariants.{Found, Done, Absent, Exists, Conflict, Unchanged}
@@ -38,7 +38,7 @@ use Rattle.silence_laws.proofs.Showing.{IsTold}
 pub asks_election : (doc : Doc) → IsSound doc → ReleasesByStop doc → (k : ℕ) → k ≤ end_beat doc → (q : Identity) → is_controller doc q.process ≡ true → (x : Entry) (call : Call) (arrives : Option ℕ) → In x (history doc (suc k))
     → x.actor ≡ actor_of q → x.fact ≡ Sends call arrives → key_of call.request ≡ election
 asks_election doc sound rules k end q role x call arrives stands actor fact =
-    let right = (turn_right doc (greatest_below doc (length doc.controllers)) (rates_at_most doc) (bears_own doc (greatest_below doc (length doc.controllers)) rules) sound (processes doc) k end).entries x stands in
+    let right = (turn_right doc (greatest_below doc (length doc.controllers)) (rates_at_most doc) (bears_own doc (greatest_below doc (length doc.controllers)) rules) sound (processes doc) k end).core.entries x stands in
     ((subst (λ o. IfSome o (SentRight doc (greatest_below doc (length doc.controllers)) k (view (history doc (suc k))))) (sent_is x q call arrives actor fact) right.0).may.controller role).key
 
 -- ---- a write that was accepted
@@ -119,21 +119,23 @@ telling (Update key given l) reply s h is answered tells = by_reply reply tells 
     by_reply Unchanged tells same = absurd (none_is s tells)
 telling (PostStatus name status at) reply s h is answered tells = absurd (none_is s tells)
 
-module _ (doc : Doc) (near far e : ℕ) (sound : IsSound doc) (rules : ReleasesByStop doc) (end : e ≤ end_beat doc) (c : Identity) (role : is_controller doc c.process ≡ true)
-    (T : List Entry) (at : IsTail T (history doc (suc e))) (y : Held) (is : stored election T ≡ Some y) (lease : Lease) (object_is : y.object ≡ object.Lease lease) (foreign : y.by ≡ Some c → ⊥) where
-  abbrev pub k : Kept T y
-  k = kept_of T y is
+module _ (doc : Doc) (e : ℕ) (sound : IsSound doc) (rules : ReleasesByStop doc) (end : e ≤ end_beat doc) (c : Identity) (role : is_controller doc c.process ≡ true)
+    (T : List Entry) (at : IsTail T (history doc (suc e))) (y : Held) (is : stored election T ≡ Some y) where
+  abbrev its : Kept T y
+  its = kept_of T y is
 
-  -- a reply that shows it is that of a Get
-  pub record ShowsIt (w : Call) (reply : Reply) (S : List Entry) (r : ℕ) : Type 0 where
-    pub get : w.request ≡ Get election
-    pub reply_is : reply ≡ Found y.version lease
-    pub o : Origin doc c w reply S r
-    pub low : IsTail (k.z ∷ k.before) o.low
-
+  -- a reply that shows it is the answer to its write, or to a Get that found it
   module _ (d : Entry) (S : List Entry) (position : IsTail (d ∷ S) T) (s : Shown) (t : IsTold c d.actor d.fact s) (same : s.0.0 ≡ y.version.0) where
-    o : Origin doc c t.w t.reply S d.beat
-    o = origin doc rules (suc e) c d S t.w t.reply (tail_trans (d ∷ S) T (history doc (suc e)) position at) t.actor t.fact
+    pub answered_by : Origin doc c t.w t.reply S d.beat
+    answered_by = origin doc rules (suc e) c d S t.w t.reply (tail_trans (d ∷ S) T (history doc (suc e)) position at) t.actor t.fact
+
+    abbrev o : Origin doc c t.w t.reply S d.beat
+    o = answered_by
+
+    pub record HasFound : Type 0 where
+      pub get : t.w.request ≡ Get election
+      pub found : t.reply ≡ Found s.0 s.1
+      pub there : IsFound T y is (kept_of T y is) answered_by.low s.1
 
     version : s.0 ≡ y.version
     version = ap (λ n. record { 0 = n }) same
@@ -141,46 +143,73 @@ module _ (doc : Doc) (near far e : ℕ) (sound : IsSound doc) (rules : ReleasesB
     in_t : (g : List Entry) → IsTail g S → IsTail g T
     in_t g low = tail_trans g S T low (tail_trans S (d ∷ S) T (inr (tail_all S)) position)
 
-    low_t : IsTail o.low T
-    low_t = in_t o.low (tail_trans o.low (o.e ∷ o.low) S (inr (tail_all o.low)) o.answered)
-
     key : key_of t.w.request ≡ election
     key = asks_election doc sound rules e end c role o.begun.f t.w o.begun.arrives (in_head o.begun.f o.begun.before (history doc (suc e)) (tail_trans (o.begun.f ∷ o.begun.before) T (history doc (suc e)) (in_t (o.begun.f ∷ o.begun.before) o.begun.position) at)) o.begun.actor o.begun.fact
 
-    -- no write of its own gave this version
-    own_write : IsAccepted t.w.request o.low s.0 → ⊥
-    own_write a = ⊎_elim over below (tails_meet (k.z ∷ k.before) (o.e ∷ o.low) T k.position (in_t (o.e ∷ o.low) o.answered))
+    -- a write of its own that gave this version is that one
+    own_write : IsAccepted t.w.request o.low s.0 → its.z ∷ its.before ≡ o.e ∷ o.low
+    own_write a = ⊎_elim over below (tails_meet (its.z ∷ its.before) (o.e ∷ o.low) T its.position (in_t (o.e ∷ o.low) o.answered))
       where
         writes_here : has (at_key election (write_of o.e.fact)) ≡ true
         writes_here = ap (λ d. has (at_key election (write_of d))) o.fact ∙ a.wrote
 
-        same_entry : k.z ≡ o.e → ⊥
-        same_entry one = foreign (k.by ∙ ap (λ (e : Entry). identity_of e.actor) one ∙ ap identity_of o.actor)
+        over : IsTail (its.z ∷ its.before) (o.e ∷ o.low) → its.z ∷ its.before ≡ o.e ∷ o.low
+        over (inl one) = one
+        over (inr low) = absurd (true_is (sym writes_here ∙ ap has (its.alone o.e o.low low (in_t (o.e ∷ o.low) o.answered))))
 
-        over : IsTail (k.z ∷ k.before) (o.e ∷ o.low) → ⊥
-        over (inl one) = same_entry (same_head k.z o.e k.before o.low one)
-        over (inr low) = true_is (sym writes_here ∙ ap has (k.alone o.e o.low low (in_t (o.e ∷ o.low) o.answered)))
-
-        below : IsTail (o.e ∷ o.low) (k.z ∷ k.before) → ⊥
-        below (inl one) = same_entry (sym (same_head o.e k.z o.low k.before one))
+        below : IsTail (o.e ∷ o.low) (its.z ∷ its.before) → its.z ∷ its.before ≡ o.e ∷ o.low
+        below (inl one) = sym one
         below (inr low) =
-            let e : y.version.0 ≡ writes k.before + 1 = ap (λ (v : Version). v.0) k.version in
+            let e : y.version.0 ≡ writes its.before + 1 = ap (λ (v : Version). v.0) its.version in
             let f : s.0.0 ≡ writes o.low + 1 = ap (λ (v : Version). v.0) a.next in
             let g : writes (o.e ∷ o.low) ≡ writes o.low + 1 = ap (λ b. added b (writes o.low)) (written_at (write_of o.e.fact) writes_here) in
-            absurd (omega (arith, e, f, g, same, writes_tail (o.e ∷ o.low) k.before low))
+            absurd (omega (arith, e, f, g, same, writes_tail (o.e ∷ o.low) its.before low))
           where
             written_at : (w : Option Write) → has (at_key election w) ≡ true → has w ≡ true
             written_at None is = is
             written_at (Some w) is = refl
 
-    pub shows_it : ShowsIt t.w t.reply S d.beat
-    shows_it = by_telling (telling t.w.request t.reply s o.low key o.reply_is t.tells)
+    pub shown_by : (its.z ∷ its.before ≡ answered_by.e ∷ answered_by.low) ⊎ HasFound
+    shown_by = by_telling (telling t.w.request t.reply s o.low key o.reply_is t.tells)
       where
-        one_lease : (a b : Lease) → object.Lease a ≡ object.Lease b → a ≡ b
-        one_lease a b is = cc
+        by_telling : Telling t.w.request t.reply s o.low → (its.z ∷ its.before ≡ o.e ∷ o.low) ⊎ HasFound
+        by_telling (ByWrite a) = inl (own_write a)
+        by_telling (ByGet get found) = inr (record {
+          get = get;
+          found = found;
+          there =
+              found_kept T y is its o.low (in_t o.low (tail_trans o.low (o.e ∷ o.low) S (inr (tail_all o.low)) o.answered)) s.0 s.1
+              (ap (λ r. answer r o.low) (sym get) ∙ sym o.reply_is ∙ found) version;
+        })
 
-        by_telling : Telling t.w.request t.reply s o.low → ShowsIt t.w t.reply S d.beat
-        by_telling (ByWrite a) = absurd (own_write a)
-        by_telling (ByGet get found) =
-            let there : IsFound T y is k o.low s.1 = found_kept T y is k o.low low_t s.0 s.1 (ap (λ r. answer r o.low) (sym get) ∙ sym o.reply_is ∙ found) version in
-            record { get = get; reply_is = found ∙ ap (λ v. Found v s.1) version ∙ ap (Found y.version) (one_lease s.1 lease (sym there.object ∙ object_is)); o = o; low = there.low }
+module _ (doc : Doc) (near far e : ℕ) (sound : IsSound doc) (rules : ReleasesByStop doc) (end : e ≤ end_beat doc) (c : Identity) (role : is_controller doc c.process ≡ true)
+    (T : List Entry) (at : IsTail T (history doc (suc e))) (y : Held) (is : stored election T ≡ Some y) (lease : Lease) (object_is : y.object ≡ object.Lease lease) (foreign : y.by ≡ Some c → ⊥) where
+  abbrev pub k : Kept T y
+  k = kept_of T y is
+
+  -- where it isn't its own a reply that shows it is that of a Get
+  pub record ShowsIt (w : Call) (reply : Reply) (S : List Entry) (r : ℕ) : Type 0 where
+    pub get : w.request ≡ Get election
+    pub reply_is : reply ≡ Found y.version lease
+    pub o : Origin doc c w reply S r
+    pub low : IsTail (k.z ∷ k.before) o.low
+
+  pub shows_it : (d : Entry) (S : List Entry) (position : IsTail (d ∷ S) T) (s : Shown) (t : IsTold c d.actor d.fact s) → s.0.0 ≡ y.version.0 → ShowsIt t.w t.reply S d.beat
+  shows_it d S position s t same = ⊎_elim its_own found (shown_by doc e sound rules end c role T at y is d S position s t same)
+    where
+      o : Origin doc c t.w t.reply S d.beat
+      o = answered_by doc e sound rules end c role T at y is d S position s t same
+
+      its_own : k.z ∷ k.before ≡ o.e ∷ o.low → ShowsIt t.w t.reply S d.beat
+      its_own one = absurd (foreign (k.by ∙ ap (λ (e : Entry). identity_of e.actor) (same_head k.z o.e k.before o.low one) ∙ ap identity_of o.actor))
+
+      one_lease : (a b : Lease) → object.Lease a ≡ object.Lease b → a ≡ b
+      one_lease a b is = cc
+
+      found : HasFound doc e sound rules end c role T at y is d S position s t same → ShowsIt t.w t.reply S d.beat
+      found f = record {
+        get = f.get;
+        reply_is = f.found ∙ ap (λ n. Found (record { 0 = n }) s.1) same ∙ ap (Found y.version) (one_lease s.1 lease (sym f.there.object ∙ object_is));
+        o = o;
+        low = f.there.low;
+      }

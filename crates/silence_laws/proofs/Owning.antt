@@ -85,6 +85,68 @@ pub record IsOwnWrite (doc : Doc) (b : ℕ) (q : Identity) (x : Entry) : Type 0 
   pub holder : lease.holder ≡ holder_of q
   pub duration : lease.duration ≡ Some (lease_seconds doc q.process)
 
+-- what an accepted write leaves: its writer's own record
+pub record OwnRecord (doc : Doc) (x : Entry) (T : List Entry) (w : Won doc x T) : Type 0 where
+  pub lease : Lease
+  pub writes : at_key election (write_of x.fact) ≡ Some (Some (object.Lease lease))
+  pub holder : lease.holder ≡ holder_of w.who
+  pub duration : lease.duration ≡ Some (lease_seconds doc w.who.process)
+  pub sent : w.call.sent ≡ w.f.beat
+
+-- so does one by the leader's process, by a call that was sent before beat b
+module _ (doc : Doc) (near far b e : ℕ) (q : Identity) (l : LeadsUntil doc near far b e q) (s : Bears doc near far b e q) (x : Entry) (T : List Entry) (at_e : IsTail (x ∷ T) (history doc (suc e)))
+    (writes : has (at_key election (write_of x.fact)) ≡ true) (w : Won doc x T) (mine : w.who.process ≡ q.process) (early : w.call.sent < b) where
+  wrote : has (at_key election (request_write w.call.request w.wrote)) ≡ true
+  wrote = ap (λ d. has (at_key election (write_of d))) (sym w.fact) ∙ writes
+
+  asked_high : IsTail (w.f ∷ w.low) (history doc (suc e))
+  asked_high = tail_trans (w.f ∷ w.low) T (history doc (suc e)) w.asked (tail_trans T (x ∷ T) (history doc (suc e)) (inr (tail_all T)) at_e)
+
+  sent : w.call.sent ≡ w.f.beat
+  sent = (subst (λ o. IfSome o (λ s. (s.call.sent ≡ w.f.beat) × (s.arrives ≡ request_arrival doc s.who.process w.f.beat w.low))) (sent_is w.f w.who w.call (Some x.beat) w.f_actor w.f_fact) (messages_travel doc s.rules (suc e) w.f w.low asked_high).0).0
+
+  asked_b : IsTail (w.f ∷ w.low) (history doc (suc (b - 1)))
+  asked_b = tail_trans (w.f ∷ w.low) (history doc (suc w.f.beat)) (history doc (suc (b - 1))) (in_own_beat doc (suc e) w.f w.low asked_high) (later_tail doc (suc w.f.beat) (suc (b - 1)) (omega (arith, early, sent)))
+
+  -- as its request fits its sender, so does what it writes
+  right : SentRight doc (greatest_below doc (length doc.controllers)) (b - 1) (view (history doc (suc (b - 1)))) (record { who = w.who; call = w.call; arrives = Some x.beat })
+  right =
+      subst (λ o. IfSome o (SentRight doc (greatest_below doc (length doc.controllers)) (b - 1) (view (history doc (suc (b - 1)))))) (sent_is w.f w.who w.call (Some x.beat) w.f_actor w.f_fact)
+      ((turn_right doc (greatest_below doc (length doc.controllers)) (rates_at_most doc) (bears_own doc (greatest_below doc (length doc.controllers)) s.rules) s.sound (processes doc) (b - 1) (omega (arith, l.within, s.end))).core.entries w.f (in_head w.f w.low (history doc (suc (b - 1))) asked_b)).0
+
+  fits : FitRequest doc w.call.kind w.who w.call.request
+  fits = (right.may.controller w.role).fit
+
+  own : (lease : Lease) → Fit doc w.call.kind w.who lease → (lease.holder ≡ holder_of w.who) × (lease.duration ≡ Some (lease_seconds doc w.who.process))
+  own lease (inl fit) = fit
+  own lease (inr free) = absurd (never_gives doc s.rules (b - 1) w.who w.role unstopped w.f w.low w.call (Some x.beat) asked_b w.f_actor w.f_fact free.1)
+    where
+      steady : IsSteady doc near far 0 (b - 1) w.who.process
+      steady = subst (IsSteady doc near far 0 (b - 1)) (sym mine) l.steady
+
+      unstopped : (y : Entry) → In y (history doc (suc (b - 1))) → y.fact ≡ Stops → has (of_process w.who.process y.actor) ≡ true → ⊥
+      unstopped y there fact by = omega (arith, steady.stops y there fact by)
+
+  wrote_is : w.wrote ≡ written w.call.request T
+  wrote_is = made.written_is ∙ ap (λ (c : Call). written c.request T) (sym made.call_is)
+    where
+      made : MadeAnswer doc x.beat x.step x.actor w.call w.reply w.comes w.wrote T
+      made = subst (λ d. MadeAs doc x.beat x.step x.actor d T) w.fact (are_made doc s.rules (suc e) x T at_e)
+
+  as_own : (lease : Lease) → at_key election (request_write w.call.request w.wrote) ≡ Some (Some (object.Lease lease)) → (lease.holder ≡ holder_of w.who) × (lease.duration ≡ Some (lease_seconds doc w.who.process)) → OwnRecord doc x T w
+  as_own lease is fit = record { lease = lease; writes = ap (λ d. at_key election (write_of d)) w.fact ∙ is; holder = fit.0; duration = fit.1; sent = sent }
+
+  by_request : (r : Request) (o : Option (Option Object)) → Leased r o → FitRequest doc w.call.kind w.who r → at_key election (request_write w.call.request w.wrote) ≡ o → OwnRecord doc x T w
+  by_request (Create key lease) o is fit same = as_own lease (same ∙ is) (own lease fit)
+  by_request (Update key given lease) o is fit same = as_own lease (same ∙ is) (own lease fit)
+  by_request (Get key) o is fit same = absurd is
+  by_request (PostStatus name status at) o is fit same = absurd is
+
+  pub own_record : OwnRecord doc x T w
+  own_record =
+      by_request w.call.request (at_key election (request_write w.call.request (written w.call.request T)))
+      (leased w.call.request T (subst (λ o. has (at_key election (request_write w.call.request o)) ≡ true) wrote_is wrote)) fits (ap (λ o. at_key election (request_write w.call.request o)) wrote_is)
+
 -- at the positions of a history no call of a process from beat b on writes the election Lease
 abbrev pub IsQuietIn : ℕ → ℕ → List Entry → Type 0
 IsQuietIn b p H = (x : Entry) → In x H → has (of_process p x.actor) ≡ true → WritesElection b x.fact → ⊥
@@ -109,64 +171,14 @@ module _ (doc : Doc) (near far b e : ℕ) (q : Identity) (l : LeadsUntil doc nea
     mine : w.who ≡ q
     mine = actor_is w.who q (sym w.actor ∙ actor)
 
-    wrote : has (at_key election (request_write w.call.request w.wrote)) ≡ true
-    wrote = ap (λ d. has (at_key election (write_of d))) (sym w.fact) ∙ writes
-
     early : w.call.sent < b
     early = sent_early x T at w writes (ap (λ (p : Identity). p.process) mine)
 
-    asked_high : IsTail (w.f ∷ w.low) (history doc (suc e))
-    asked_high = tail_trans (w.f ∷ w.low) T (history doc (suc e)) w.asked (tail_trans T (x ∷ T) (history doc (suc e)) (inr (tail_all T)) at_e)
-
-    sent : w.call.sent ≡ w.f.beat
-    sent = (subst (λ o. IfSome o (λ s. (s.call.sent ≡ w.f.beat) × (s.arrives ≡ request_arrival doc s.who.process w.f.beat w.low))) (sent_is w.f w.who w.call (Some x.beat) w.f_actor w.f_fact) (messages_travel doc s.rules (suc e) w.f w.low asked_high).0).0
-
-    asked_b : IsTail (w.f ∷ w.low) (history doc (suc (b - 1)))
-    asked_b = tail_trans (w.f ∷ w.low) (history doc (suc w.f.beat)) (history doc (suc (b - 1))) (in_own_beat doc (suc e) w.f w.low asked_high) (later_tail doc (suc w.f.beat) (suc (b - 1)) (omega (arith, early, sent)))
-
-    -- as its request fits its sender, so does what it writes
-    right : SentRight doc (greatest_below doc (length doc.controllers)) (b - 1) (view (history doc (suc (b - 1)))) (record { who = w.who; call = w.call; arrives = Some x.beat })
-    right =
-        subst (λ o. IfSome o (SentRight doc (greatest_below doc (length doc.controllers)) (b - 1) (view (history doc (suc (b - 1)))))) (sent_is w.f w.who w.call (Some x.beat) w.f_actor w.f_fact)
-        ((turn_right doc (greatest_below doc (length doc.controllers)) (rates_at_most doc) (bears_own doc (greatest_below doc (length doc.controllers)) s.rules) s.sound (processes doc) (b - 1) (omega (arith, l.within, s.end))).entries w.f (in_head w.f w.low (history doc (suc (b - 1))) asked_b)).0
-
-    fits : FitRequest doc w.call.kind w.who w.call.request
-    fits = (right.may.controller w.role).fit
-
-    own : (lease : Lease) → Fit doc w.call.kind w.who lease → (lease.holder ≡ holder_of w.who) × (lease.duration ≡ Some (lease_seconds doc w.who.process))
-    own lease (inl fit) = fit
-    own lease (inr free) = absurd (never_gives doc s.rules (b - 1) w.who w.role unstopped w.f w.low w.call (Some x.beat) asked_b w.f_actor w.f_fact free.1)
-      where
-        steady : IsSteady doc near far 0 (b - 1) w.who.process
-        steady = subst (λ (q : Identity). IsSteady doc near far 0 (b - 1) q.process) (sym mine) l.steady
-
-        unstopped : (y : Entry) → In y (history doc (suc (b - 1))) → y.fact ≡ Stops → has (of_process w.who.process y.actor) ≡ true → ⊥
-        unstopped y there fact by = omega (arith, steady.stops y there fact by)
-
-    wrote_is : w.wrote ≡ written w.call.request T
-    wrote_is = made.written_is ∙ ap (λ (c : Call). written c.request T) (sym made.call_is)
-      where
-        made : MadeAnswer doc x.beat x.step x.actor w.call w.reply w.comes w.wrote T
-        made = subst (λ d. MadeAs doc x.beat x.step x.actor d T) w.fact (are_made doc s.rules (suc e) x T at_e)
-
-    as_own : (lease : Lease) → at_key election (request_write w.call.request w.wrote) ≡ Some (Some (object.Lease lease)) → (lease.holder ≡ holder_of w.who) × (lease.duration ≡ Some (lease_seconds doc w.who.process)) → IsOwnWrite doc b q x
-    as_own lease is fit = record {
-      lease = lease;
-      writes = ap (λ d. at_key election (write_of d)) w.fact ∙ is;
-      holder = fit.0 ∙ ap holder_of mine;
-      duration = fit.1 ∙ ap (λ (p : Identity). Some (lease_seconds doc p.process)) mine;
-    }
-
-    by_request : (r : Request) (o : Option (Option Object)) → Leased r o → FitRequest doc w.call.kind w.who r → at_key election (request_write w.call.request w.wrote) ≡ o → IsOwnWrite doc b q x
-    by_request (Create key lease) o is fit same = as_own lease (same ∙ is) (own lease fit)
-    by_request (Update key given lease) o is fit same = as_own lease (same ∙ is) (own lease fit)
-    by_request (Get key) o is fit same = absurd is
-    by_request (PostStatus name status at) o is fit same = absurd is
+    o : OwnRecord doc x T w
+    o = own_record doc near far b e q l s x T at_e writes w (ap (λ (p : Identity). p.process) mine) early
 
     pub own_write : IsOwnWrite doc b q x
-    own_write =
-        by_request w.call.request (at_key election (request_write w.call.request (written w.call.request T)))
-        (leased w.call.request T (subst (λ o. has (at_key election (request_write w.call.request o)) ≡ true) wrote_is wrote)) fits (ap (λ o. at_key election (request_write w.call.request o)) wrote_is)
+    own_write = record { lease = o.lease; writes = o.writes; holder = o.holder ∙ ap holder_of mine; duration = o.duration ∙ ap (λ (p : Identity). Some (lease_seconds doc p.process)) mine }
 
   -- ---- what is stored where all writes since one are its own
 

@@ -28,6 +28,7 @@ use Rattle.takeover_laws.proofs.Waits.{some_period}
 use Rattle.call_laws.proofs.Once.{answers_differ}
 use Rattle.call_laws.proofs.Placing.{in_own_beat}
 use Rattle.call_laws.proofs.Starting.{actor_is}
+use Rattle.call_laws.proofs.Sending.{is_free}
 use Rattle.takeover_laws.specs.Calm.{IsInTime}
 use Rattle.takeover_laws.specs.Rounds.{IsRound}
 use Rattle.takeover_laws.proofs.Rounds.{rounds_in}
@@ -48,7 +49,7 @@ use Rattle.silence_laws.proofs.Setting.{times_before, it_stays, its_time}
 use Rattle.silence_laws.proofs.Taken.{a, first, ways, first_writes, own, long_after}
 use Rattle.silence_laws.proofs.Taken as taken
 use Rattle.silence_laws.proofs.Waiting.{history_below, beats_rise}
-use Rattle.silence_laws.proofs.Ways.{IsWay, sent_freely, beat_before, request_way, reply_way}
+use Rattle.silence_laws.proofs.Ways.{IsWay, beat_before, request_way, reply_way}
 
 -- who acts is up at its turn
 pub acting_up : (doc : Doc) → ReleasesByStop doc → (q : Identity) (k : ℕ) → Acts doc q k → alive q.process (at_turn doc q.process k) ≡ Some q.incarnation
@@ -155,7 +156,7 @@ module _ (doc : Doc) (near far b e : ℕ) (q : Identity) (l : LeadsUntil doc nea
         up_between doc s.rules (suc (b - 1)) q w.low h turn low
         (tail_trans h (history doc (b - 1)) turn (tail_trans h (history doc (suc n)) (history doc (b - 1)) high (later_tail doc (suc n) (b - 1) (omega (arith, n_soon)))) (before_turn doc q.process (b - 1)))
         (turn_tail doc q.process (b - 1) (omega (arith, controllers_first doc q.process l.role)))
-        (sent_freely doc s.rules (suc e) q l.role w.f w.low w.call (Some k.z.beat) asked_e f_actor w.f_fact opens).up
+        (is_free doc s.rules (suc e) q l.role w.f w.low w.call (Some k.z.beat) asked_e f_actor w.f_fact opens).up
         (acting_up doc s.rules q (b - 1) ((it_stays doc near far b e q l s).acts (b - 1) (its_time doc near far b e q l s) (omega arith)))
       where
         turn : List Entry

@@ -25,7 +25,6 @@ use Rattle.lease_laws.proofs.EachKind.{top_stays}
 use Rattle.call_laws.proofs.Above.{Place, place_of, in_head}
 use Rattle.call_laws.proofs.Making.{MadeAs, MadeSend, MadeAnswer, HasStopped, IsOpen, Replied, are_made}
 use Rattle.call_laws.proofs.Once.{answers_differ}
-use Rattle.call_laws.proofs.Placing.{in_own_beat}
 use Rattle.call_laws.proofs.Starting.{actor_is, sends_are_due}
 use Rattle.call_laws.proofs.Turning.{IsDue, IsTurnSend}
 use Rattle.takeover_laws.specs.Calm.{IsSteady, WritesElection}
@@ -41,17 +40,17 @@ use Rattle.silence_laws.specs.Least.{IsLead, ReleasesLast}
 use Rattle.silence_laws.specs.Silence.{LeadsUntil, Bears, IsStopped, IsReleased}
 use Rattle.silence_laws.proofs.Chain.{opens_of}
 use Rattle.silence_laws.proofs.Kept.{Kept, kept_of, IsFound, found_kept, not_below}
+use Rattle.silence_laws.proofs.Leading.{ItsWrite, its_write}
 use Rattle.silence_laws.proofs.Leading as leading
-use Rattle.calm_laws.proofs.Added.{LedBy, StoppedUp, stops_up}
+use Rattle.calm_laws.proofs.Added.{StoppedUp, stops_up}
 use Rattle.silence_laws.proofs.Looking.{asks_election}
 use Rattle.silence_laws.proofs.Owning.{IsQuietIn, IsForeign, own_or_foreign}
 use Rattle.silence_laws.proofs.Recent.{recent}
 use Rattle.silence_laws.proofs.Rival.{expired_by, IsUpdate, accepted_update, IsFree, get_free}
 use Rattle.silence_laws.proofs.Setting.{own_process}
 use Rattle.silence_laws.proofs.Stopping.{stays_down}
-use Rattle.silence_laws.proofs.Taken.{first, first_e, ways, long_after, sent_before}
-use Rattle.silence_laws.proofs.Taken as taken
-use Rattle.silence_laws.proofs.Waiting.{history_below, beats_rise, never_expires, counted_after}
+use Rattle.silence_laws.proofs.Taken.{first, first_low, long_after, sent_before}
+use Rattle.silence_laws.proofs.Waiting.{beats_rise, never_expires, counted_after}
 use Rattle.silence_laws.proofs.Ways.{IsWay, Went, went, sent_at, request_way, reply_way, beat_before}
 
 abbrev pub call_or : Call → Fact → Call
@@ -329,54 +328,28 @@ module _ (doc : Doc) (near far b e : ℕ) (q : Identity) (l : LeadsUntil doc nea
     -- ---- the lead
 
     module _ (k : ℕ) (lead : IsLead doc b e q k) where
-      abbrev r : Identity
-      r = lead.c
+      abbrev its : ItsWrite doc near far b e q l s k lead
+      its = its_write doc near far b e q l s k lead
 
-      role : is_controller doc r.process ≡ true
-      role = leading.role doc near far b e q l s k lead
+      abbrev o : Origin doc lead.c its.led.call its.led.reply its.led.before lead.x.beat
+      o = its.o
 
-      abbrev led : LedBy doc lead.x lead.version lead.before
-      led = leading.led doc near far b e q l s k lead
-
-      abbrev o : Origin doc r led.call led.reply led.before lead.x.beat
-      o = leading.o doc near far b e q l s k lead
-
-      o_e : IsTail (o.e ∷ o.low) (history doc (suc e))
-      o_e = leading.o_e doc near far b e q l s k lead
-
-      writes : has (at_key election (write_of o.e.fact)) ≡ true
-      writes = leading.writes doc near far b e q l s k lead
-
-      late : b ≤ o.e.beat + far
-      late = leading.late doc near far b e q l s k lead
-
-      heard_e : IsTail (entry lead.x.beat 3 r (Delivers led.call led.reply true) ∷ led.before) (history doc (suc e))
-      heard_e = leading.heard_e doc near far b e q l s k lead
-
-      led_e : IsTail led.before (history doc (suc e))
-      led_e = leading.S_e doc near far b e q l s k lead
+      abbrev w : Won doc o.e o.low
+      w = its.w
 
       -- it is of another process
-      other_process : r.process ≡ q.process → ⊥
+      other_process : lead.c.process ≡ q.process → ⊥
       other_process same =
-          none_is r.incarnation
-          (sym (down led.before (above_stop (entry lead.x.beat 3 r (Delivers led.call led.reply true)) led.before heard_e (omega (arith, lead.from, lead.at)) (omega arith)) led_e)
-          ∙ ap (λ p. alive p led.before) (sym same)
-          ∙ (counted_after doc s.rules (suc e) r (entry lead.x.beat 3 r (Delivers led.call led.reply true)) led.before led.call led.reply heard_e refl refl).up)
+          none_is lead.c.incarnation
+          (sym (down its.led.before (above_stop (entry lead.x.beat 3 lead.c (Delivers its.led.call its.led.reply true)) its.led.before its.heard_e (omega (arith, lead.from, lead.at)) (omega arith)) its.led_e)
+          ∙ ap (λ p. alive p its.led.before) (sym same)
+          ∙ (counted_after doc s.rules (suc e) lead.c (entry lead.x.beat 3 lead.c (Delivers its.led.call its.led.reply true)) its.led.before its.led.call its.led.reply its.heard_e refl refl).up)
 
-      passing : IsSteady doc near far 0 e r.process
-      passing = l.others r.process role other_process
+      passing : IsSteady doc near far 0 e lead.c.process
+      passing = l.others lead.c.process its.role other_process
 
-      first_low : IsTail (first doc near far b e q l s R low_e quiet) o.low
-      first_low =
-          tail_trans (first doc near far b e q l s R low_e quiet) (history doc (suc z.beat)) o.low (in_own_beat doc (suc e) z (taken.o doc near far b e q l s R low_e quiet).low (first_e doc near far b e q l s R low_e quiet))
-          (history_below doc z.beat e o.e o.low o_e sooner (omega (arith, sooner, beat_before doc e o.e o.low o_e)))
-        where
-          z : Entry
-          z = (taken.o doc near far b e q l s R low_e quiet).e
-
-          sooner : (taken.o doc near far b e q l s R low_e quiet).e.beat < o.e.beat
-          sooner = let ways = ways doc near far b e q l s R low_e quiet in omega (arith, ways.comes_least, taken.j_early doc near far b e q l s R low_e quiet, late, s.one, s.ways, l.long)
+      first_below : IsTail (first doc near far b e q l s R low_e quiet) o.low
+      first_below = first_low doc near far b e q l s R low_e quiet o.e o.low its.o_e (omega (arith, its.late))
 
       -- nobody else wrote before the release was accepted
       not_sooner : IsTail (o.e ∷ o.low) R → ⊥
@@ -384,14 +357,14 @@ module _ (doc : Doc) (near far b e : ℕ) (q : Identity) (l : LeadsUntil doc nea
         where
           found : IsForeign doc near far b e q l s R low_e quiet (first doc near far b e q l s R low_e quiet) R
           found =
-              ⊎_elim (λ all. absurd (lead.other (actor_is r q (sym o.actor ∙ all o.e o.low low first_low writes)))) (λ f. f)
-              (own_or_foreign doc near far b e q l s R low_e quiet (first doc near far b e q l s R low_e quiet) R (tail_trans (first doc near far b e q l s R low_e quiet) (o.e ∷ o.low) R (inr first_low) low))
+              ⊎_elim (λ all. absurd (lead.other (actor_is lead.c q (sym o.actor ∙ all o.e o.low low first_below its.writes)))) (λ f. f)
+              (own_or_foreign doc near far b e q l s R low_e quiet (first doc near far b e q l s R low_e quiet) R (tail_trans (first doc near far b e q l s R low_e quiet) (o.e ∷ o.low) R (inr first_below) low))
 
       after_release : IsTail (entry rel.at 2 q (Answers rel.call (Done rel.version) rel.comes (Some rel.object)) ∷ R) o.low
-      after_release = by_place (tails_meet (entry rel.at 2 q (Answers rel.call (Done rel.version) rel.comes (Some rel.object)) ∷ R) (o.e ∷ o.low) (history doc (suc e)) R_e o_e)
+      after_release = by_place (tails_meet (entry rel.at 2 q (Answers rel.call (Done rel.version) rel.comes (Some rel.object)) ∷ R) (o.e ∷ o.low) (history doc (suc e)) R_e its.o_e)
         where
           differ : entry rel.at 2 q (Answers rel.call (Done rel.version) rel.comes (Some rel.object)) ≡ o.e → ⊥
-          differ same = lead.other (actor_is r q (sym o.actor ∙ sym (ap (λ (x : Entry). x.actor) same)))
+          differ same = lead.other (actor_is lead.c q (sym o.actor ∙ sym (ap (λ (x : Entry). x.actor) same)))
 
           by_place : IsTail (entry rel.at 2 q (Answers rel.call (Done rel.version) rel.comes (Some rel.object)) ∷ R) (o.e ∷ o.low) ⊎ IsTail (o.e ∷ o.low) (entry rel.at 2 q (Answers rel.call (Done rel.version) rel.comes (Some rel.object)) ∷ R)
               → IsTail (entry rel.at 2 q (Answers rel.call (Done rel.version) rel.comes (Some rel.object)) ∷ R) o.low
@@ -402,7 +375,7 @@ module _ (doc : Doc) (near far b e : ℕ) (q : Identity) (l : LeadsUntil doc nea
 
       -- so it wrote over a record that is no older
       low_o : IsTail o.low (history doc (suc e))
-      low_o = tail_trans o.low (o.e ∷ o.low) (history doc (suc e)) (inr (tail_all o.low)) o_e
+      low_o = tail_trans o.low (o.e ∷ o.low) (history doc (suc e)) (inr (tail_all o.low)) its.o_e
 
       base : IsThere rel.at o.low
       base = there_since (entry rel.at 2 q (Answers rel.call (Done rel.version) rel.comes (Some rel.object))) R (omega (arith, rel.least, s.one)) release_writes o.low after_release low_o
@@ -410,83 +383,71 @@ module _ (doc : Doc) (near far b e : ℕ) (q : Identity) (l : LeadsUntil doc nea
       kept : Kept o.low base.y
       kept = kept_of o.low base.y base.top
 
-      w : Won doc o.e o.low
-      w = is_won doc s.sound s.rules e s.end o.e o.low o_e (omega (arith, late, l.long, s.one, s.ways)) writes
-
-      whose : w.who ≡ r
-      whose = actor_is w.who r (sym w.actor ∙ o.actor)
-
-      f_actor : w.f.actor ≡ actor_of r
-      f_actor = w.f_actor ∙ ap actor_of whose
-
-      asked_e : IsTail (w.f ∷ w.low) (history doc (suc e))
-      asked_e = tail_trans (w.f ∷ w.low) (o.e ∷ o.low) (history doc (suc e)) (inr w.asked) o_e
-
       w_low : IsTail w.low o.low
       w_low = tail_trans w.low (w.f ∷ w.low) o.low (inr (tail_all w.low)) w.asked
 
-      unstopped : (x : Entry) → In x (history doc (suc e)) → x.fact ≡ Stops → has (of_process r.process x.actor) ≡ true → ⊥
+      unstopped : (x : Entry) → In x (history doc (suc e)) → x.fact ≡ Stops → has (of_process lead.c.process x.actor) ≡ true → ⊥
       unstopped x stands fact own = never (passing.stops x stands fact own)
         where
           never : x.beat < 0 → ⊥
           never lt = omega (arith, lt)
 
       opens : open_as w.call.kind w.call ≡ Some w.call
-      opens = opens_of doc s.rules e r role unstopped w.f w.low w.call (Some o.e.beat) asked_e f_actor w.f_fact
+      opens = opens_of doc s.rules e lead.c its.role unstopped w.f w.low w.call (Some o.e.beat) its.asked_e its.f_actor w.f_fact
 
       way : IsWay near far w.f.beat o.e.beat
-      way = request_way doc s.rules near far e r role passing w.f w.low w.call o.e.beat asked_e f_actor w.f_fact opens (λ j low high soon. l.goes j (omega (arith, high, beat_before doc e o.e o.low o_e)))
+      way = request_way doc s.rules near far e lead.c its.role passing w.f w.low w.call o.e.beat its.asked_e its.f_actor w.f_fact opens (λ j low high soon. l.goes j (omega (arith, high, beat_before doc e o.e o.low its.o_e)))
 
       made_answer : MadeAnswer doc o.e.beat o.e.step o.e.actor w.call w.reply w.comes w.wrote o.low
-      made_answer = subst (λ d. MadeAs doc o.e.beat o.e.step o.e.actor d o.low) w.fact (are_made doc s.rules (suc e) o.e o.low o_e)
+      made_answer = subst (λ d. MadeAs doc o.e.beat o.e.step o.e.actor d o.low) w.fact (are_made doc s.rules (suc e) o.e o.low its.o_e)
 
       update : IsUpdate w.call.request base.y
       update =
-          accepted_update w.call.request w.reply o.low base.y (asks_election doc s.sound s.rules e s.end r role w.f w.call (Some o.e.beat) (in_head w.f w.low (history doc (suc e)) asked_e) f_actor w.f_fact)
+          accepted_update w.call.request w.reply o.low base.y (asks_election doc s.sound s.rules e s.end lead.c its.role w.f w.call (Some o.e.beat) (in_head w.f w.low (history doc (suc e)) its.asked_e) its.f_actor w.f_fact)
           (made_answer.reply_is ∙ ap (λ (c : Call). answer c.request o.low) (sym made_answer.call_is)) base.top w.so
 
       -- it hadn't led before
-      unled : leads r w.low ≡ false
-      unled = by_test (leads r w.low) refl
+      unled : leads lead.c w.low ≡ false
+      unled = by_test (leads lead.c w.low) refl
         where
-          no_lead : leads r lead.before ≡ false
-          no_lead = leads_are_new doc s.rules (suc e) r lead.x lead.before lead.version lead.position (leading.facts doc near far b e q l s k lead).0 (leading.facts doc near far b e q l s k lead).1
+          no_lead : leads lead.c lead.before ≡ false
+          no_lead = leads_are_new doc s.rules (suc e) lead.c lead.x lead.before lead.version lead.position (leading.facts doc near far b e q l s k lead).0 (leading.facts doc near far b e q l s k lead).1
 
           below : IsTail w.low lead.before
           below =
-              tail_trans w.low led.before lead.before
-              (tail_trans w.low (o.e ∷ o.low) led.before (inr w_low) o.answered)
-              (subst (IsTail led.before) (sym led.is) (inr (tail_all led.before)))
+              tail_trans w.low its.led.before lead.before
+              (tail_trans w.low (o.e ∷ o.low) its.led.before (inr w_low) o.answered)
+              (subst (IsTail its.led.before) (sym its.led.is) (inr (tail_all its.led.before)))
 
-          by_test : (b : Bool) → leads r w.low ≡ b → leads r w.low ≡ false
+          by_test : (b : Bool) → leads lead.c w.low ≡ b → leads lead.c w.low ≡ false
           by_test false is = is
-          by_test true is = absurd (true_is (sym (leads_on r w.low lead.before below is) ∙ no_lead))
+          by_test true is = absurd (true_is (sym (leads_on lead.c w.low lead.before below is) ∙ no_lead))
 
       made : MadeSend doc w.f.beat w.f.step w.f.actor w.call (Some o.e.beat) w.low
-      made = subst (λ d. MadeAs doc w.f.beat w.f.step w.f.actor d w.low) w.f_fact (are_made doc s.rules (suc e) w.f w.low asked_e)
+      made = subst (λ d. MadeAs doc w.f.beat w.f.step w.f.actor d w.low) w.f_fact (are_made doc s.rules (suc e) w.f w.low its.asked_e)
 
-      mine_made : made.q ≡ r
-      mine_made = actor_is made.q r (sym made.by ∙ f_actor)
+      mine_made : made.q ≡ lead.c
+      mine_made = actor_is made.q lead.c (sym made.by ∙ its.f_actor)
 
       role_made : is_controller doc made.q.process ≡ true
-      role_made = subst (λ (p : Identity). is_controller doc p.process ≡ true) (sym mine_made) role
+      role_made = subst (λ (p : Identity). is_controller doc p.process ≡ true) (sym mine_made) its.role
 
       request_made : made.request ≡ Update election update.version update.lease
       request_made = sym (ap (λ (c : Call). c.request) made.call_is) ∙ update.is
 
       -- and the Get that found the record was answered after the release
       in_turn : w.f.step ≡ 4 → ⊥
-      in_turn four = by_due (subst (λ d. IsTurnSend doc w.f.beat r d w.low) w.f_fact (sends_are_due doc s.rules (suc e) w.f w.low asked_e four r f_actor) role)
+      in_turn four = by_due (subst (λ d. IsTurnSend doc w.f.beat lead.c d w.low) w.f_fact (sends_are_due doc s.rules (suc e) w.f w.low its.asked_e four lead.c its.f_actor) its.role)
         where
           get_not : Get election ≡ Update election update.version update.lease → ⊥
           get_not is = cc
 
-          by_due : IsDue doc w.f.beat r w.call w.low → ⊥
+          by_due : IsDue doc w.f.beat lead.c w.call w.low → ⊥
           by_due (inl fast) =
-              let x = expired_by r w.f.beat w.low fast in
-              never_expires doc s.rules near far e s.one r role passing (s.calls r.process role) x.x x.before x.call
-              (tail_trans (x.x ∷ x.before) w.low (history doc (suc e)) x.position (tail_trans w.low (w.f ∷ w.low) (history doc (suc e)) (inr (tail_all w.low)) asked_e)) x.actor x.fact
-          by_due (inr due) = get_not (sym (attempt_gets doc r w.f.beat w.low unled) ∙ sym due.1 ∙ update.is)
+              let x = expired_by lead.c w.f.beat w.low fast in
+              never_expires doc s.rules near far e s.one lead.c its.role passing (s.calls lead.c.process its.role) x.x x.before x.call
+              (tail_trans (x.x ∷ x.before) w.low (history doc (suc e)) x.position (tail_trans w.low (w.f ∷ w.low) (history doc (suc e)) (inr (tail_all w.low)) its.asked_e)) x.actor x.fact
+          by_due (inr due) = get_not (sym (attempt_gets doc lead.c w.f.beat w.low unled) ∙ sym due.1 ∙ update.is)
 
       replied : Replied doc w.f.beat made.q made.request w.low → rel.at + near ≤ w.f.beat
       replied p = omega (arith, base.since, kept.beat, beats_rise doc e o2.e o2.low o2_e kept.z kept.before found.low, trip.reply.least)
@@ -499,20 +460,20 @@ module _ (doc : Doc) (near far b e : ℕ) (q : Identity) (l : LeadsUntil doc nea
               get_free made.q (moment doc made.q w.f.beat) (observed_at doc made.q w.low) p.reply update.version update.lease
               (ap (λ request. follow made.q (moment doc made.q w.f.beat) (observed_at doc made.q w.low) p.waiting.kind request p.reply) (sym get.1) ∙ p.follows ∙ ap Asks request_made)
 
-          low_is : w.low ≡ entry w.f.beat 3 r (Delivers p.waiting p.reply true) ∷ p.before
+          low_is : w.low ≡ entry w.f.beat 3 lead.c (Delivers p.waiting p.reply true) ∷ p.before
           low_is = p.is ∙ ap (λ c. entry w.f.beat 3 c (Delivers p.waiting p.reply true) ∷ p.before) mine_made
 
-          at_d : IsTail (entry w.f.beat 3 r (Delivers p.waiting p.reply true) ∷ p.before) o.low
+          at_d : IsTail (entry w.f.beat 3 lead.c (Delivers p.waiting p.reply true) ∷ p.before) o.low
           at_d = subst (λ g. IsTail g o.low) low_is w_low
 
-          d_e : IsTail (entry w.f.beat 3 r (Delivers p.waiting p.reply true) ∷ p.before) (history doc (suc e))
-          d_e = tail_trans (entry w.f.beat 3 r (Delivers p.waiting p.reply true) ∷ p.before) o.low (history doc (suc e)) at_d low_o
+          d_e : IsTail (entry w.f.beat 3 lead.c (Delivers p.waiting p.reply true) ∷ p.before) (history doc (suc e))
+          d_e = tail_trans (entry w.f.beat 3 lead.c (Delivers p.waiting p.reply true) ∷ p.before) o.low (history doc (suc e)) at_d low_o
 
           p_e : IsTail p.before (history doc (suc e))
-          p_e = tail_trans p.before (entry w.f.beat 3 r (Delivers p.waiting p.reply true) ∷ p.before) (history doc (suc e)) (inr (tail_all p.before)) d_e
+          p_e = tail_trans p.before (entry w.f.beat 3 lead.c (Delivers p.waiting p.reply true) ∷ p.before) (history doc (suc e)) (inr (tail_all p.before)) d_e
 
-          o2 : Origin doc r p.waiting p.reply p.before w.f.beat
-          o2 = origin doc s.rules (suc e) r (entry w.f.beat 3 r (Delivers p.waiting p.reply true)) p.before p.waiting p.reply d_e refl refl
+          o2 : Origin doc lead.c p.waiting p.reply p.before w.f.beat
+          o2 = origin doc s.rules (suc e) lead.c (entry w.f.beat 3 lead.c (Delivers p.waiting p.reply true)) p.before p.waiting p.reply d_e refl refl
 
           o2_e : IsTail (o2.e ∷ o2.low) (history doc (suc e))
           o2_e = tail_trans (o2.e ∷ o2.low) p.before (history doc (suc e)) o2.answered p_e
@@ -520,11 +481,11 @@ module _ (doc : Doc) (near far b e : ℕ) (q : Identity) (l : LeadsUntil doc nea
           low2 : IsTail o2.low o.low
           low2 =
               tail_trans o2.low (o2.e ∷ o2.low) o.low (inr (tail_all o2.low))
-              (tail_trans (o2.e ∷ o2.low) (entry w.f.beat 3 r (Delivers p.waiting p.reply true) ∷ p.before) o.low (inr o2.answered) at_d)
+              (tail_trans (o2.e ∷ o2.low) (entry w.f.beat 3 lead.c (Delivers p.waiting p.reply true) ∷ p.before) o.low (inr o2.answered) at_d)
 
           key2 : key_of p.waiting.request ≡ election
           key2 =
-              asks_election doc s.sound s.rules e s.end r role o2.begun.f p.waiting o2.begun.arrives
+              asks_election doc s.sound s.rules e s.end lead.c its.role o2.begun.f p.waiting o2.begun.arrives
               (in_head o2.begun.f o2.begun.before (history doc (suc e)) (tail_trans (o2.begun.f ∷ o2.begun.before) p.before (history doc (suc e)) o2.begun.position p_e)) o2.begun.actor o2.begun.fact
 
           get_election : p.waiting.request ≡ Get election
@@ -535,8 +496,8 @@ module _ (doc : Doc) (near far b e : ℕ) (q : Identity) (l : LeadsUntil doc nea
               found_kept o.low base.y base.top kept o2.low low2 update.version free.lease (ap (λ q. answer q o2.low) (sym get_election) ∙ sym o2.reply_is ∙ free.found)
               (ap (λ n. record { 0 = n }) update.same)
 
-          trip : Went doc s.rules near far e r role passing o2.begun.f.beat o2.e.beat w.f.beat
-          trip = went doc s.rules near far e r role passing p.waiting p.reply p.before w.f.beat o2 p_e (beat_before doc e w.f w.low asked_e)
+          trip : Went doc s.rules near far e lead.c its.role passing o2.begun.f.beat o2.e.beat w.f.beat
+          trip = went doc s.rules near far e lead.c its.role passing p.waiting p.reply p.before w.f.beat o2 p_e (beat_before doc e w.f w.low its.asked_e)
 
       sent_late : rel.at + near ≤ w.f.beat
       sent_late = by_step made.step_is
@@ -549,14 +510,14 @@ module _ (doc : Doc) (near far b e : ℕ) (q : Identity) (l : LeadsUntil doc nea
               stopped_or : HasStopped w.f.beat made.q made.kind w.low ⊎ ((alive made.q.process w.low ≡ Some made.q.incarnation) × (call_in made.q w.low ≡ None) × (3 ≤ w.f.step) × IsOpen made.kind) → ⊥
               stopped_or (inr free) = omega (arith, free.2, one_is)
               stopped_or (inl stopped) =
-                  unstopped (entry w.f.beat 1 made.q Stops) (in_tail (entry w.f.beat 1 made.q Stops) (w.f ∷ w.low) (history doc (suc e)) asked_e (inr (subst (In (entry w.f.beat 1 made.q Stops)) (sym stopped.is) (inl refl)))) refl
-                  (ap (λ b. has (when b made.q.incarnation)) (eq-eqb made.q.process r.process (ap (λ (p : Identity). p.process) mine_made)))
+                  unstopped (entry w.f.beat 1 made.q Stops) (in_tail (entry w.f.beat 1 made.q Stops) (w.f ∷ w.low) (history doc (suc e)) its.asked_e (inr (subst (In (entry w.f.beat 1 made.q Stops)) (sym stopped.is) (inl refl)))) refl
+                  (ap (λ b. has (when b made.q.incarnation)) (eq-eqb made.q.process lead.c.process (ap (λ (p : Identity). p.process) mine_made)))
 
       pub four_ways : b + 4 * near ≤ k
       four_ways = omega (arith, rel.least, sent_late, way.least, told.least, lead.at)
         where
           told : IsWay near far o.e.beat lead.x.beat
-          told = reply_way doc s.rules near far e r role passing o.e o.low o_e o.step lead.x.beat (leading.k_e doc near far b e q l s k lead) o.comes_is
+          told = reply_way doc s.rules near far e lead.c its.role passing o.e o.low its.o_e o.step lead.x.beat (leading.k_e doc near far b e q l s k lead) o.comes_is
 
 pub releases_last : ReleasesLast
 releases_last doc near far b e q l s stop rel k lead = four_ways doc near far b e q l s stop rel k lead

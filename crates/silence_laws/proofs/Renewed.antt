@@ -48,7 +48,7 @@ use Rattle.stay_laws.proofs.Leading.{in_term, up_at, later}
 use Rattle.stay_laws.proofs.Trying.{HasTried, has_tried}
 use Rattle.stay_laws.proofs.Closing as closing
 use Rattle.stay_laws.proofs.Closing.{IsReplied, is_replied}
-use Rattle.stay_laws.proofs.Sendings.{IsFree, is_free}
+use Rattle.call_laws.proofs.Sending.{IsFree, is_free}
 use Rattle.stay_laws.proofs.Sendings as sendings
 use Rattle.stay_laws.proofs.Succeeded.{IsSet}
 use Rattle.stay_laws.proofs.Written as wrote

@@ -1,39 +1,35 @@
 -- Somebody else comes to lead after a leader has fallen silent: by then the leader's record was taken over, and it wasn't old at the beat of the silence.
-use Rattle.std.proofs.Common.{◌≡◌, ◌<◌, ◌≤◌, ℕ, suc, ◌+◌, ◌-◌, ◌*◌, not, Bool, true, false, List, ◌∷◌, length, Some, IfSome, refl, sym, ap, ◌∙◌, subst, inr, ⊎_elim, arith}
+use Rattle.std.proofs.Common.{◌≡◌, ◌<◌, ◌≤◌, ℕ, suc, ◌+◌, ◌-◌, ◌*◌, not, Bool, true, false, List, ◌∷◌, refl, sym, ap, ◌∙◌, subst, inr, ⊎_elim, arith}
 use Rattle.std.proofs.Math.Nat.{mul-le-mul_right}
 use Rattle.std.proofs.lemmas.Bool.{cases_lt}
 use Rattle.kube_objects.specs.declared.call.Reply.TheVariants.{Done}
 use Rattle.kube_objects.specs.Clocks.{local}
-use Rattle.kube_objects.specs.Document.{Doc, end_beat, is_controller}
-use Rattle.kube_objects.specs.Elector.{succeeds}
-use Rattle.kube_objects.specs.Entry.{Entry, Identity, Answers, actor_of}
+use Rattle.kube_objects.specs.Document.{Doc, end_beat}
+use Rattle.kube_objects.specs.Entry.{Entry, Identity, actor_of}
 use Rattle.kube_objects.specs.Identities.{is_same, is_other}
 use Rattle.kube_objects.specs.Newest.{has}
 use Rattle.kube_objects.specs.Stored.{election, at_key, write_of}
-use Rattle.kube_objects.specs.Wire.{back_of}
-use Rattle.history.specs.History.{history, whole_history}
-use Rattle.history.specs.Premise.{greatest_below}
+use Rattle.history.specs.History.{history}
 use Rattle.history_laws.specs.Tails.{IsTail}
 use Rattle.history_laws.proofs.Plainly.{same_is}
 use Rattle.history_laws.proofs.Tailed.{tail_all, tail_trans, later_tail}
-use Rattle.lease_laws.proofs.Premises.{rates_at_most}
 use Rattle.takeover_laws.specs.Waits.{blocked_for}
 use Rattle.takeover_laws.proofs.Waits.{blocked_time}
 use Rattle.span_laws.proofs.Spans.{goes_most}
-use Rattle.gap_laws.proofs.Waits.{Waited, WaitedFor, Topped, Took, Waits}
-use Rattle.gap_laws.proofs.Histories.{whole_known}
+use Rattle.gap_laws.proofs.Waits.{Waited, WaitedFor, Took}
 use Rattle.call_laws.proofs.Placing.{in_own_beat}
 use Rattle.calm_laws.proofs.Origins.{Origin}
 use Rattle.stay_laws.proofs.Won.{Won, is_won}
 use Rattle.stay_laws.proofs.Alone.{alone_since}
 use Rattle.stay_laws.proofs.Given.{IsGiven}
-use Rattle.stay_laws.proofs.Rivals.{plainly}
+use Rattle.stay_laws.proofs.Rivals.{plainly, won_topped, won_waited}
 use Rattle.stay_laws.proofs.Sendings as sendings
 use Rattle.stay_laws.proofs.Written as wrote
 use Rattle.silence_laws.proofs.Renewed as renewed
 use Rattle.silence_laws.specs.Silence.{LeadsUntil, Bears}
 use Rattle.silence_laws.proofs.Setting.{calm_before, times_before, its_lead, its_time, some_b}
 use Rattle.silence_laws.proofs.Owning.{IsQuietIn, IsOwn, IsForeign, own_since}
+use Rattle.silence_laws.proofs.Waiting.{history_below}
 use Rattle.silence_laws.proofs.Ways.{beat_before}
 
 module _ (doc : Doc) (near far b e : ℕ) (q : Identity) (l : LeadsUntil doc near far b e q) (s : Bears doc near far b e q) (H : List Entry) (H_e : IsTail H (history doc (suc e))) (quiet : IsQuietIn b q.process H) where
@@ -74,6 +70,15 @@ module _ (doc : Doc) (near far b e : ℕ) (q : Identity) (l : LeadsUntil doc nea
   pub first_writes : has (at_key election (write_of o.e.fact)) ≡ true
   first_writes = wrote.writes doc near far 0 a s.sound s.rules (calm_before doc near far b e q l s) (times_before doc near far b e q l s) s.one end_a q l.role l.steady s.renews j j_to given
 
+  -- it stands below what comes three ways before b, or later
+  pub first_low : (x : Entry) (T : List Entry) → IsTail (x ∷ T) (history doc (suc e)) → b ≤ x.beat + 3 * far → IsTail first T
+  first_low x T at late =
+      tail_trans first (history doc (suc o.e.beat)) T (in_own_beat doc (suc e) o.e o.low first_e)
+      (history_below doc o.e.beat e x T at sooner (omega (arith, sooner, beat_before doc e x T at)))
+    where
+      sooner : o.e.beat < x.beat
+      sooner = omega (arith, ways.comes_least, j_early, late, s.one, s.ways, l.long)
+
   -- a write of somebody else above it comes at b or later
   pub foreign_late : (f : IsForeign doc near far b e q l s H H_e quiet first H) → b ≤ f.x.beat
   foreign_late f = ⊎_elim (λ lt. absurd (early lt)) (λ le. le) (cases_lt f.x.beat b)
@@ -107,20 +112,15 @@ module _ (doc : Doc) (near far b e : ℕ) (q : Identity) (l : LeadsUntil doc nea
     pub rival : won.who ≡ q → ⊥
     rival same = f.other (won.actor ∙ ap actor_of same)
 
-    back_is : back_of f.x.actor f.x.fact ≡ Some (record { who = won.who; call = won.call; reply = won.reply; comes = won.comes })
-    back_is = ap (λ d. back_of f.x.actor d) won.fact ∙ ap (λ who. back_of who (Answers won.call won.reply won.comes won.wrote)) won.actor
-
-    known : Waits doc plainly (end_beat doc) (whole_history doc)
-    known = whole_known doc s.sound s.rules (greatest_below doc (length doc.controllers)) (rates_at_most doc) plainly (λ x h at from late. (omega arith, omega arith))
+    x_e : IsTail (f.x ∷ f.before) (history doc (suc e))
+    x_e = tail_trans (f.x ∷ f.before) H (history doc (suc e)) f.position H_e
 
     -- it waited for the record's duration since it was shown it
     took : Took doc plainly (record { who = won.who; call = won.call; reply = won.reply; comes = won.comes }) f.x.beat f.before
-    took =
-        (subst (λ o. IfSome o (λ b. is_controller doc b.who.process ≡ true → succeeds b.call.request b.reply ≡ true → Topped doc f.x f.before × Took doc plainly b f.x.beat f.before)) back_is
-        (known.answers f.x f.before (tail_trans (f.x ∷ f.before) (history doc (suc e)) (whole_history doc) (tail_trans (f.x ∷ f.before) H (history doc (suc e)) f.position H_e) (later_tail doc (suc e) (suc (end_beat doc)) (omega (arith, s.end))))) won.role won.so).1
+    took = (won_topped doc s.sound s.rules e s.end f.x f.before x_e won).1
 
     base : (own.y.beat ≤ won.call.sent) × WaitedFor doc plainly won.who won.call.sent own.y
-    base = subst (λ o. IfSome o (λ y. (y.beat ≤ won.call.sent) × WaitedFor doc plainly won.who won.call.sent y)) own.top took.base
+    base = won_waited doc s.sound s.rules e s.end f.x f.before x_e won own.y own.top
 
     differs : (b : Bool) → is_same q won.who ≡ b → is_same q won.who ≡ false
     differs true is = absurd (rival (sym (same_is q won.who is)))

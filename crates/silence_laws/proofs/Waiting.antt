@@ -18,13 +18,14 @@ use Rattle.span_laws.proofs.Spans.{goes_most}
 use Rattle.call_laws.proofs.Making.{MadeAs, MadeExpiry, MadeDelivery, are_made}
 use Rattle.call_laws.proofs.Placing.{in_own_beat}
 use Rattle.call_laws.proofs.Starting.{actor_is}
+use Rattle.call_laws.proofs.Sending.{is_free}
 use Rattle.takeover_laws.specs.Calm.{IsSteady, IsInTime}
 use Rattle.takeover_laws.specs.Rounds.{HasCounted}
 use Rattle.takeover_laws.proofs.Writers.{replies_count}
 use Rattle.calm_laws.proofs.Begun.{Begun, begun_by}
 use Rattle.calm_laws.proofs.Life.{up_between}
 use Rattle.calm_laws.proofs.Origins.{sends_differ}
-use Rattle.silence_laws.proofs.Ways.{sent_freely, beat_before, sent_beat}
+use Rattle.silence_laws.proofs.Ways.{beat_before, sent_beat}
 
 -- the history before a beat stands below an entry of the beat or a later one
 pub history_below : (doc : Doc) (n e : ℕ) (x : Entry) (T : List Entry) → IsTail (x ∷ T) (history doc (suc e)) → n < x.beat → n ≤ e → IsTail (history doc (suc n)) T
@@ -128,7 +129,7 @@ module _ (doc : Doc) (rules : ReleasesByStop doc) (near far e : ℕ) (one : 1 �
           still : (h : List Entry) → IsTail b.before h → IsTail h (history doc (suc n)) → alive q.process h ≡ Some q.incarnation
           still h under above =
               up_between doc rules (suc e) q b.before h T under (tail_trans h (history doc (suc n)) T above low) below
-              (sent_freely doc rules (suc e) q role b.f b.before w b.arrives position b.actor b.fact b.opens).up
+              (is_free doc rules (suc e) q role b.f b.before w b.arrives position b.actor b.fact b.opens).up
               (subst (λ (q : Identity). alive q.process T ≡ Some q.incarnation) mine made.up)
 
           by_count : HasCounted doc q w (b.f.beat + 2 * near) (b.f.beat + 2 * far) → ⊥

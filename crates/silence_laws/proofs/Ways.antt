@@ -1,11 +1,11 @@
 -- How long a call of a controller was under way whose messages pass, and that it doesn't expire.
-use Rattle.std.proofs.Common.{◌≡◌, ◌⊎◌, ◌≤◌, ℕ, suc, ◌+◌, true, false, List, ◌∷◌, Option, Some, None, IfSome, sym, ap, ◌∙◌, subst, inl, inr, ⊎_elim, arith}
+use Rattle.std.proofs.Common.{◌≡◌, ◌≤◌, ℕ, suc, ◌+◌, true, false, List, ◌∷◌, Option, Some, IfSome, sym, ap, ◌∙◌, subst, ⊎_elim, arith}
 use Rattle.kube_objects.specs.declared.call.Reply.{Reply}
 use Rattle.kube_objects.specs.Document.{Doc, is_controller}
 use Rattle.kube_objects.specs.Entry.{Entry, Identity, Call, Sends, actor_of}
 use Rattle.kube_objects.specs.Newest.{or_else}
 use Rattle.kube_objects.specs.Pauses.{resume, held_up}
-use Rattle.kube_objects.specs.Process.{alive, open_as, call_in}
+use Rattle.kube_objects.specs.Process.{open_as}
 use Rattle.kube_objects.specs.Wire.{reply_delay_of, reply_loss_of, request_delay, reply_delay, arrival, request_arrival, reply_arrival}
 use Rattle.kube_objects.specs.Own.{ReleasesByStop}
 use Rattle.kube_objects.proofs.Pauses.{resume_later}
@@ -18,37 +18,13 @@ use Rattle.kube_objects.specs.Stalls.{is_stalled, awake}
 use Rattle.kube_objects.proofs.Stalls.{awake_now, awake_later}
 use Rattle.call_laws.specs.Answering.{with_events}
 use Rattle.call_laws.proofs.Above.{in_head}
-use Rattle.call_laws.proofs.Making.{MadeAs, MadeSend, HasStopped, IsOpen, are_made}
 use Rattle.call_laws.proofs.Placing.{forces_stand, messages_travel}
-use Rattle.call_laws.proofs.Starting.{actor_is}
+use Rattle.call_laws.proofs.Sending.{is_free}
 use Rattle.takeover_laws.specs.Calm.{Passes, IsSteady}
 use Rattle.takeover_laws.proofs.Rounds.{Forces, reply_passes, sent_is, request_awakes}
 use Rattle.calm_laws.proofs.Origins.{Origin}
-use Rattle.calm_laws.proofs.Asked.{not_open}
 
--- ---- a request that waits for a reply is sent after the events of its beat, by one who is up and has no other
-
-pub record IsFreely (q : Identity) (x : Entry) (T : List Entry) : Type 0 where
-  pub step : 3 ≤ x.step
-  pub up : alive q.process T ≡ Some q.incarnation
-  pub idle : call_in q T ≡ None
-
-pub sent_freely : (doc : Doc) → ReleasesByStop doc → (m : ℕ) (q : Identity) → is_controller doc q.process ≡ true → (x : Entry) (T : List Entry) (call : Call) (arrives : Option ℕ) → IsTail (x ∷ T) (history doc m) → x.actor ≡ actor_of q → x.fact ≡ Sends call arrives
-    → open_as call.kind call ≡ Some call → IsFreely q x T
-sent_freely doc rules m q role x T call arrives at actor fact opens = by_free (made.free role_made)
-  where
-    made : MadeSend doc x.beat x.step x.actor call arrives T
-    made = subst (λ d. MadeAs doc x.beat x.step x.actor d T) fact (are_made doc rules m x T at)
-
-    mine : made.q ≡ q
-    mine = actor_is made.q q (sym made.by ∙ actor)
-
-    role_made : is_controller doc made.q.process ≡ true
-    role_made = ap (λ (p : Identity). is_controller doc p.process) mine ∙ role
-
-    by_free : HasStopped x.beat made.q made.kind T ⊎ ((alive made.q.process T ≡ Some made.q.incarnation) × (call_in made.q T ≡ None) × (3 ≤ x.step) × IsOpen made.kind) → IsFreely q x T
-    by_free (inr free) = record { step = free.2; up = subst (λ (q : Identity). alive q.process T ≡ Some q.incarnation) mine free.0; idle = ap (λ q. call_in q T) (sym mine) ∙ free.1 }
-    by_free (inl stopped) = absurd (not_open call (subst (λ kind. open_as kind call ≡ Some call) (ap (λ (c : Call). c.kind) made.call_is ∙ stopped.kind_is) opens))
+-- ---- beats
 
 -- an entry of the history before a beat is of an earlier one
 pub beat_before : (doc : Doc) (m : ℕ) (x : Entry) (T : List Entry) → IsTail (x ∷ T) (history doc (suc m)) → x.beat ≤ m
@@ -76,7 +52,7 @@ module _ (doc : Doc) (rules : ReleasesByStop doc) (near far e : ℕ) (q : Identi
   request_way x T call k at actor fact opens goes = record { least = omega (arith, same, passes.request_least); most = omega (arith, same, passes.request_most) }
     where
       step : 3 ≤ x.step
-      step = (sent_freely doc rules (suc e) q role x T call (Some k) at actor fact opens).step
+      step = (is_free doc rules (suc e) q role x T call (Some k) at actor fact opens).step
 
       passes : Passes doc near far q.process x.beat
       passes = steady.passes x.beat (omega arith) (beat_before doc e x T at)

@@ -10,14 +10,14 @@ pub fn silents_are_quiet()
     ensures { SilentsAreQuiet }
 {}
 
-/// Where a leader crashes in a calm, or is cut off, nobody else comes to lead before so many beats have passed as a candidate's looks at the
+/// If a leader crashes in a calm, or is cut off, nobody else comes to lead before so many beats have passed as a candidate's looks at the
 /// lease take at least, and three messages, less what can have passed since the leader's last renewal.
 pub fn silences_last()
     ensures last { SilencesLast }
     ensures told { SilencesAreTold }
 {}
 
-/// Where a leader in a calm is stopped and its release is accepted, nobody else comes to lead before four messages have travelled: the release,
+/// If a leader in a calm is stopped and its release is accepted, nobody else comes to lead before four messages have travelled: the release,
 /// and the reply, the request and the reply by which another one finds that nobody holds the lease, and takes it.
 pub fn releases_last()
     ensures { ReleasesLast }

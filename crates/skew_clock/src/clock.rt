@@ -86,7 +86,7 @@ impl Clock {
         })
     }
 
-    /// From this beat on the clock runs at `ppm` parts per million, until the next set. Where there is no memory the clock stays as it was.
+    /// From this beat on the clock runs at `ppm` parts per million, until the next set. If memory runs out the clock stays as it was.
     pub fn set_rate(&mut self, beat: Beat, ppm: u32) -> Result<(), NoMemory>
         requires later { last_set self.old.sets ≤ beat.0 }
         requires within { beat.0 ≤ self.old.end }

@@ -15,7 +15,8 @@ use Rattle.history.specs.Spacing.{is_head, row_began, greatest_span, is_between,
 use Rattle.history_laws.specs.Order.{IsOrdered}
 use Rattle.history_laws.specs.Tails.{In}
 use Rattle.history_laws.proofs.Plainly.{false_is, and_left, and_right, and_both, same_is, same_self}
-use Rattle.spacing_laws.proofs.Rates.{more_both, since_most}
+use Rattle.lease_laws.proofs.TwoPauses.{more_both}
+use Rattle.spacing_laws.proofs.Rates.{since_most}
 use Rattle.spacing_laws.proofs.Rows.{turn_spaced}
 use Rattle.spacing_laws.proofs.Spaced.{head_tick, not_later}
 use Rattle.spacing_laws.proofs.Turns.{IsKnown, IsTurn, known_below, turn_of}

@@ -21,9 +21,9 @@ use Rattle.history.specs.Steps.{step_one, step_two, if_up, elector_turn, ticks_w
 use Rattle.history_laws.specs.Tails.{In}
 use Rattle.history_laws.proofs.Order.{entries_are_earlier}
 use Rattle.history_laws.proofs.Plainly.{for_new, true_is, false_is, same_is}
-use Rattle.history_laws.proofs.Ticks.{walk_tick}
+use Rattle.history_laws.proofs.Ticks.{walk_tick, is_cleaning, is_heading, kept_sync}
 use Rattle.history_laws.proofs.Walk.{IsPlain, KeepsTurn, Keeps, KeepsReleaseTurn, KeepsRelease, plain_release, walk_one, walk_two, walk_three, walk_to_tick, walk_turn}
-use Rattle.tick_laws.proofs.Phases.{is_passing, is_cleaning, is_heading, sync_keeps, pass_keeps, cleaned_keeps, tainted_keeps, evicted_keeps}
+use Rattle.tick_laws.proofs.Phases.{is_passing, pass_keeps, cleaned_keeps, tainted_keeps, evicted_keeps}
 use Rattle.spacing_laws.proofs.Effects.{ZoneFirst}
 use Rattle.spacing_laws.proofs.Rows.{ZonesFirst}
 use Rattle.spacing_laws.proofs.Spaced.{head_tick}
@@ -156,7 +156,7 @@ module _ (doc : Doc) (k : ℕ) (q : Identity) where
       a = sync doc k q h
 
       synced : Passing k q a
-      synced = sync_keeps doc k q (Passing k q) (λ g s. passing_more Sync g (λ at head. false_is head) tt s) h s
+      synced = kept_sync doc k q (Passing k q) (λ g s. passing_more Sync g (λ at head. false_is head) tt s) h s
 
       by_test : (b : Bool) → ZonesFirst (if b then phases doc k q a else a)
       by_test false = synced.firsts

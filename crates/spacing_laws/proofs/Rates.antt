@@ -1,21 +1,15 @@
 -- The greatest rate of a zone since a beat: how it grows with each entry, and that it isn't above the primary one.
 use Rattle.std.proofs.Common.{◌≡◌, ◌⊎◌, inl, inr, ℕ, nat_le, nat_lt, Bool, true, false, cond, List, [], ◌∷◌, refl, ap, arith, ◌≤◌, ◌<◌}
-use Rattle.std.proofs.lemmas.Bool.{leb-true, le-leb, ltb-true, ltb-false}
+use Rattle.std.proofs.lemmas.Bool.{leb-true, le-leb}
 use Rattle.kube_objects.specs.Document.{Doc}
 use Rattle.kube_objects.specs.Entry.{Entry, Identity, Place}
 use Rattle.history.specs.Premise.{more}
 use Rattle.history.specs.Spacing.{zone_rate, greatest_since}
 use Rattle.history_laws.specs.Tails.{In}
+use Rattle.lease_laws.proofs.TwoPauses.{more_both}
 use Rattle.spacing_laws.proofs.Spaced.{Tokens, rated_most}
 
 -- ---- the greater of two
-
-pub more_both : (a b : ℕ) → (a ≤ more a b) × (b ≤ more a b)
-more_both a b = by_test (nat_lt a b) refl
-  where
-    by_test : (t : Bool) → nat_lt a b ≡ t → (a ≤ cond t b a) × (b ≤ cond t b a)
-    by_test true is = let lt : a < b = ltb-true a b is in (omega (arith, lt), omega arith)
-    by_test false is = let le : b ≤ a = ltb-false a b is in (omega arith, omega (arith, le))
 
 more_most : (a b most : ℕ) → a ≤ most → b ≤ most → more a b ≤ most
 more_most a b most first second = by_test (nat_lt a b)

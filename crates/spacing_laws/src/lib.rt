@@ -8,8 +8,8 @@ ghost use Rattle.history.specs.Premise.{lease_premise};
 ghost use Rattle.history.specs.Sound.{IsSound};
 ghost use Rattle.history.specs.Spacing.{Spacing, SpacingInRows};
 
-/// Where the lease premise holds, and buckets start empty, from each queued taint of a zone to each in a later beat a token of the zone grows,
-/// by whichever controllers and whatever the answers. Where they start full, one grows so within a row of one term's passes at which the zone
+/// If the lease premise holds, and buckets start empty, from each queued taint of a zone to each in a later beat a token of the zone grows,
+/// by whichever controllers and whatever the answers. If they start full, one grows so within a row of one term's passes at which the zone
 /// is one, and in any span of beats there is one queued taint for each such row and one for each token that grows in it, and no more: for every
 /// document that can be read, whatever its clocks, delays, losses and crashes.
 pub fn taints_are_spaced()

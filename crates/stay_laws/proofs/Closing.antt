@@ -30,7 +30,8 @@ use Rattle.takeover_laws.specs.Calm.{IsSteady, IsInTime}
 use Rattle.takeover_laws.specs.Rounds.{IsRound}
 use Rattle.takeover_laws.proofs.Deliveries.{Waits, delivered_adds}
 use Rattle.takeover_laws.proofs.Rounds.{rounds_are_short}
-use Rattle.takeover_laws.proofs.Writers.{delivers, follow_adds, timely, closed_by}
+use Rattle.takeover_laws.proofs.Closing.{closed_by}
+use Rattle.takeover_laws.proofs.Writers.{delivers, follow_adds, timely}
 use Rattle.calm_laws.proofs.Begun.{Begun, begun_by, by_is, waits_between}
 use Rattle.calm_laws.proofs.First.{entry_is}
 use Rattle.calm_laws.proofs.Origins.{sends_differ}

@@ -11,7 +11,8 @@ use Rattle.history_laws.specs.Tails.{IsTail}
 use Rattle.takeover_laws.specs.Calm.{IsSteady}
 use Rattle.calm_laws.proofs.Origins.{Origin, origin}
 use Rattle.stay_laws.specs.Stays.{HasSuccess}
-use Rattle.stay_laws.proofs.Sendings.{IsFree, IsWay, free, way}
+use Rattle.call_laws.proofs.Sending.{IsFree}
+use Rattle.stay_laws.proofs.Sendings.{IsWay, free, way}
 
 -- a success in beat y whose answer was given at beat a or later, and came as a steady controller's does; its call may have been sent before
 pub record IsGiven (doc : Doc) (near far a : ℕ) (q : Identity) (y : ℕ) : Type 0 where

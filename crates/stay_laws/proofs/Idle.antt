@@ -6,7 +6,7 @@ use Rattle.kube_objects.specs.declared.deed.Actor.{Actor}
 use Rattle.kube_objects.specs.Clocks.{local}
 use Rattle.kube_objects.specs.Document.{Doc, is_controller}
 use Rattle.kube_objects.specs.Elector.{Shown, shown, shows, leads, timer_says, timer, deadline, attempt}
-use Rattle.kube_objects.specs.Entry.{Entry, Identity, Call, Fact, First as FirstPut, Event as Happens, Starts, Stops, Sends, Answers, Delivers, Expires, Leads, Ends, Crashes, Stalls, Ticks, actor_of, StepsDown, ReleaseBegins, ReleaseEnds, ReleaseStops}
+use Rattle.kube_objects.specs.Entry.{Entry, Identity, Call, Fact, First as FirstPut, Event as Happens, Starts, Stops, Sends, Answers, Delivers, Expires, Leads, Ends, Crashes, Stalls, Ticks, actor_of}
 use Rattle.kube_objects.specs.Identities.{is_by}
 use Rattle.kube_objects.specs.Newest.{newest, when, join, or_zero}
 use Rattle.kube_objects.specs.Pauses.{is_paused}
@@ -18,11 +18,12 @@ use Rattle.history.specs.History.{history}
 use Rattle.history.specs.Steps.{if_up, finish, turn}
 use Rattle.history_laws.specs.Tails.{IsTail}
 use Rattle.history_laws.proofs.Counting.{counted_is}
+use Rattle.history_laws.proofs.Expired.{silent}
 use Rattle.history_laws.proofs.Plainly.{upper, none_is, true_is, same_is, same_self}
 use Rattle.history_laws.proofs.Tailed.{tail_all, tail_trans, same_head}
 use Rattle.call_laws.proofs.Making.{MadeAs, are_made}
 use Rattle.call_laws.proofs.Starting.{starts_are_down}
-use Rattle.takeover_laws.proofs.Unasked.{turn_sends, others_call, others_time, others_show}
+use Rattle.takeover_laws.proofs.Unasked.{turn_sends, others_time, others_show}
 use Rattle.calm_laws.proofs.Begun.{by_is}
 use Rattle.stay_laws.proofs.Reacting.{leads_are_new}
 
@@ -121,7 +122,7 @@ module _ (doc : Doc) (q : Identity) (low : List Entry) (at : ℕ) (view : Option
         below_m = tail_trans h (x ∷ h) (history doc m) (inr (tail_all h)) position
 
         foreign : is_by q x.actor ≡ false → Idle (x ∷ h)
-        foreign other = idle_more x h (others_call q x.actor x.fact other) (others_time doc q x h x.fact other) (others_show q x.actor x.fact other) (inr other) (inr other) s
+        foreign other = idle_more x h (silent q x.actor x.fact other) (others_time doc q x h x.fact other) (others_show q x.actor x.fact other) (inr other) (inr other) s
 
         -- an entry that changes no reading of an elector, whoever its actor is
         plain : (d : Fact) → x.fact ≡ d → call_says q x.actor d ≡ None → timer_says doc q x h d ≡ None → shows q x.actor d ≡ None → ((k : ℕ) → expired_in k x.beat d ≡ None) → is_move d ≡ false → Idle (x ∷ h)
@@ -147,13 +148,10 @@ module _ (doc : Doc) (q : Identity) (low : List Entry) (at : ℕ) (view : Option
         own who Crashes actor fact mine made = inl (plain Crashes fact refl refl refl (λ k. refl) refl)
         own who Stops actor fact mine made = inl (plain Stops fact refl refl refl (λ k. refl) refl)
         own who (Stalls beats) actor fact mine made = inl (plain (Stalls beats) fact refl refl refl (λ k. refl) refl)
-        own who StepsDown actor fact mine made = absurd made
-        own who (ReleaseBegins at_deadline) actor fact mine made = absurd made
-        own who ReleaseEnds actor fact mine made = absurd made
-        own who ReleaseStops actor fact mine made = absurd made
         own who Ends actor fact mine made = inl (plain Ends fact refl refl refl (λ k. refl) refl)
         own who (Answers c reply comes wrote) actor fact mine made = inl (plain (Answers c reply comes wrote) fact refl refl refl (λ k. refl) refl)
         own who (Ticks t) actor fact mine made = inl (plain (Ticks t) fact refl refl refl (λ k. refl) refl)
+        own who d actor fact mine made = absurd made
 
         by_own : (b : Bool) → is_by q x.actor ≡ b → Idle (x ∷ h) ⊎ Tried (x ∷ h)
         by_own true mine = own x.actor x.fact refl refl mine (are_made doc rules m x h position)

@@ -4,7 +4,7 @@ use Rattle.std.proofs.lemmas.Bool.{ltb-false, cases_lt}
 use Rattle.kube_objects.specs.Clocks.{local}
 use Rattle.kube_objects.specs.Document.{Doc, is_controller, retry_period, renew_deadline}
 use Rattle.kube_objects.specs.Elector.{succeeds, leads, deadline_says, deadline}
-use Rattle.kube_objects.specs.Entry.{Entry, Identity, Fact, First, Event as Happens, Starts, Stops, Sends, Answers, Delivers, Expires, Leads, Ends, Crashes, Stalls, Ticks, StepsDown, ReleaseBegins, ReleaseEnds, ReleaseStops}
+use Rattle.kube_objects.specs.Entry.{Entry, Identity, Fact, Delivers, Leads, Ends}
 use Rattle.kube_objects.specs.Identities.{is_by, of_process}
 use Rattle.kube_objects.specs.Newest.{has}
 use Rattle.kube_objects.specs.Pauses.{can_at}
@@ -70,21 +70,7 @@ module _ (doc : Doc) (rules : ReleasesByStop doc) (near far a e m : ℕ) (q : Id
       let next = local doc q.process x.beat + retry_period doc q.process in
       let same = when_value ((counted && is_by q x.actor) && (leads q T && succeeds call.request reply)) (can_at doc q.process next + rd) new is in
       omega (arith, same, can_least doc q.process next, leader.soon, local_up doc q.process y x.beat (later x T below stands))
-  set_least x T below stands led (First key object) fact new is = absurd (none_is new is)
-  set_least x T below stands led (Happens w version) fact new is = absurd (none_is new is)
-  set_least x T below stands led (Sends call arrives) fact new is = absurd (none_is new is)
-  set_least x T below stands led (Answers call reply comes wrote) fact new is = absurd (none_is new is)
-  set_least x T below stands led (Expires call) fact new is = absurd (none_is new is)
-  set_least x T below stands led (Ticks t) fact new is = absurd (none_is new is)
-  set_least x T below stands led Starts fact new is = absurd (none_is new is)
-  set_least x T below stands led Crashes fact new is = absurd (none_is new is)
-  set_least x T below stands led Stops fact new is = absurd (none_is new is)
-  set_least x T below stands led (Stalls beats) fact new is = absurd (none_is new is)
-  set_least x T below stands led StepsDown fact new is = absurd (none_is new is)
-  set_least x T below stands led (ReleaseBegins at_deadline) fact new is = absurd (none_is new is)
-  set_least x T below stands led ReleaseEnds fact new is = absurd (none_is new is)
-  set_least x T below stands led ReleaseStops fact new is = absurd (none_is new is)
-  set_least x T below stands led Ends fact new is = absurd (none_is new is)
+  set_least x T below stands led d fact new is = absurd (none_is new is)
 
   more_term : (x : Entry) (h : List Entry) → IsTail low h → IsTail (x ∷ h) (history doc m) → IsInTerm doc q at h → IsInTerm doc q at (x ∷ h)
   more_term x h below high t = by_says (deadline_says doc q x.beat x.actor (leads q h) x.fact) refl

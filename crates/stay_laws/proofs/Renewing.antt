@@ -45,7 +45,8 @@ use Rattle.stay_laws.proofs.Idle.{is_move}
 use Rattle.stay_laws.proofs.Trying.{HasTried, has_tried}
 use Rattle.stay_laws.proofs.Closing as closing
 use Rattle.stay_laws.proofs.Closing.{IsReplied, is_replied}
-use Rattle.stay_laws.proofs.Sendings.{IsFree, is_free, IsWay, way, answer_high}
+use Rattle.call_laws.proofs.Sending.{IsFree, is_free}
+use Rattle.stay_laws.proofs.Sendings.{IsWay, way, answer_high}
 use Rattle.stay_laws.proofs.Given.{IsGiven}
 use Rattle.stay_laws.proofs.Succeeded.{IsSet}
 use Rattle.stay_laws.proofs.Written as wrote

@@ -56,7 +56,7 @@ pub record Own (doc : Doc) (q : Identity) (from : ℕ) (h : List Entry) : Type 0
   pub duration : lease.duration ≡ Some (lease_seconds doc q.process)
 
 -- no entry stands above one of a later beat
-not_sooner : (h : List Entry) → IsOrdered h → (x : Entry) (T : List Entry) → IsTail (x ∷ T) h → (f : Entry) → In f T → f.beat ≤ x.beat
+pub not_sooner : (h : List Entry) → IsOrdered h → (x : Entry) (T : List Entry) → IsTail (x ∷ T) h → (f : Entry) → In f T → f.beat ≤ x.beat
 not_sooner [] s x T at f stands = absurd (nothing at)
   where
     nothing : x ∷ T ≡ [] → ⊥
@@ -70,24 +70,31 @@ not_sooner (e ∷ h) s x T (inr at) f stands = not_sooner h s.1 x T at f stands
 abbrev pub plainly : Slow
 plainly = record { who = 0; from = 0; least = 0 }
 
+-- the answer to an accepted write as a message to its sender
+back_is : (doc : Doc) (x : Entry) (T : List Entry) (w : Won doc x T) → back_of x.actor x.fact ≡ Some (record { who = w.who; call = w.call; reply = w.reply; comes = w.comes })
+back_is doc x T w = ap (λ d. back_of x.actor d) w.fact ∙ ap (λ who. back_of who (Answers w.call w.reply w.comes w.wrote)) w.actor
+
+-- such a write waited for what it found
+pub won_topped : (doc : Doc) → IsSound doc → ReleasesByStop doc → (m : ℕ) → m ≤ end_beat doc → (x : Entry) (T : List Entry) → IsTail (x ∷ T) (history doc (suc m)) → (w : Won doc x T)
+    → Topped doc x T × Took doc plainly (record { who = w.who; call = w.call; reply = w.reply; comes = w.comes }) x.beat T
+won_topped doc sound rules m end x T at w =
+    subst (λ o. IfSome o (λ b. is_controller doc b.who.process ≡ true → succeeds b.call.request b.reply ≡ true → Topped doc x T × Took doc plainly b x.beat T))
+    (back_is doc x T w)
+    (known.answers x T (tail_trans (x ∷ T) (history doc (suc m)) (whole_history doc) at (later_tail doc (suc m) (suc (end_beat doc)) (omega (arith, end))))) w.role w.so
+  where
+    known : Waits doc plainly (end_beat doc) (whole_history doc)
+    known = whole_known doc sound rules (greatest_below doc (length doc.controllers)) (rates_at_most doc) plainly (λ x h at from late. (omega arith, omega arith))
+
+-- so it was sent after what it found was stored, and waited for that
+pub won_waited : (doc : Doc) → IsSound doc → ReleasesByStop doc → (m : ℕ) → m ≤ end_beat doc → (x : Entry) (T : List Entry) → IsTail (x ∷ T) (history doc (suc m)) → (w : Won doc x T)
+    → (y : Held) → stored election T ≡ Some y → (y.beat ≤ w.call.sent) × WaitedFor doc plainly w.who w.call.sent y
+won_waited doc sound rules m end x T at w y top =
+    subst (λ o. IfSome o (λ y. (y.beat ≤ w.call.sent) × WaitedFor doc plainly w.who w.call.sent y)) top (won_topped doc sound rules m end x T at w).1.base
+
 module _ (doc : Doc) (near far a e : ℕ) (sound : IsSound doc) (rules : ReleasesByStop doc) (calm : IsCalm doc near far a e) (time : AreInTime doc near far a e) (one : 1 ≤ near) (end : e ≤ end_beat doc)
     (q : Identity) (role : is_controller doc q.process ≡ true) (steady : IsSteady doc near far a e q.process) (renews : RenewsInTime doc near far a e q) where
   abbrev all : List Entry
   all = history doc (suc e)
-
-  -- what is known of all waits
-  pub known : Waits doc plainly (end_beat doc) (whole_history doc)
-  known = whole_known doc sound rules (greatest_below doc (length doc.controllers)) (rates_at_most doc) plainly (λ x h at from late. (omega arith, omega arith))
-
-  -- its answer as a message to its sender
-  back_is : (x : Entry) (T : List Entry) → (w : Won doc x T) → back_of x.actor x.fact ≡ Some (record { who = w.who; call = w.call; reply = w.reply; comes = w.comes })
-  back_is x T w = ap (λ d. back_of x.actor d) w.fact ∙ ap (λ who. back_of who (Answers w.call w.reply w.comes w.wrote)) w.actor
-
-  -- such a write waited for what it found
-  pub topped : (x : Entry) (T : List Entry) → IsTail (x ∷ T) all → (w : Won doc x T) → Topped doc x T × Took doc plainly (record { who = w.who; call = w.call; reply = w.reply; comes = w.comes }) x.beat T
-  topped x T at w =
-      subst (λ o. IfSome o (λ b. is_controller doc b.who.process ≡ true → succeeds b.call.request b.reply ≡ true → Topped doc x T × Took doc plainly b x.beat T)) (back_is x T w)
-      (known.answers x T (tail_trans (x ∷ T) all (whole_history doc) at (later_tail doc (suc e) (suc (end_beat doc)) (omega (arith, end))))) w.role w.so
 
   -- an entry's beat
   upto : (n : ℕ) (x : Entry) (T : List Entry) → 1 ≤ x.beat → IsTail (x ∷ T) (history doc (suc n)) → x.beat ≤ n
@@ -98,10 +105,10 @@ module _ (doc : Doc) (near far a e : ℕ) (sound : IsSound doc) (rules : Release
   module _ (x : Entry) (T : List Entry) (at : IsTail (x ∷ T) all) (w : Won doc x T) (writes : has (at_key election (write_of x.fact)) ≡ true) (from : ℕ) (after : a ≤ from) (own : Own doc q from T) where
     -- what is known of the call
     took : Took doc plainly (record { who = w.who; call = w.call; reply = w.reply; comes = w.comes }) x.beat T
-    took = (topped x T at w).1
+    took = (won_topped doc sound rules e end x T at w).1
 
     base : (own.y.beat ≤ w.call.sent) × WaitedFor doc plainly w.who w.call.sent own.y
-    base = subst (λ o. IfSome o (λ y. (y.beat ≤ w.call.sent) × WaitedFor doc plainly w.who w.call.sent y)) own.top took.base
+    base = won_waited doc sound rules e end x T at w own.y own.top
 
     sent_in : a ≤ w.call.sent
     sent_in = omega (arith, after, own.since, base.0)
@@ -195,10 +202,10 @@ module _ (doc : Doc) (near far a e : ℕ) (sound : IsSound doc) (rules : Release
     }
       where
         t : Topped doc x T
-        t = (topped x T at w).0
+        t = (won_topped doc sound rules e end x T at w).0
 
         who : t.b.who ≡ q
-        who = ap (λ (b : Back). b.who) (some_is t.b (record { who = w.who; call = w.call; reply = w.reply; comes = w.comes }) (sym t.is ∙ back_is x T w)) ∙ mine
+        who = ap (λ (b : Back). b.who) (some_is t.b (record { who = w.who; call = w.call; reply = w.reply; comes = w.comes }) (sym t.is ∙ back_is doc x T w)) ∙ mine
 
         in_T : IsTail T all
         in_T = tail_trans T (x ∷ T) all (inr (tail_all T)) at
@@ -210,7 +217,7 @@ module _ (doc : Doc) (near far a e : ℕ) (sound : IsSound doc) (rules : Release
             s : (before : List Entry) × (w.low ≡ entry w.f.beat 1 w.who Stops ∷ before)
             s =
                 gives_at_stop doc rules (suc e) w.who w.role w.f w.low w.call (Some x.beat) (tail_trans (w.f ∷ w.low) T all w.asked in_T) w.f_actor w.f_fact
-                (sym (ap (λ (b : Back). gives_up b.call.kind) (some_is t.b (record { who = w.who; call = w.call; reply = w.reply; comes = w.comes }) (sym t.is ∙ back_is x T w))) ∙ gives)
+                (sym (ap (λ (b : Back). gives_up b.call.kind) (some_is t.b (record { who = w.who; call = w.call; reply = w.reply; comes = w.comes }) (sym t.is ∙ back_is doc x T w))) ∙ gives)
 
             none : added true (stops q s.0) ≡ 0
             none =

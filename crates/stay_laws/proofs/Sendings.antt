@@ -1,11 +1,10 @@
 -- Who sends a call; and how long a call's way was whose reply counts.
-use Rattle.std.proofs.Common.{◌≡◌, ◌⊎◌, ◌≤◌, ℕ, suc, ◌+◌, true, false, List, ◌∷◌, Option, Some, None, IfSome, sym, ap, ◌∙◌, subst, inl, inr, ⊎_elim, arith}
+use Rattle.std.proofs.Common.{◌≡◌, ◌≤◌, ℕ, suc, ◌+◌, true, false, List, ◌∷◌, Option, Some, IfSome, sym, ap, ◌∙◌, subst, inr, ⊎_elim, arith}
 use Rattle.kube_objects.specs.declared.call.Reply.{Reply}
 use Rattle.kube_objects.specs.Document.{Doc, processes, end_beat, is_controller}
-use Rattle.kube_objects.specs.Entry.{Entry, Identity, Call, Release, Sends, Delivers, actor_of, entry}
+use Rattle.kube_objects.specs.Entry.{Entry, Identity, Call, Sends, Delivers, actor_of, entry}
 use Rattle.kube_objects.specs.Newest.{or_else}
 use Rattle.kube_objects.specs.Pauses.{resume, held_up}
-use Rattle.kube_objects.specs.Process.{open_as, alive, call_in}
 use Rattle.kube_objects.specs.Stored.{election, key_of}
 use Rattle.kube_objects.specs.Wire.{arrival, request_arrival, request_delay, reply_delay, reply_loss_of, reply_delay_of}
 use Rattle.kube_objects.specs.Own.{ReleasesByStop}
@@ -14,49 +13,19 @@ use Rattle.history.specs.History.{history}
 use Rattle.history.specs.Sound.{IsSound}
 use Rattle.history_laws.specs.Tails.{In, IsTail}
 use Rattle.history_laws.proofs.Order.{entries_are_ordered}
-use Rattle.history_laws.proofs.Plainly.{some_is, none_is}
+use Rattle.history_laws.proofs.Plainly.{some_is}
 use Rattle.history_laws.proofs.Tailed.{tail_all, tail_trans}
 use Rattle.lease_laws.proofs.Histories.{bears_own, turn_right}
 use Rattle.lease_laws.proofs.Invariant.{view, SentRight}
 use Rattle.lease_laws.proofs.Steps.{AtMost}
 use Rattle.call_laws.specs.Answering.{with_events}
 use Rattle.call_laws.proofs.Above.{in_head}
-use Rattle.call_laws.proofs.Making.{MadeAs, MadeSend, HasStopped, IsOpen, are_made}
 use Rattle.call_laws.proofs.Placing.{forces_stand, messages_travel}
-use Rattle.call_laws.proofs.Starting.{actor_is}
+use Rattle.call_laws.proofs.Sending.{IsFree, is_free}
 use Rattle.takeover_laws.specs.Calm.{Passes, IsSteady}
 use Rattle.takeover_laws.proofs.Rounds.{Forces, sent_is, request_comes, reply_passes}
 use Rattle.calm_laws.proofs.Origins.{Origin}
 use Rattle.stay_laws.proofs.Closing.{within_below}
-
--- who sends a call and waits for its reply is up, and waits for none before
-pub record IsFree (q : Identity) (x : Entry) (T : List Entry) (call : Call) : Type 0 where
-  pub up : alive q.process T ≡ Some q.incarnation
-  pub idle : call_in q T ≡ None
-  pub step : 3 ≤ x.step
-  pub sent : call.sent ≡ x.beat
-
-pub is_free : (doc : Doc) → ReleasesByStop doc → (m : ℕ) (q : Identity) → is_controller doc q.process ≡ true → (x : Entry) (T : List Entry) (call : Call) (arrives : Option ℕ) → IsTail (x ∷ T) (history doc m) → x.actor ≡ actor_of q → x.fact ≡ Sends call arrives
-    → open_as call.kind call ≡ Some call → IsFree q x T call
-is_free doc rules m q role x T call arrives at actor fact opens = by_free (made.free (ap (λ (p : Identity). is_controller doc p.process) mine ∙ role))
-  where
-    made : MadeSend doc x.beat x.step x.actor call arrives T
-    made = subst (λ d. MadeAs doc x.beat x.step x.actor d T) fact (are_made doc rules m x T at)
-
-    mine : made.q ≡ q
-    mine = actor_is made.q q (sym made.by ∙ actor)
-
-    not_open : open_as Release call ≡ Some call → ⊥
-    not_open is = none_is call is
-
-    by_free : HasStopped x.beat made.q made.kind T ⊎ ((alive made.q.process T ≡ Some made.q.incarnation) × (call_in made.q T ≡ None) × (3 ≤ x.step) × IsOpen made.kind) → IsFree q x T call
-    by_free (inr free) = record {
-      up = subst (λ (p : Identity). alive p.process T ≡ Some p.incarnation) mine free.0;
-      idle = subst (λ (p : Identity). call_in p T ≡ None) mine free.1;
-      step = free.2;
-      sent = ap (λ (c : Call). c.sent) made.call_is;
-    }
-    by_free (inl stopped) = absurd (not_open (subst (λ kind. open_as kind call ≡ Some call) (ap (λ (c : Call). c.kind) made.call_is ∙ stopped.kind_is) opens))
 
 -- a controller asks for the election Lease alone
 pub key_is : (doc : Doc) (high : ℕ) → AtMost doc high → IsSound doc → ReleasesByStop doc → (k : ℕ) → k ≤ end_beat doc → (q : Identity) → is_controller doc q.process ≡ true → (x : Entry) (call : Call) (arrives : Option ℕ) → In x (history doc (suc k)) → x.actor ≡ actor_of q
@@ -64,7 +33,7 @@ pub key_is : (doc : Doc) (high : ℕ) → AtMost doc high → IsSound doc → Re
 key_is doc high greatest sound rules k end q role x call arrives stands actor fact = (right.may.controller role).key
   where
     right : SentRight doc high k (view (history doc (suc k))) (record { who = q; call = call; arrives = arrives })
-    right = subst (λ o. IfSome o (SentRight doc high k (view (history doc (suc k))))) (sent_is x q call arrives actor fact) ((turn_right doc high greatest (bears_own doc high rules) sound (processes doc) k end).entries x stands).0
+    right = subst (λ o. IfSome o (SentRight doc high k (view (history doc (suc k))))) (sent_is x q call arrives actor fact) ((turn_right doc high greatest (bears_own doc high rules) sound (processes doc) k end).core.entries x stands).0
 
 -- from beat to beat: sent, answered and delivered
 pub record IsWay (near far sent answered comes : ℕ) : Type 0 where

@@ -18,8 +18,9 @@ use Rattle.history.specs.Steps.{turn}
 use Rattle.history_laws.specs.Tails.{In, IsTail}
 use Rattle.history_laws.proofs.Plainly.{false_is}
 use Rattle.history_laws.proofs.Tailed.{tail_all, tail_trans, in_tail, later_tail, turn_tail}
-use Rattle.call_laws.proofs.Making.{MadeAs, MadeSend, HasStopped, IsOpen, Replied, are_made}
-use Rattle.call_laws.proofs.Starting.{sends_are_due, actor_is}
+use Rattle.call_laws.proofs.Making.{HasStopped, IsOpen, Replied}
+use Rattle.call_laws.proofs.Sending.{MadeFor, made_for}
+use Rattle.call_laws.proofs.Starting.{sends_are_due}
 use Rattle.call_laws.proofs.Turning.{IsDue, IsTurnSend}
 use Rattle.takeover_laws.specs.Calm.{IsSteady}
 use Rattle.takeover_laws.proofs.Standing.{controllers_first}
@@ -94,31 +95,25 @@ module _ (doc : Doc) (rules : ReleasesByStop doc) (near far a e : ℕ) (q : Iden
       s : Tried doc q low at view (history doc (suc g))
       s = tried
 
-      made : MadeSend doc s.x.beat s.x.step s.x.actor s.call s.arrives s.before
-      made = subst (λ d. MadeAs doc s.x.beat s.x.step s.x.actor d s.before) s.fact (are_made doc rules (suc g) s.x s.before s.position)
-
-      mine : made.q ≡ q
-      mine = actor_is made.q q (sym made.by ∙ s.actor)
-
-      role_made : is_controller doc made.q.process ≡ true
-      role_made = ap (λ (p : Identity). is_controller doc p.process) mine ∙ role
+      made : MadeFor doc q s.x.beat s.x.step s.call s.arrives s.before
+      made = made_for doc rules (suc g) q s.x s.before s.call s.arrives s.position s.actor s.fact
 
       since : y ≤ s.x.beat
       since = later doc rules near far a e (suc g) q role steady at y low leader from (omega (arith, le)) (omega (arith, to)) s.x s.before s.since s.position
 
-      unstopped : HasStopped s.x.beat made.q made.kind s.before → ⊥
+      unstopped : HasStopped s.x.beat q s.call.kind s.before → ⊥
       unstopped stopped =
-          let stop = entry s.x.beat 1 made.q Stops in
+          let stop = entry s.x.beat 1 q Stops in
           let there = in_tail stop (history doc (suc g)) (history doc (suc e)) (later_tail doc (suc g) (suc e) (omega (arith, to)))
           (in_tail stop (s.x ∷ s.before) (history doc (suc g)) s.position (inr (subst (In stop) (sym stopped.is) (inl refl)))) in
-          let before = steady.stops stop there refl (ap (λ b. has (when b made.q.incarnation)) (eq-eqb made.q.process q.process (ap (λ (p : Identity). p.process) mine))) in
+          let before = steady.stops stop there refl (ap (λ b. has (when b q.incarnation)) (eq-eqb q.process q.process refl)) in
           omega (arith, before, since, from)
 
       opens : open_as s.call.kind s.call ≡ Some s.call
-      opens = by_free (made.free role_made)
+      opens = by_free (made.free role)
         where
-          by_free : HasStopped s.x.beat made.q made.kind s.before ⊎ ((alive made.q.process s.before ≡ Some made.q.incarnation) × (call_in made.q s.before ≡ None) × (3 ≤ s.x.step) × IsOpen made.kind) → open_as s.call.kind s.call ≡ Some s.call
-          by_free (inr free) = ap (λ kind. open_as kind s.call) (ap (λ (c : Call). c.kind) made.call_is) ∙ free.3 s.call
+          by_free : HasStopped s.x.beat q s.call.kind s.before ⊎ ((alive q.process s.before ≡ Some q.incarnation) × (call_in q s.before ≡ None) × (3 ≤ s.x.step) × IsOpen s.call.kind) → open_as s.call.kind s.call ≡ Some s.call
+          by_free (inr free) = free.3 s.call
           by_free (inl stopped) = absurd (unstopped stopped)
 
       made_by : 3 ≤ s.x.step → s.call.request ≡ (attempt doc q s.x.beat s.before).1 → HasTried doc q low at view (history doc (suc g))
@@ -128,23 +123,23 @@ module _ (doc : Doc) (rules : ReleasesByStop doc) (near far a e : ℕ) (q : Iden
       turned four (inl fast) = absurd (false_is (sym (ap is_fast_call (s.idle.expiry s.x.beat)) ∙ fast))
       turned four (inr due) = made_by (omega (arith, four)) due.1
 
-      follows : Replied doc s.x.beat made.q made.request s.before → ⊥
+      follows : Replied doc s.x.beat q s.call.request s.before → ⊥
       follows f = cases (subst (IsTail low) f.is s.since)
         where
           reply : Entry
-          reply = entry s.x.beat 3 made.q (Delivers f.waiting f.reply true)
+          reply = entry s.x.beat 3 q (Delivers f.waiting f.reply true)
 
           cases : IsTail low (reply ∷ f.before) → ⊥
           cases (inl same) =
-              nothing s.x.beat f.waiting f.reply f.before made.request (same ∙ ap (λ p. entry s.x.beat 3 p (Delivers f.waiting f.reply true) ∷ f.before) mine)
-              (ap (λ p. follow_on doc p s.x.beat f.waiting.kind f.waiting.request f.reply low) (sym mine) ∙ ap (λ h. follow_on doc made.q s.x.beat f.waiting.kind f.waiting.request f.reply h) (same ∙ sym f.is) ∙ f.follows)
-          cases (inr lower) = s.idle.unmoved reply f.before (subst (IsTail (reply ∷ f.before)) (sym f.is) (tail_all (reply ∷ f.before))) lower (ap actor_of mine) refl
+              nothing s.x.beat f.waiting f.reply f.before s.call.request same
+              (ap (λ h. follow_on doc q s.x.beat f.waiting.kind f.waiting.request f.reply h) (same ∙ sym f.is) ∙ f.follows)
+          cases (inr lower) = s.idle.unmoved reply f.before (subst (IsTail (reply ∷ f.before)) (sym f.is) (tail_all (reply ∷ f.before))) lower refl refl
 
       by_step : (s.x.step ≡ 1) ⊎ ((s.x.step ≡ 3) ⊎ (s.x.step ≡ 4)) → HasTried doc q low at view (history doc (suc g))
       by_step (inr (inr four)) = turned four (subst (λ d. IsTurnSend doc s.x.beat q d s.before) s.fact (sends_are_due doc rules (suc g) s.x s.before s.position four q s.actor) role)
-      by_step (inr (inl three)) = absurd (follows (made.replied role_made three))
-      by_step (inl one) = absurd (by_free (made.free role_made))
+      by_step (inr (inl three)) = absurd (follows (made.replied role three))
+      by_step (inl one) = absurd (by_free (made.free role))
         where
-          by_free : HasStopped s.x.beat made.q made.kind s.before ⊎ ((alive made.q.process s.before ≡ Some made.q.incarnation) × (call_in made.q s.before ≡ None) × (3 ≤ s.x.step) × IsOpen made.kind) → ⊥
+          by_free : HasStopped s.x.beat q s.call.kind s.before ⊎ ((alive q.process s.before ≡ Some q.incarnation) × (call_in q s.before ≡ None) × (3 ≤ s.x.step) × IsOpen s.call.kind) → ⊥
           by_free (inr free) = omega (arith, free.2, one)
           by_free (inl stopped) = unstopped stopped

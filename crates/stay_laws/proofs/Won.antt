@@ -8,7 +8,7 @@ use Rattle.kube_objects.specs.declared.object.Object.{Object}
 use Rattle.kube_objects.specs.Answers.{answer}
 use Rattle.kube_objects.specs.Document.{Doc, processes, end_beat, is_controller}
 use Rattle.kube_objects.specs.Elector.{succeeds, deadline, is_before}
-use Rattle.kube_objects.specs.Entry.{Entry, Identity, Call, Fact, First as FirstPut, Event as Happens, Starts, Stops, Sends, Answers, Delivers, Expires, Leads, Ends, Crashes, Stalls, Ticks, actor_of, StepsDown, ReleaseBegins, ReleaseEnds, ReleaseStops}
+use Rattle.kube_objects.specs.Entry.{Entry, Identity, Call, Fact, First as FirstPut, Event as Happens, Stops, Sends, Answers, Ticks, actor_of, StepsDown, ReleaseBegins, ReleaseEnds, ReleaseStops}
 use Rattle.kube_objects.specs.Identities.{is_by}
 use Rattle.kube_objects.specs.Keys.{key_eq}
 use Rattle.kube_objects.specs.Newest.{added, has}
@@ -39,7 +39,8 @@ use Rattle.call_laws.proofs.Placing.{from_beat}
 use Rattle.takeover_laws.specs.Calm.{IsSteady}
 use Rattle.takeover_laws.proofs.Records.{asks_elsewhere, wrote_key}
 use Rattle.takeover_laws.proofs.Standing.{controllers_first}
-use Rattle.takeover_laws.proofs.Writers.{IsWon, won_of, sends_of, by_process}
+use Rattle.takeover_laws.proofs.Closing.{by_process}
+use Rattle.takeover_laws.proofs.Writers.{IsWon, won_of, sends_of}
 
 -- ---- who writes
 
@@ -121,19 +122,11 @@ module _ (doc : Doc) (sound : IsSound doc) (rules : ReleasesByStop doc) (k : ℕ
       by_role false role =
           absurd (true_is (sym (some_key (at_key election (request_write call.request wrote)) refl) ∙ asks_elsewhere doc sound rules k end x (record { who = s.who; call = call; reply = reply; comes = comes }) (in_head x T (history doc (suc k)) position)
           (ap (λ d. back_of x.actor d) fact ∙ ap (λ who. back_of who (Answers call reply comes wrote)) (actor ∙ made.by)) role))
-  by_fact x T who (Sends call arrives) actor fact position from is made = absurd (false_is is)
-  by_fact x T who (Delivers call reply counted) actor fact position from is made = absurd (false_is is)
-  by_fact x T who (Expires call) actor fact position from is made = absurd (false_is is)
-  by_fact x T who Starts actor fact position from is made = absurd (false_is is)
-  by_fact x T who Crashes actor fact position from is made = absurd (false_is is)
-  by_fact x T who Stops actor fact position from is made = absurd (false_is is)
-  by_fact x T who (Stalls beats) actor fact position from is made = absurd (false_is is)
   by_fact x T who StepsDown actor fact position from is made = absurd made
   by_fact x T who (ReleaseBegins at_deadline) actor fact position from is made = absurd made
   by_fact x T who ReleaseEnds actor fact position from is made = absurd made
   by_fact x T who ReleaseStops actor fact position from is made = absurd made
-  by_fact x T who Ends actor fact position from is made = absurd (false_is is)
-  by_fact x T who (Leads version) actor fact position from is made = absurd (false_is is)
+  by_fact x T who d actor fact position from is made = absurd (false_is is)
 
   -- after the first beat each is such
   pub is_won : (x : Entry) (T : List Entry) → IsTail (x ∷ T) (history doc (suc k)) → 1 ≤ x.beat → has (at_key election (write_of x.fact)) ≡ true → Won doc x T
@@ -144,22 +137,11 @@ module _ (doc : Doc) (sound : IsSound doc) (rules : ReleasesByStop doc) (k : ℕ
 -- which entries are stops
 pub stop_is : (doc : Doc) (k step : ℕ) (who : Actor) (d : Fact) (h : List Entry) → MadeAs doc k step who d h → is_stop d ≡ true → d ≡ Stops
 stop_is doc k step who Stops h made is = refl
-stop_is doc k step who (FirstPut key object) h made is = absurd (false_is is)
-stop_is doc k step who (Happens w version) h made is = absurd (false_is is)
-stop_is doc k step who (Sends call arrives) h made is = absurd (false_is is)
-stop_is doc k step who (Answers call reply comes wrote) h made is = absurd (false_is is)
-stop_is doc k step who (Delivers call reply counted) h made is = absurd (false_is is)
-stop_is doc k step who (Expires call) h made is = absurd (false_is is)
-stop_is doc k step who (Ticks t) h made is = absurd (false_is is)
-stop_is doc k step who Starts h made is = absurd (false_is is)
-stop_is doc k step who Crashes h made is = absurd (false_is is)
-stop_is doc k step who (Stalls beats) h made is = absurd (false_is is)
 stop_is doc k step who StepsDown h made is = absurd made
 stop_is doc k step who (ReleaseBegins at_deadline) h made is = absurd made
 stop_is doc k step who ReleaseEnds h made is = absurd made
 stop_is doc k step who ReleaseStops h made is = absurd made
-stop_is doc k step who Ends h made is = absurd (false_is is)
-stop_is doc k step who (Leads version) h made is = absurd (false_is is)
+stop_is doc k step who d h made is = absurd (false_is is)
 
 module _ (doc : Doc) (rules : ReleasesByStop doc) (near far a e : ℕ) (q : Identity) (steady : IsSteady doc near far a e q.process) where
   -- from beat a on it isn't stopped

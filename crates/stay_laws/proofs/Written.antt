@@ -1,5 +1,5 @@
 -- The write of a success stays the last one, but for what its leader writes by later calls.
-use Rattle.std.proofs.Common.{◌≡◌, ◌⊎◌, ◌<◌, ◌≤◌, ℕ, suc, ◌+◌, ◌*◌, true, List, [], ◌∷◌, length, Option, Some, None, IfSome, refl, sym, ap, ◌∙◌, subst, inl, inr, ⊎_elim, arith}
+use Rattle.std.proofs.Common.{◌≡◌, ◌⊎◌, ◌<◌, ◌≤◌, ℕ, suc, ◌+◌, ◌*◌, true, List, [], ◌∷◌, length, Option, Some, None, refl, sym, ap, ◌∙◌, inl, inr, ⊎_elim, arith}
 use Rattle.kube_base.specs.declared.numbers.Version.{Version}
 use Rattle.kube_objects.specs.declared.call.Reply.{Reply}
 use Rattle.kube_objects.specs.declared.call.Reply.TheVariants.{Done}
@@ -31,9 +31,10 @@ use Rattle.calm_laws.proofs.Replies.{wrote_by}
 use Rattle.gap_laws.proofs.Waits.{Topped, Took, WaitedFor}
 use Rattle.stay_laws.specs.Stays.{RenewsInTime}
 use Rattle.stay_laws.proofs.Won.{Won}
-use Rattle.stay_laws.proofs.Rivals.{Own, plainly, topped, won0, own_at, own_writes, won_at}
+use Rattle.stay_laws.proofs.Rivals.{Own, plainly, won_topped, won_waited, won0, own_at, own_writes, won_at}
 use Rattle.stay_laws.proofs.Closing.{within_below}
-use Rattle.stay_laws.proofs.Sendings.{IsFree, is_free, key_is, answer_high, sending_high}
+use Rattle.call_laws.proofs.Sending.{IsFree, is_free}
+use Rattle.stay_laws.proofs.Sendings.{key_is, answer_high, sending_high}
 use Rattle.stay_laws.proofs.Given.{IsGiven}
 use Rattle.stay_laws.proofs.Succeeded.{IsSuccess, success_is, IsSet, is_set}
 
@@ -193,9 +194,7 @@ module _ (doc : Doc) (near far a e : ℕ) (sound : IsSound doc) (rules : Release
             late = omega (arith, first_own.since, base.0)
               where
                 base : (first_own.y.beat ≤ w.call.sent) × WaitedFor doc plainly w.who w.call.sent first_own.y
-                base =
-                    subst (λ o. IfSome o (λ y. (y.beat ≤ w.call.sent) × WaitedFor doc plainly w.who w.call.sent y)) is
-                    (topped doc near far a e sound rules calm time one end q role steady renews x T (up_e (x ∷ T) at) w).1.base
+                base = won_waited doc sound rules e end x T (up_e (x ∷ T) at) w first_own.y is
 
     pub stays_stored : (h : List Entry) → IsTail (o.e ∷ o.low) h → IsTail h (history doc (suc n)) → NoneSince h → stored election h ≡ Some first_own.y
     stays_stored [] low at none = absurd (nothing low)
@@ -213,7 +212,7 @@ module _ (doc : Doc) (near far a e : ℕ) (sound : IsSound doc) (rules : Release
         ∙ sym (ap version_of (sym (ap (reply_or (Done s.version)) o.fact) ∙ ap (reply_or (Done s.version)) won.fact ∙ t.1.version))
       where
         t : Topped doc o.e o.low × Took doc plainly (record { who = won.who; call = won.call; reply = won.reply; comes = won.comes }) o.e.beat o.low
-        t = topped doc near far a e sound rules calm time one end q role steady renews o.e o.low write_high won
+        t = won_topped doc sound rules e end o.e o.low write_high won
 
         version_of : Reply → Version
         version_of (Done version) = version

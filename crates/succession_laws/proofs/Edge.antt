@@ -199,63 +199,63 @@ module _ (doc : Doc) (near far b e : ℕ) (q : Identity) (l : LeadsUntil doc nea
     its : IsIts doc b q.process z Z
     its = is_its doc near far b e q l s quiet k within z Z at writes won mine
 
-    f_high : IsTail (its.f ∷ its.low) (history doc (suc k))
-    f_high = tail_trans (its.f ∷ its.low) Z (history doc (suc k)) its.asked (tail_trans Z (z ∷ Z) (history doc (suc k)) (inr (tail_all Z)) at)
+    f_high : IsTail (its.won.f ∷ its.won.low) (history doc (suc k))
+    f_high = tail_trans (its.won.f ∷ its.won.low) Z (history doc (suc k)) its.won.asked (tail_trans Z (z ∷ Z) (history doc (suc k)) (inr (tail_all Z)) at)
 
-    its_way : IsWay near far its.f.beat z.beat
+    its_way : IsWay near far its.won.f.beat z.beat
     its_way =
-        request_way doc s.rules near far (b - 1) q.process l.steady (suc k) its.f its.low its.who its.call (Some z.beat) f_high l.role its.mine its.f_actor its.f_fact (omega (arith, its.early, its.sent)) z.beat refl
-        (λ j low high soon. l.goes j (omega (arith, soon, its.early, its.sent, last, within)))
+        request_way doc s.rules near far (b - 1) q.process l.steady (suc k) its.won.f its.won.low its.won.who its.won.call (Some z.beat) f_high l.role its.mine its.won.f_actor its.won.f_fact (omega (arith, its.early, its.own.sent)) z.beat refl
+        (λ j low high soon. l.goes j (omega (arith, soon, its.early, its.own.sent, last, within)))
 
     -- the leader's update was sent after a reply
-    f_step : its.f.step ≤ 3
+    f_step : its.won.f.step ≤ 3
     f_step = by_step made.step_is
       where
-        made : MadeSend doc its.f.beat its.f.step its.f.actor its.call (Some z.beat) its.low
-        made = subst (λ d. MadeAs doc its.f.beat its.f.step its.f.actor d its.low) its.f_fact (are_made doc s.rules (suc k) its.f its.low f_high)
+        made : MadeSend doc its.won.f.beat its.won.f.step its.won.f.actor its.won.call (Some z.beat) its.won.low
+        made = subst (λ d. MadeAs doc its.won.f.beat its.won.f.step its.won.f.actor d its.won.low) its.won.f_fact (are_made doc s.rules (suc k) its.won.f its.won.low f_high)
 
-        plain : (is_fast its.call.kind ≡ false) × (its.f.step ≡ 4 → its.call.request ≡ Get election)
+        plain : (is_fast its.won.call.kind ≡ false) × (its.won.f.step ≡ 4 → its.won.call.request ≡ Get election)
         plain =
-            sends_plainly doc s.rules slowly (suc k) its.f its.low its.who its.call (Some z.beat) f_high its.f_actor its.f_fact (ap (is_controller doc) its.mine ∙ l.role)
+            sends_plainly doc s.rules slowly (suc k) its.won.f its.won.low its.won.who its.won.call (Some z.beat) f_high its.won.f_actor its.won.f_fact (ap (is_controller doc) its.mine ∙ l.role)
 
-        writing : IsWrite its.call.request
-        writing = success_writes its.call.request its.reply its.so
+        writing : IsWrite its.won.call.request
+        writing = success_writes its.won.call.request its.won.reply its.won.so
 
-        by_step : (its.f.step ≡ 1) ⊎ ((its.f.step ≡ 3) ⊎ (its.f.step ≡ 4)) → its.f.step ≤ 3
+        by_step : (its.won.f.step ≡ 1) ⊎ ((its.won.f.step ≡ 3) ⊎ (its.won.f.step ≡ 4)) → its.won.f.step ≤ 3
         by_step (inl one) = omega (arith, one)
         by_step (inr (inl three)) = omega (arith, three)
-        by_step (inr (inr four)) = absurd (no_get its.call.request election (plain.1 four) writing)
+        by_step (inr (inr four)) = absurd (no_get its.won.call.request election (plain.1 four) writing)
 
     -- so before the Get
-    order : IsTail (its.f ∷ its.low) S
-    order = by_place (tails_meet (its.f ∷ its.low) (x ∷ S) (history doc (suc k)) f_high x_low)
+    order : IsTail (its.won.f ∷ its.won.low) S
+    order = by_place (tails_meet (its.won.f ∷ its.won.low) (x ∷ S) (history doc (suc k)) f_high x_low)
       where
-        differ : its.f ≡ x → ⊥
+        differ : its.won.f ≡ x → ⊥
         differ same = omega (arith, ap (λ (e : Entry). e.step) same, in_turn, f_step)
 
         late : b - 1 ≤ x.beat
         late = omega (arith, way.most, last)
 
-        by_place : IsTail (its.f ∷ its.low) (x ∷ S) ⊎ IsTail (x ∷ S) (its.f ∷ its.low) → IsTail (its.f ∷ its.low) S
-        by_place (inl (inl same)) = absurd (differ (same_head its.f x its.low S same))
+        by_place : IsTail (its.won.f ∷ its.won.low) (x ∷ S) ⊎ IsTail (x ∷ S) (its.won.f ∷ its.won.low) → IsTail (its.won.f ∷ its.won.low) S
+        by_place (inl (inl same)) = absurd (differ (same_head its.won.f x its.won.low S same))
         by_place (inl (inr below)) = below
-        by_place (inr (inl same)) = absurd (differ (sym (same_head x its.f S its.low same)))
+        by_place (inr (inl same)) = absurd (differ (sym (same_head x its.won.f S its.won.low same)))
         by_place (inr (inr below)) =
-            absurd (⊎_elim (λ lt. omega (arith, lt, late, its.early, its.sent)) (λ here. omega (arith, here.1, in_turn, f_step))
-            (within_below (history doc (suc k)) (entries_are_ordered doc (suc k)) its.f its.low f_high x (in_head x S its.low below)))
+            absurd (⊎_elim (λ lt. omega (arith, lt, late, its.early, its.own.sent)) (λ here. omega (arith, here.1, in_turn, f_step))
+            (within_below (history doc (suc k)) (entries_are_ordered doc (suc k)) its.won.f its.won.low f_high x (in_head x S its.won.low below)))
 
     abbrev s_sent : Sent
     s_sent = record { who = c; call = w; arrives = Some k }
 
     abbrev t_sent : Sent
-    t_sent = record { who = its.who; call = its.call; arrives = Some k }
+    t_sent = record { who = its.won.who; call = its.won.call; arrives = Some k }
 
     two : AreAnswered doc k s_sent t_sent
     two =
-        ordered doc k x its.f S its.low s_sent t_sent
+        ordered doc k x its.won.f S its.won.low s_sent t_sent
         (tail_trans (x ∷ S) (history doc k) (with_events doc k) (tail_trans (x ∷ S) (history doc (suc x.beat)) (history doc k) (in_own_beat doc (suc k) x S x_low) (later_tail doc (suc x.beat) k (omega (arith, way.least, s.one)))) (before_events doc k))
         order (sent_is x c w o.begun.arrives o.begun.actor o.begun.fact ∙ ap (λ t. Some (record { who = c; call = w; arrives = t })) o.arrives) refl
-        (sent_is its.f its.who its.call (Some z.beat) its.f_actor its.f_fact ∙ ap (λ (n : ℕ). Some (record { who = its.who; call = its.call; arrives = Some n })) z_beat) refl
+        (sent_is its.won.f its.won.who its.won.call (Some z.beat) its.won.f_actor its.won.f_fact ∙ ap (λ (n : ℕ). Some (record { who = its.won.who; call = its.won.call; arrives = Some n })) z_beat) refl
 
     get_at : o.low ≡ two.above
     get_at =
@@ -266,10 +266,10 @@ module _ (doc : Doc) (near far b e : ℕ) (q : Identity) (l : LeadsUntil doc nea
     write_at : IsTail (z ∷ Z) two.above
     write_at =
         subst (λ g. IsTail g two.above)
-        (sym (answers_differ doc s.rules (suc k) z _ Z two.below (record { who = its.who; call = its.call; reply = its.reply; comes = its.comes })
-        (record { who = its.who; call = its.call; reply = answer its.call.request two.below; comes = reply_arrival doc its.who.process k two.below }) at
+        (sym (answers_differ doc s.rules (suc k) z _ Z two.below (record { who = its.won.who; call = its.won.call; reply = its.won.reply; comes = its.won.comes })
+        (record { who = its.won.who; call = its.won.call; reply = answer its.won.call.request two.below; comes = reply_arrival doc its.won.who.process k two.below }) at
         (tail_trans _ two.above (history doc (suc k)) two.order (tail_trans two.above (answered doc k s_sent two.above) (history doc (suc k)) (inr (tail_all two.above)) two.position))
-        (ap (λ d. back_of z.actor d) its.fact ∙ ap (λ who. back_of who (Answers its.call its.reply its.comes its.wrote)) its.actor) refl refl refl)) two.order
+        (ap (λ d. back_of z.actor d) its.won.fact ∙ ap (λ who. back_of who (Answers its.won.call its.won.reply its.won.comes its.won.wrote)) its.won.actor) refl refl refl)) two.order
 
     none : ⊥
     none = not_below z Z (tail_trans (z ∷ Z) o.low Z (subst (IsTail (z ∷ Z)) (sym get_at) write_at) since)

@@ -8,5 +8,7 @@ pub mod Timely
 pub mod Turns
 pub mod Ordered
 pub mod Edge
+pub mod Asking
+pub mod Coming
 pub mod Following
 pub mod Lingering

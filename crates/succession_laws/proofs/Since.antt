@@ -144,7 +144,7 @@ module _ (doc : Doc) (near far b e : ℕ) (q : Identity) (l : LeadsUntil doc nea
             right : SentRight doc (greatest_below doc (length doc.controllers)) (d - 1) (view (history doc (suc (d - 1)))) m
             right =
                 subst (λ o. IfSome o (SentRight doc (greatest_below doc (length doc.controllers)) (d - 1) (view (history doc (suc (d - 1)))))) is
-                ((turn_right doc (greatest_below doc (length doc.controllers)) (rates_at_most doc) (bears_own doc (greatest_below doc (length doc.controllers)) s.rules) s.sound (processes doc) (d - 1) (omega (arith, within, s.end))).entries x
+                ((turn_right doc (greatest_below doc (length doc.controllers)) (rates_at_most doc) (bears_own doc (greatest_below doc (length doc.controllers)) s.rules) s.sound (processes doc) (d - 1) (omega (arith, within, s.end))).core.entries x
                 (in_tail x (history doc d) (history doc (suc (d - 1))) (later_tail doc d (suc (d - 1)) (omega arith)) stands)).0
 
     reply_in : (x : Entry) → In x (history doc d) → (m : Back) → back_of x.actor x.fact ≡ Some m → key_eq (key_of m.call.request) election ≡ true → (at : ℕ) → m.comes ≡ Some at → at < d + far

@@ -1,5 +1,5 @@
 -- Until one way after its leader fell silent the election Lease is renewed in time, and holds a record of the leader.
-use Rattle.std.proofs.Common.{◌≡◌, ◌⊎◌, ◌<◌, ◌≤◌, ℕ, suc, ◌+◌, ◌-◌, ◌*◌, not, Bool, true, false, List, [], ◌∷◌, length, Option, Some, None, IfSome, refl, sym, ap, ◌∙◌, subst, inl, inr, ⊎_elim, arith}
+use Rattle.std.proofs.Common.{◌≡◌, ◌⊎◌, ◌<◌, ◌≤◌, ℕ, suc, ◌+◌, ◌-◌, ◌*◌, not, Bool, true, false, List, [], ◌∷◌, Option, Some, None, refl, sym, ap, ◌∙◌, subst, inl, inr, ⊎_elim, arith}
 use Rattle.std.proofs.Math.Nat.{mul-le-mul_right}
 use Rattle.std.proofs.lemmas.Bool.{cases_eq, cases_lt}
 use Rattle.kube_objects.specs.declared.call.Reply.{Reply}
@@ -7,7 +7,7 @@ use Rattle.kube_objects.specs.declared.call.Reply.TheVariants.{Done}
 use Rattle.kube_objects.specs.declared.object.Object.{Object}
 use Rattle.kube_objects.specs.Answers.{answer, written}
 use Rattle.kube_objects.specs.Clocks.{local}
-use Rattle.kube_objects.specs.Document.{Doc, end_beat, is_controller}
+use Rattle.kube_objects.specs.Document.{Doc}
 use Rattle.kube_objects.specs.Elector.{succeeds, follow_on, leads, is_before, deadline}
 use Rattle.kube_objects.specs.Entry.{Entry, Identity, Fact, Answers, Delivers, actor_of, entry}
 use Rattle.kube_objects.specs.Identities.{is_same, is_other}
@@ -16,8 +16,7 @@ use Rattle.kube_objects.specs.Process.{alive, is_present}
 use Rattle.kube_objects.specs.Stored.{election, at_key, write_of}
 use Rattle.kube_objects.specs.Turns.{with_reply}
 use Rattle.kube_objects.specs.Wire.{Back, back_of, reply_arrival}
-use Rattle.history.specs.History.{history, whole_history, at_turn}
-use Rattle.history.specs.Premise.{greatest_below}
+use Rattle.history.specs.History.{history, at_turn}
 use Rattle.history_laws.specs.Tails.{IsTail}
 use Rattle.history_laws.proofs.Counting.{present_is}
 use Rattle.history_laws.proofs.Order.{entries_are_earlier}
@@ -27,7 +26,6 @@ use Rattle.takeover_laws.specs.Waits.{blocked_for}
 use Rattle.takeover_laws.proofs.Waits.{blocked_time}
 use Rattle.span_laws.proofs.Spans.{goes_most}
 use Rattle.lease_laws.proofs.Claims.{term_of}
-use Rattle.lease_laws.proofs.Premises.{rates_at_most}
 use Rattle.call_laws.proofs.Above.{in_head}
 use Rattle.call_laws.proofs.Making.{MadeAs, MadeAnswer, are_made}
 use Rattle.call_laws.proofs.Once.{answers_differ}
@@ -38,10 +36,10 @@ use Rattle.takeover_laws.proofs.Standing.{controllers_first}
 use Rattle.takeover_laws.proofs.Writers.{Sending, IsReacted, sending_of, replies_react, follow_adds}
 use Rattle.calm_laws.proofs.Life.{up_between}
 use Rattle.calm_laws.proofs.Origins.{Origin}
-use Rattle.gap_laws.proofs.Waits.{Slow, Waited, WaitedFor, Took, Topped, Waits}
-use Rattle.gap_laws.proofs.Histories.{whole_known}
+use Rattle.gap_laws.proofs.Waits.{Waited, WaitedFor}
 use Rattle.stay_laws.specs.Stays.{HasSuccess}
 use Rattle.stay_laws.proofs.Won.{Won, is_won}
+use Rattle.stay_laws.proofs.Rivals.{plainly, won_waited}
 use Rattle.stay_laws.proofs.Written as wrote
 use Rattle.stay_laws.proofs.Sendings as sendings
 use Rattle.stay_laws.proofs.Renewing as renewing
@@ -53,10 +51,6 @@ use Rattle.silence_laws.proofs.Renewed.{Rewritten, renewed_by, done_of}
 use Rattle.silence_laws.proofs.Renewed as renewed
 use Rattle.silence_laws.proofs.Setting.{request_way, calm_before, times_before, its_lead, it_stays}
 use Rattle.silence_laws.proofs.Ways.{IsWay}
-
--- everything that is known of waits, of no certain delays
-abbrev plainly : Slow
-plainly = record { who = 0; from = 0; least = 0 }
 
 abbrev reply_or : Reply → Fact → Reply
 reply_or x (Answers call reply comes wrote) = reply
@@ -321,9 +315,6 @@ module _ (doc : Doc) (near far b e : ℕ) (q : Identity) (l : LeadsUntil doc nea
         made : MadeAnswer doc x.beat x.step x.actor w.call w.reply w.comes w.wrote T
         made = subst (λ d. MadeAs doc x.beat x.step x.actor d T) w.fact (are_made doc s.rules (suc m) x T at)
 
-    known : Waits doc plainly (end_beat doc) (whole_history doc)
-    known = whole_known doc s.sound s.rules (greatest_below doc (length doc.controllers)) (rates_at_most doc) plainly (λ x h at from late. (omega arith, omega arith))
-
     no_foreign : (x : Entry) (T : List Entry) → IsTail (x ∷ T) (history doc (suc m)) → IsTail (first.e ∷ first.low) T → (o : OfIt doc q T) → (w : Won doc x T) → 1 ≤ x.step → (w.who.process ≡ q.process → ⊥) → ⊥
     no_foreign x T at low o w step other =
         omega (
@@ -334,19 +325,8 @@ module _ (doc : Doc) (near far b e : ℕ) (q : Identity) (l : LeadsUntil doc nea
           s.lasts w.who.process w.role,
         )
       where
-        back : Back
-        back = record { who = w.who; call = w.call; reply = w.reply; comes = w.comes }
-
-        back_is : back_of x.actor x.fact ≡ Some back
-        back_is = ap (λ d. back_of x.actor d) w.fact ∙ ap (λ who. back_of who (Answers w.call w.reply w.comes w.wrote)) w.actor
-
-        took : Took doc plainly back x.beat T
-        took =
-            (subst (λ o. IfSome o (λ b. is_controller doc b.who.process ≡ true → succeeds b.call.request b.reply ≡ true → Topped doc x T × Took doc plainly b x.beat T)) back_is
-            (known.answers x T (tail_trans (x ∷ T) (history doc (suc m)) (whole_history doc) at (later_tail doc (suc m) (suc (end_beat doc)) (omega (arith, within, s.end))))) w.role w.so).1
-
         base : (o.y.beat ≤ w.call.sent) × WaitedFor doc plainly w.who w.call.sent o.y
-        base = subst (λ t. IfSome t (λ y. (y.beat ≤ w.call.sent) × WaitedFor doc plainly w.who w.call.sent y)) o.top took.base
+        base = won_waited doc s.sound s.rules m (omega (arith, within, s.end)) x T at w o.y o.top
 
         differs : is_other w.who o.lease.holder ≡ true
         differs = ap (is_other w.who) o.holder ∙ by_test (is_same o.who w.who) refl

@@ -4,7 +4,7 @@
 
 ghost use Rattle.succession_laws.specs.Successions.{LeadersActOn, SuccessorsAreTold, SuccessorsLead};
 
-/// Where a leader in a calm span crashes, or all its requests are lost from then on, another controller comes to lead and stays: by the time that
+/// If a leader in a calm span crashes, or all its requests are lost from then on, another controller comes to lead and stays: by the time that
 /// the looks of one that is up take at most until they find the leader's lease over, its longest wait for its next attempt, and six ways of a message;
 /// in whole beats by their quotients.
 pub fn successors_lead()

@@ -54,7 +54,7 @@ fn shorter(one: Bears, other: Bears) -> Bears
 }
 
 /// How long the pod bears the node's NoExecute taints. Of each the first tolerating toleration in the pod's order counts: without one the
-/// taint isn't borne at all, with one without seconds for ever, with one of seconds for so long, and for no time where they are negative.
+/// taint isn't borne at all, with one without seconds for ever, with one of seconds for so long, and for no time if they are negative.
 pub fn bears(pod: &Pod, node: &Node) -> Bears
     ensures value { result ≡ bears pod.now.tolerations node.now.taints }
     ensures bounded { IsBounded result }

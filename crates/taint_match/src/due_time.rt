@@ -34,7 +34,8 @@ fn due_by(toleration: Option<Toleration>, added: Wall) -> Due
     }
 }
 
-pub(crate) fn first_tolerating(tolerations: &Tolerations, taint: &Taint) -> Option<Toleration>
+/// The first of these that tolerates a taint.
+pub fn first_tolerating(tolerations: &Tolerations, taint: &Taint) -> Option<Toleration>
     ensures { result ≡ first_tolerating tolerations.now taint.now }
 {
     tolerations
@@ -67,7 +68,7 @@ fn earlier(one: Due, other: Due) -> Due
 /// When the pod is due on the node, in microseconds since 1970: the least time at which one of the node's NoExecute
 /// taints is due, or never. Of each taint the first tolerating toleration in the pod's order counts: without one the
 /// taint is due when it was added, with one without seconds never, with one of seconds that long after it was added,
-/// and at once where the seconds are negative. A taint without a time counts for nothing.
+/// and at once if the seconds are negative. A taint without a time counts for nothing.
 pub fn due(pod: &Pod, node: &Node) -> Due
     ensures { result ≡ due pod.now node.now }
 {

@@ -6,7 +6,7 @@ mod due_time;
 mod tolerate;
 
 pub use bearing::bears;
-pub use due_time::due;
+pub use due_time::{due, first_tolerating};
 pub use tolerate::{first_match, tolerates};
 
 #[cfg(test)]

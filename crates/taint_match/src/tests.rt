@@ -1,6 +1,8 @@
 use super::*;
 use kube_base::{ListOf, NoMemory, Wall};
-use kube_objects::{Due, Effect, Node, Operator, Pod, Taint, Toleration};
+use kube_objects::{
+    Due, Effect, Node, Operator, Pod, Taint, Toleration, TolerationList, Tolerations,
+};
 use std::alloc::Global;
 use std::test::Fail;
 
@@ -41,13 +43,13 @@ fn node(alloc: Global, effect: Effect) -> Result<Node, NoMemory> {
 }
 
 fn pod(alloc: Global, tolerations: &[Toleration]) -> Result<Pod, NoMemory> {
-    let mut list = ListOf::new(alloc);
+    let mut list = TolerationList::new(alloc);
     for toleration in tolerations {
         list.push(*toleration)?;
     }
     Ok(Pod {
         node: 0,
-        tolerations: list,
+        tolerations: Tolerations::of(list)?,
     })
 }
 
@@ -103,10 +105,12 @@ fn a_toleration_fits_by_effect_key_and_value(rt: HostRuntime) -> Result<(), Fail
     for (toleration, expected) in table {
         assert_eq!(rt; tolerates(&toleration, &taint), expected);
     }
-    let mut tolerations = ListOf::new(rt.alloc());
-    assert_eq!(rt; first_match(&tolerations, &taint), None);
-    tolerations.push(exists(13, None, None))?;
-    tolerations.push(equal)?;
-    assert_eq!(rt; first_match(&tolerations, &taint), Some(1));
+    let none = Tolerations::new(rt.alloc());
+    assert_eq!(rt; first_match(&none, &taint), None);
+    let mut list = TolerationList::new(rt.alloc());
+    list.push(exists(13, None, None))?;
+    list.push(equal)?;
+    let some = Tolerations::of(list)?;
+    assert_eq!(rt; first_match(&some, &taint), Some(1));
     Ok(())
 }

@@ -35,7 +35,7 @@ pub fn tolerates(toleration: &Toleration, taint: &Taint) -> bool
         && value_fits(toleration.operator, toleration.value, taint.value)
 }
 
-/// The place of the first toleration that tolerates the taint; none exactly where none tolerates it.
+/// The place of the first toleration that tolerates the taint; none exactly if none tolerates it.
 pub fn first_match(tolerations: &Tolerations, taint: &Taint) -> Option<usize>
     ensures { result ≡ position (λ t. tolerates t taint.now) tolerations.now }
 {

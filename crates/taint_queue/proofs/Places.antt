@@ -10,9 +10,10 @@ use Rattle.std.specs.BTreeMap.{is_at, BTreeMap, Updates}
 use Rattle.std.specs.Option.{option_map}
 use Rattle.std.specs.Ordering.{is_eq, nat_cmp}
 use Rattle.kube_base.specs.declared.numbers.Beat.{Beat}
+use Rattle.kube_base.proofs.Lists.{get-end, get-set_other, get-set_same}
 use Rattle.taint_queue.specs.Placed.{beat_at, beat_of, node_of, place, HasItsNode, IsKept}
 use Rattle.taint_queue.specs.declared.waiting.Waiting.{Waiting}
-use Rattle.taint_queue.proofs.Slots.{get_set_same, get_set_other, front_same, end_of}
+use Rattle.taint_queue.proofs.Slots.{front_same}
 
 same_test : (a b : ℕ) → is_eq (nat_cmp a b) ≡ (a == b)
 same_test a b = grind (arith, nat_tests)
@@ -66,21 +67,21 @@ module _ (P : ℕ → Option ℕ) (xs : List Waiting) (node slot : ℕ) (w : Wai
     where
       by_slot : (s ≡ slot) ⊎ (s ≢ slot) → node_of (slice_get (set xs slot w) s) ≡ Some q
       by_slot (inl f) =
-          ap (λ k. node_of (slice_get (set xs slot w) k)) f ∙ ap node_of (get_set_same xs slot w (slot_within P xs known node slot here)) ∙ ap Some (mine ∙ one_node P xs known node q slot here (e ∙ ap Some f))
-      by_slot (inr ne) = ap node_of (get_set_other xs slot s w ne) ∙ known q s e
+          ap (λ k. node_of (slice_get (set xs slot w) k)) f ∙ ap node_of (get-set_same xs slot w (slot_within P xs known node slot here)) ∙ ap Some (mine ∙ one_node P xs known node q slot here (e ∙ ap Some f))
+      by_slot (inr ne) = ap node_of (get-set_other xs slot s w ne) ∙ known q s e
 
   pub moved_kept : IsKept P (set xs slot w)
   moved_kept s entry e = by_slot (cases_eq s slot)
     where
       by_slot : (s ≡ slot) ⊎ (s ≢ slot) → P entry.node ≡ Some s
       by_slot (inl f) =
-          let is : Some w ≡ Some entry = sym (get_set_same xs slot w (slot_within P xs known node slot here)) ∙ ap (slice_get (set xs slot w)) (sym f) ∙ e in
+          let is : Some w ≡ Some entry = sym (get-set_same xs slot w (slot_within P xs known node slot here)) ∙ ap (slice_get (set xs slot w)) (sym f) ∙ e in
           let same : w.node ≡ entry.node = ap_node is in
           ap P (sym same ∙ mine) ∙ here ∙ ap Some (sym f)
         where
           ap_node : Some w ≡ Some entry → w.node ≡ entry.node
           ap_node e = inner w.node entry.node (ap node_of e)
-      by_slot (inr ne) = kept s entry (sym (get_set_other xs slot s w ne) ∙ e)
+      by_slot (inr ne) = kept s entry (sym (get-set_other xs slot s w ne) ∙ e)
 
   pub moved_beat : (q : ℕ) → beat_at P (set xs slot w) q ≡ cond (node == q) (Some w.at) (beat_at P xs q)
   moved_beat q = by_node (cases_eq node q)
@@ -88,9 +89,9 @@ module _ (P : ℕ → Option ℕ) (xs : List Waiting) (node slot : ℕ) (w : Wai
       by_node : (node ≡ q) ⊎ (node ≢ q) → beat_at P (set xs slot w) q ≡ cond (node == q) (Some w.at) (beat_at P xs q)
       by_node (inl e) =
           subst (λ k. beat_at P (set xs slot w) k ≡ cond (node == k) (Some w.at) (beat_at P xs k)) e
-          (ap (option_and_then (λ s. beat_of (slice_get (set xs slot w) s))) here ∙ ap beat_of (get_set_same xs slot w (slot_within P xs known node slot here)) ∙ sym (at_itself node (Some w.at) (beat_at P xs node)))
+          (ap (option_and_then (λ s. beat_of (slice_get (set xs slot w) s))) here ∙ ap beat_of (get-set_same xs slot w (slot_within P xs known node slot here)) ∙ sym (at_itself node (Some w.at) (beat_at P xs node)))
       by_node (inr ne) =
-          beat_by P P xs (set xs slot w) q refl (λ s e. get_set_other xs slot s w (λ f. ne (one_node P xs known node q slot here (e ∙ ap Some f))))
+          beat_by P P xs (set xs slot w) q refl (λ s e. get-set_other xs slot s w (λ f. ne (one_node P xs known node q slot here (e ∙ ap Some f))))
           ∙ sym (at_other node q (Some w.at) (beat_at P xs q) ne)
 
 -- a node with a slot waits
@@ -114,7 +115,7 @@ module _ (P Q : ℕ → Option ℕ) (xs : List Waiting) (node : ℕ) (w : Waitin
       by_node : (node ≡ q) ⊎ (node ≢ q) → node_of (slice_get (xs ++ w ∷ []) s) ≡ Some q
       by_node (inl f) =
           let is : Some (length xs) ≡ Some s = sym (set_so q ∙ ap (λ k. cond (node == k) (Some (length xs)) (P q)) (sym f) ∙ at_itself node (Some (length xs)) (P q)) ∙ e in
-          ap (λ k. node_of (slice_get (xs ++ w ∷ []) k)) (sym (inner (length xs) s is)) ∙ ap node_of (end_of xs w) ∙ ap Some (mine ∙ f)
+          ap (λ k. node_of (slice_get (xs ++ w ∷ []) k)) (sym (inner (length xs) s is)) ∙ ap node_of (get-end xs w) ∙ ap Some (mine ∙ f)
       by_node (inr ne) =
           let old : P q ≡ Some s = sym (set_so q ∙ at_other node q (Some (length xs)) (P q) ne) ∙ e in
           ap node_of (old_slot q s old) ∙ known q s old
@@ -131,7 +132,7 @@ module _ (P Q : ℕ → Option ℕ) (xs : List Waiting) (node : ℕ) (w : Waitin
           none_some f = cc
       by_slot (inr h) =
           let here : s ≡ length xs = omega (arith, h, slice_get_within (xs ++ w ∷ []) s entry e, length-append xs (w ∷ [])) in
-          let is : Some w ≡ Some entry = sym (end_of xs w) ∙ ap (slice_get (xs ++ w ∷ [])) (sym here) ∙ e in
+          let is : Some w ≡ Some entry = sym (get-end xs w) ∙ ap (slice_get (xs ++ w ∷ [])) (sym here) ∙ e in
           let same : node ≡ entry.node = sym mine ∙ inner w.node entry.node (ap node_of is) in
           set_so entry.node ∙ ap (λ k. cond (node == k) (Some (length xs)) (P entry.node)) (sym same) ∙ at_itself node (Some (length xs)) (P entry.node) ∙ ap Some (sym here)
 
@@ -141,7 +142,7 @@ module _ (P Q : ℕ → Option ℕ) (xs : List Waiting) (node : ℕ) (w : Waitin
       by_node : (node ≡ q) ⊎ (node ≢ q) → beat_at Q (xs ++ w ∷ []) q ≡ cond (node == q) (Some w.at) (beat_at P xs q)
       by_node (inl e) =
           subst (λ k. beat_at Q (xs ++ w ∷ []) k ≡ cond (node == k) (Some w.at) (beat_at P xs k)) e
-          (ap (option_and_then (λ s. beat_of (slice_get (xs ++ w ∷ []) s))) (set_so node ∙ at_itself node (Some (length xs)) (P node)) ∙ ap beat_of (end_of xs w) ∙ sym (at_itself node (Some w.at) (beat_at P xs node)))
+          (ap (option_and_then (λ s. beat_of (slice_get (xs ++ w ∷ []) s))) (set_so node ∙ at_itself node (Some (length xs)) (P node)) ∙ ap beat_of (get-end xs w) ∙ sym (at_itself node (Some w.at) (beat_at P xs node)))
       by_node (inr ne) =
           beat_by P Q xs (xs ++ w ∷ []) q (set_so q ∙ at_other node q (Some (length xs)) (P q) ne) (λ s e. old_slot q s e)
           ∙ sym (at_other node q (Some w.at) (beat_at P xs q) ne)
@@ -193,7 +194,7 @@ no_beat P xs node absent = ap (option_and_then (λ s. beat_of (slice_get xs s)))
 module _ (P Q : ℕ → Option ℕ) (ys : List Waiting) (last : Waiting) (node slot : ℕ) (known : HasItsNode P (ys ++ last ∷ [])) (kept : IsKept P (ys ++ last ∷ [])) (here : P node ≡ Some slot)
     (gone : (q : ℕ) → Q q ≡ cond (node == q) None (P q)) where
   last_place : P last.node ≡ Some (length ys)
-  last_place = kept (length ys) last (end_of ys last)
+  last_place = kept (length ys) last (get-end ys last)
 
   q_old : (q s : ℕ) → Q q ≡ Some s → (node ≢ q) × (P q ≡ Some s)
   q_old q s e = by_node (cases_eq node q)
@@ -255,22 +256,22 @@ module _ (P Q : ℕ → Option ℕ) (ys : List Waiting) (last : Waiting) (node s
         by_node : (last.node ≡ q) ⊎ (last.node ≢ q) → node_of (slice_get (set ys slot last) s) ≡ Some q
         by_node (inl f) =
             let is : Some slot ≡ Some s = sym (moved q ∙ ap (λ k. cond (last.node == k) (Some slot) (Q q)) (sym f) ∙ at_itself last.node (Some slot) (Q q)) ∙ e in
-            ap (λ k. node_of (slice_get (set ys slot last) k)) (sym (inner slot s is)) ∙ ap node_of (get_set_same ys slot last slot_left) ∙ ap Some f
+            ap (λ k. node_of (slice_get (set ys slot last) k)) (sym (inner slot s is)) ∙ ap node_of (get-set_same ys slot last slot_left) ∙ ap Some f
         by_node (inr ne) =
             let old = q_old q s (sym (moved q ∙ at_other last.node q (Some slot) (Q q) ne) ∙ e) in
             let apart : s ≢ slot = λ f. old.0 (one_node P (ys ++ last ∷ []) known node q slot here (old.1 ∙ ap Some f)) in
-            ap node_of (get_set_other ys slot s last apart) ∙ ap node_of (shorter q s old.1 (λ f. ne (sym f))) ∙ known q s old.1
+            ap node_of (get-set_other ys slot s last apart) ∙ ap node_of (shorter q s old.1 (λ f. ne (sym f))) ∙ known q s old.1
 
     pub filled_kept : IsKept R (set ys slot last)
     filled_kept s entry e = by_slot (cases_eq s slot)
       where
         by_slot : (s ≡ slot) ⊎ (s ≢ slot) → R entry.node ≡ Some s
         by_slot (inl f) =
-            let is : Some last ≡ Some entry = sym (get_set_same ys slot last slot_left) ∙ ap (slice_get (set ys slot last)) (sym f) ∙ e in
+            let is : Some last ≡ Some entry = sym (get-set_same ys slot last slot_left) ∙ ap (slice_get (set ys slot last)) (sym f) ∙ e in
             let same : last.node ≡ entry.node = inner last.node entry.node (ap node_of is) in
             ap R (sym same) ∙ moved last.node ∙ at_itself last.node (Some slot) (Q last.node) ∙ ap Some (sym f)
         by_slot (inr ne) =
-            let old = still s entry (sym (get_set_other ys slot s last ne) ∙ e) in
+            let old = still s entry (sym (get-set_other ys slot s last ne) ∙ e) in
             let from_last : last.node ≢ entry.node = λ f. omega (arith, old.1, inner (length ys) s (sym last_place ∙ ap P f ∙ old.0)) in
             let from_node : node ≢ entry.node = λ f. ne (inner s slot (sym old.0 ∙ ap P (sym f) ∙ here)) in
             moved entry.node ∙ at_other last.node entry.node (Some slot) (Q entry.node) from_last ∙ gone entry.node ∙ at_other node entry.node None (P entry.node) from_node ∙ old.0
@@ -280,11 +281,11 @@ module _ (P Q : ℕ → Option ℕ) (ys : List Waiting) (last : Waiting) (node s
       where
         at_last : (last.node ≡ q) ⊎ (last.node ≢ q) → node ≢ q → beat_at R (set ys slot last) q ≡ beat_at P (ys ++ last ∷ []) q
         at_last (inl f) ne = subst (λ k. beat_at R (set ys slot last) k ≡ beat_at P (ys ++ last ∷ []) k) f
-            (ap (option_and_then (λ s. beat_of (slice_get (set ys slot last) s))) (moved last.node ∙ at_itself last.node (Some slot) (Q last.node)) ∙ ap beat_of (get_set_same ys slot last slot_left)
-            ∙ sym (ap (option_and_then (λ s. beat_of (slice_get (ys ++ last ∷ []) s))) last_place ∙ ap beat_of (end_of ys last)))
+            (ap (option_and_then (λ s. beat_of (slice_get (set ys slot last) s))) (moved last.node ∙ at_itself last.node (Some slot) (Q last.node)) ∙ ap beat_of (get-set_same ys slot last slot_left)
+            ∙ sym (ap (option_and_then (λ s. beat_of (slice_get (ys ++ last ∷ []) s))) last_place ∙ ap beat_of (get-end ys last)))
         at_last (inr far) ne =
             beat_by P R (ys ++ last ∷ []) (set ys slot last) q (moved q ∙ at_other last.node q (Some slot) (Q q) far ∙ gone q ∙ at_other node q None (P q) ne)
-            (λ s e. get_set_other ys slot s last (λ f. ne (one_node P (ys ++ last ∷ []) known node q slot here (e ∙ ap Some f))) ∙ shorter q s e (λ f. far (sym f)))
+            (λ s e. get-set_other ys slot s last (λ f. ne (one_node P (ys ++ last ∷ []) known node q slot here (e ∙ ap Some f))) ∙ shorter q s e (λ f. far (sym f)))
 
         by_node : (node ≡ q) ⊎ (node ≢ q) → beat_at R (set ys slot last) q ≡ cond (node == q) None (beat_at P (ys ++ last ∷ []) q)
         by_node (inl e) = subst (λ k. beat_at R (set ys slot last) k ≡ cond (node == k) None (beat_at P (ys ++ last ∷ []) k)) e
@@ -332,4 +333,23 @@ nothing_popped (Some x) xs ys h f = absurd (f x refl)
 -- the last node keeps its place while another leaves
 pub last_known : (P Q : ℕ → Option ℕ) (ys : List Waiting) (last : Waiting) (node : ℕ) → IsKept P (ys ++ last ∷ []) → ((q : ℕ) → Q q ≡ cond (node == q) None (P q)) → last.node ≢ node → IsSome (Q last.node)
 last_known P Q ys last node kept gone other =
-    subst IsSome (sym (gone last.node ∙ at_other node last.node None (P last.node) (λ e. other (sym e)) ∙ kept (length ys) last (end_of ys last))) refl
+    subst IsSome (sym (gone last.node ∙ at_other node last.node None (P last.node) (λ e. other (sym e)) ∙ kept (length ys) last (get-end ys last))) refl
+
+-- ---- a node that waited nowhere is entered with a new slot
+
+pub record Entered (P Q : ℕ → Option ℕ) (xs : List Waiting) (w : Waiting) : Type 0 where
+  pub known : HasItsNode Q (xs ++ w ∷ [])
+  pub kept : IsKept Q (xs ++ w ∷ [])
+  pub beat : (q : ℕ) → beat_at Q (xs ++ w ∷ []) q ≡ cond (w.node == q) (Some (unwrap_or (beat_at P xs w.node) w.at)) (beat_at P xs q)
+
+pub entered : (m n : BTreeMap ℕ ℕ) (xs : List Waiting) (w : Waiting) (slot : ℕ) → HasItsNode (place m) xs → IsKept (place m) xs → is_some (place m w.node) ≡ false
+    → slot ≡ length xs → Updates nat_cmp m n w.node (Some slot) → Entered (place m) (place n) xs w
+entered m n xs w slot known kept out last u =
+    let absent = no_place (place m w.node) out in
+    let add = subst (λ s. (q : ℕ) → place n q ≡ cond (w.node == q) (Some s) (place m q)) last (placed_so m n w.node (Some slot) u) in
+    record {
+      known = added_known (place m) (place n) xs w.node w known kept absent refl add;
+      kept = added_kept (place m) (place n) xs w.node w known kept absent refl add;
+      beat = λ q. added_beat (place m) (place n) xs w.node w known kept absent refl add q
+          ∙ ap (λ o. cond (w.node == q) (Some (unwrap_or o w.at)) (beat_at (place m) xs q)) (sym (no_beat (place m) xs w.node absent));
+    }

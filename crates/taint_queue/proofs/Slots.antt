@@ -1,35 +1,23 @@
 -- What a write to one slot of a tournament tree leaves.
 use Rattle.std.proofs.Common.{◌≡◌, ◌≢◌, ℕ, zero, suc, ◌+◌, ◌-◌, ◌*◌, ◌/◌, ◌<◌, ◌≤◌, List, [], ◌∷◌, ◌++◌, Bool, true, false, cond, Option, Some, None, IfSome, length, length-append, set, refl, ap, sym, ◌∙◌, subst, arith, ◌⊎◌, inl, inr}
-use Rattle.std.proofs.lemmas.List.{get_or-set_same, length-set}
 use Rattle.std.proofs.lemmas.Bool.{cases_eq, cases_lt}
-use Rattle.std.proofs.lemmas.Option.{slice_get-get_or, slice_get_past, slice_get_within}
+use Rattle.std.proofs.lemmas.Option.{slice_get_past, slice_get_within}
 use Rattle.std.proofs.lemmas.Bool.Decides.{nat_tests}
 use Rattle.std.specs.List.{slice_get}
+use Rattle.kube_base.proofs.Lists.{get-end, get-set_other, get-set_same}
 use Rattle.taint_queue.specs.Order.{comes_first, earliest}
 use Rattle.taint_queue.specs.Tidy.{best, IsTidy, IsTidyBut}
 use Rattle.taint_queue.specs.declared.waiting.Waiting.{Waiting}
 
-pub get_set_same : {X : Type 0} (xs : List X) (i : ℕ) (v : X) → i < length xs → slice_get (set xs i v) i ≡ Some v
-get_set_same xs i v h =
-    let long : i < length (set xs i v) = omega (arith, length-set xs i v) in
-    slice_get-get_or (set xs i v) i v long ∙ ap Some (get_or-set_same xs i v v h)
-
-pub get_set_other : {X : Type 0} (xs : List X) (i k : ℕ) (v : X) → k ≢ i → slice_get (set xs i v) k ≡ slice_get xs k
-get_set_other [] i k v h = refl
-get_set_other (x ∷ xs) zero zero v h = absurd (h refl)
-get_set_other (x ∷ xs) zero (suc k) v h = refl
-get_set_other (x ∷ xs) (suc i) zero v h = refl
-get_set_other (x ∷ xs) (suc i) (suc k) v h = get_set_other xs i k v (λ e. h (ap suc e))
-
 best_same : (waiting least : List Waiting) (i at : ℕ) (v : Waiting) → 2 * i + 1 ≢ at → 2 * i + 2 ≢ at → best waiting (set least at v) i ≡ best waiting least i
 best_same waiting least i at v left right =
-    ap (λ x. earliest (earliest (slice_get waiting i) x) (slice_get (set least at v) (2 * i + 2))) (get_set_other least at (2 * i + 1) v left)
-    ∙ ap (λ x. earliest (earliest (slice_get waiting i) (slice_get least (2 * i + 1))) x) (get_set_other least at (2 * i + 2) v right)
+    ap (λ x. earliest (earliest (slice_get waiting i) x) (slice_get (set least at v) (2 * i + 2))) (get-set_other least at (2 * i + 1) v left)
+    ∙ ap (λ x. earliest (earliest (slice_get waiting i) (slice_get least (2 * i + 1))) x) (get-set_other least at (2 * i + 2) v right)
 
 written : (waiting least : List Waiting) (at : ℕ) (v : Waiting) → at < length least → Some v ≡ best waiting least at
     → slice_get (set least at v) at ≡ best waiting (set least at v) at
 written waiting least at v h is =
-    get_set_same least at v h ∙ is ∙ sym (best_same waiting least at at v (λ e. omega (arith, e)) (λ e. omega (arith, e)))
+    get-set_same least at v h ∙ is ∙ sym (best_same waiting least at at v (λ e. omega (arith, e)) (λ e. omega (arith, e)))
 
 -- the slot above is the one that a write may leave untidy
 pub one_up : (waiting least : List Waiting) (at : ℕ) (v : Waiting) → IsTidyBut waiting least at → 0 < at → at < length least → Some v ≡ best waiting least at
@@ -44,7 +32,7 @@ one_up waiting least at v tidy up h is i apart = by_slot (cases_eq i at)
 
     by_slot : (i ≡ at) ⊎ (i ≢ at) → slice_get (set least at v) i ≡ best waiting (set least at v) i
     by_slot (inl e) = subst (λ k. slice_get (set least at v) k ≡ best waiting (set least at v) k) (sym e) (written waiting least at v h is)
-    by_slot (inr ne) = get_set_other least at i v ne ∙ tidy i ne ∙ sym (best_same waiting least i at v left right)
+    by_slot (inr ne) = get-set_other least at i v ne ∙ tidy i ne ∙ sym (best_same waiting least i at v left right)
 
 -- above the first slot there is none
 pub at_top : (waiting least : List Waiting) (v : Waiting) → IsTidyBut waiting least 0 → 0 < length least → Some v ≡ best waiting least 0
@@ -53,7 +41,7 @@ at_top waiting least v tidy h is i = by_slot (cases_eq i 0)
   where
     by_slot : (i ≡ 0) ⊎ (i ≢ 0) → slice_get (set least 0 v) i ≡ best waiting (set least 0 v) i
     by_slot (inl e) = subst (λ k. slice_get (set least 0 v) k ≡ best waiting (set least 0 v) k) (sym e) (written waiting least 0 v h is)
-    by_slot (inr ne) = get_set_other least 0 i v ne ∙ tidy i ne ∙ sym (best_same waiting least i 0 v (λ e. omega (arith, e)) (λ e. omega (arith, e)))
+    by_slot (inr ne) = get-set_other least 0 i v ne ∙ tidy i ne ∙ sym (best_same waiting least i 0 v (λ e. omega (arith, e)) (λ e. omega (arith, e)))
 
 -- ---- a slot at the end
 pub front_same : (xs ys : List Waiting) (k : ℕ) → k < length xs → slice_get (xs ++ ys) k ≡ slice_get xs k
@@ -75,10 +63,6 @@ best_beside ws ls wr lr i n wn ln wl ll own left right =
     ∙ ap (λ x. earliest (earliest (slice_get ws i) x) (slice_get (ls ++ lr) (2 * i + 2))) (same_beside ls lr (2 * i + 1) ll (λ e. left (e ∙ sym ln)))
     ∙ ap (λ x. earliest (earliest (slice_get ws i) (slice_get ls (2 * i + 1))) x) (same_beside ls lr (2 * i + 2) ll (λ e. right (e ∙ sym ln)))
 
-pub end_of : (xs : List Waiting) (w : Waiting) → slice_get (xs ++ w ∷ []) (length xs) ≡ Some w
-end_of [] w = refl
-end_of (x ∷ xs) w = end_of xs w
-
 one_more : (xs : List Waiting) (w : Waiting) → length (xs ++ w ∷ []) ≤ length xs + 1
 one_more xs w = omega (arith, length-append xs (w ∷ []))
 
@@ -98,8 +82,8 @@ pushed_tidy waiting least w n tidy wn ln up i apart = by_slot (cases_eq i n)
 
     by_slot : (i ≡ n) ⊎ (i ≢ n) → slice_get ls i ≡ best ws ls i
     by_slot (inl e) =
-        ap (slice_get ls) (e ∙ ln) ∙ end_of least w
-        ∙ sym (ap (λ x. earliest (earliest x (slice_get ls (2 * i + 1))) (slice_get ls (2 * i + 2))) (ap (slice_get ws) (e ∙ wn) ∙ end_of waiting w)
+        ap (slice_get ls) (e ∙ ln) ∙ get-end least w
+        ∙ sym (ap (λ x. earliest (earliest x (slice_get ls (2 * i + 1))) (slice_get ls (2 * i + 2))) (ap (slice_get ws) (e ∙ wn) ∙ get-end waiting w)
         ∙ ap (λ x. earliest (earliest (Some w) x) (slice_get ls (2 * i + 2))) (past (2 * i + 1) (omega (arith, e)))
         ∙ ap (λ x. earliest (Some w) x) (past (2 * i + 2) (omega (arith, e))))
     by_slot (inr ne) =
@@ -127,7 +111,7 @@ popped_tidy ws ls wr lr n tidy wn ln wl ll up i apart = by_order (cases_lt i n)
 -- the entry of a slot was replaced
 pub put_tidy : (waiting least : List Waiting) (slot : ℕ) (w : Waiting) → IsTidy waiting least → IsTidyBut (set waiting slot w) least slot
 put_tidy waiting least slot w tidy i apart =
-    tidy i ∙ sym (ap (λ x. earliest (earliest x (slice_get least (2 * i + 1))) (slice_get least (2 * i + 2))) (get_set_other waiting slot i w apart))
+    tidy i ∙ sym (ap (λ x. earliest (earliest x (slice_get least (2 * i + 1))) (slice_get least (2 * i + 2))) (get-set_other waiting slot i w apart))
 
 -- ---- the first slot has the earliest of all
 abbrev Leq : Option Waiting → Option Waiting → Type 0

@@ -91,8 +91,8 @@ impl Pushes {
         Ok(())
     }
 
-    /// A node is to stand here, and counts as pushed from now on: it is pushed where that is asked for or it doesn't count yet, and, unless a
-    /// queue holds a node many times, where no push of it stands.
+    /// A node is to stand here, and counts as pushed from now on: it is pushed if that is asked for or it doesn't count yet, and, unless a
+    /// queue holds a node many times, if no push of it stands.
     pub fn want(&mut self, node: u32, anew: bool, again: bool) -> Result<(), NoMemory>
         ensures names { OnOk result (names self.new
             ≡ (if (anew || not (counts_in self.old node)) && (again || not (model.holds_name node (names self.old)))
@@ -140,7 +140,7 @@ impl Pushes {
         }
     }
 
-    /// The first push had its turn: it goes where its node counts as pushed, and else it stays where it is. Takes no memory.
+    /// The first push had its turn: it goes if its node counts as pushed, and else it stays where it is. Takes no memory.
     pub fn take_head(&mut self)
         ensures some { (node : ℕ) (rest : List ℕ) → names self.old ≡ node ∷ rest
             → names self.new ≡ model.taken (counts_in self.old node) (names self.old) }

@@ -85,7 +85,7 @@ impl Queue {
         }
     }
 
-    /// The node that waits since the least beat, and of equal ones the least; none exactly where nobody waits. Takes no
+    /// The node that waits since the least beat, and of equal ones the least; none exactly if nobody waits. Takes no
     /// memory.
     pub fn head(&self) -> Option<u32>
         ensures first { IfSome result (λ node. (at : Since) × (waits_since self.now node ≡ Some at)

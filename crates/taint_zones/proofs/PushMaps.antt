@@ -1,17 +1,17 @@
 -- Pushes of zones after one zone's changed.
-use Rattle.std.proofs.Common.{◌≡◌, ◌∙◌, ℕ, ◌==◌, ◌&&◌, ◌||◌, not, Bool, true, false, cond, List, [], ◌∷◌, ◌++◌, Option, Some, None, refl, sym, ap, subst, filter, IsSome}
-use Rattle.std.proofs.lemmas.Bool.{both_ways}
+use Rattle.std.proofs.Common.{◌≡◌, ◌∙◌, ℕ, ◌==◌, ◌&&◌, ◌||◌, not, Bool, true, false, cond, List, [], ◌∷◌, ◌++◌, Option, Some, None, refl, sym, ap, filter}
 use Rattle.std.proofs.lemmas.Map.Entries.{lookup-filter-keys}
-use Rattle.std.specs.BTreeMap.{BTreeMap, IsLowerBound, get, is_at, Updates}
+use Rattle.std.specs.BTreeMap.{BTreeMap, get, is_at, Updates}
 use Rattle.std.specs.Map.{lookup}
-use Rattle.std.specs.Ordering.{is_gt, is_lt}
 use Rattle.kube_objects.specs.Judgement.{holds_name, taken}
 use Rattle.taint_queue.specs.declared.pushes.Pushes.{Pushes}
 use Rattle.taint_queue.specs.Pushed.{counts_in, names}
 use Rattle.taint_zones.specs.declared.place.Place.{Place}
+use Rattle.taint_zones.specs.declared.pushes.ZonePushes.{ZonePushes}
 use Rattle.taint_zones.specs.Places.{zone_cmp, zone_eq}
-use Rattle.taint_zones.specs.Pushing.{counts_of, names_of}
-use Rattle.taint_zones.proofs.ZoneMaps.{above_first, same_zone}
+use Rattle.taint_zones.specs.Pushing.{IsNextPushed, counts_of, names_of}
+use Rattle.taint_zones.specs.Waiting.{IsNextPlace}
+use Rattle.taint_zones.proofs.ZoneMaps.{same_zone}
 
 -- what is read of each zone, where the pushes of one changed
 module _ {A : Type 0} (read makes : Option Pushes → A) (zones new : BTreeMap Place Pushes) (place : Place) where
@@ -91,14 +91,10 @@ no_turn zones new place old now found u none zone is = ap names_of (u.0 zone) �
     by_zone true same = none (sym (ap names_of (ap (get zone_cmp zones) (sym (same_zone place zone same)) ∙ found)) ∙ is)
     by_zone false same = is
 
--- ---- the order of zones
-
-pub none_before : (zones : BTreeMap Place Pushes) (first : Place) → IsLowerBound zone_cmp zones first → (zone : Place) → is_lt (zone_cmp zone first) ≡ true → names_of (get zone_cmp zones zone) ≡ []
-none_before zones first least zone less = by_queue (get zone_cmp zones zone) refl
-  where
-    by_queue : (o : Option Pushes) → get zone_cmp zones zone ≡ o → names_of o ≡ []
-    by_queue None is = refl
-    by_queue (Some pushes) is = absurd (both_ways (is_gt (zone_cmp first zone)) (least zone (subst IsSome (sym is) refl)) (above_first first zone less))
+-- where the map has nothing there is no push
+pub next_pushed : (pushes : ZonePushes) (after next : Option Place) → IsNextPlace pushes.zones after next → IsNextPushed pushes after next
+next_pushed pushes after None none = λ zone later. ap names_of (none zone later)
+next_pushed pushes after (Some next) is = (is.0, λ zone later less. ap names_of (is.1 zone later less))
 
 pub turn_absent : (zones new : BTreeMap Place Pushes) (place : Place) → get zone_cmp zones place ≡ None → ((zone : Place) → get zone_cmp new zone ≡ get zone_cmp zones zone)
     → (zone : Place) (node : ℕ) (rest : List ℕ) → names_of (get zone_cmp zones zone) ≡ node ∷ rest

@@ -12,8 +12,10 @@ use Rattle.kube_base.specs.declared.numbers.Beat.{Beat}
 use Rattle.taint_queue.specs.Queue.{waits_since}
 use Rattle.taint_queue.specs.declared.queue.Queue.{Queue}
 use Rattle.taint_zones.specs.declared.place.Place.{Place}
+use Rattle.taint_zones.specs.declared.queues.Queues.{Queues}
 use Rattle.taint_zones.specs.Homes.{beat_number, since_in, since_at}
 use Rattle.taint_zones.specs.Places.{zone_cmp, zone_eq}
+use Rattle.taint_zones.specs.Waiting.{IsNextPlace, IsNextZone}
 
 number_same : (a b : ℕ) → nat_cmp a b ≡ Equal → a ≡ b
 number_same a b is = grind (arith, nat_tests)
@@ -72,25 +74,30 @@ module _ (zones new : BTreeMap Place Queue) (place : Place) (node : ℕ) (turn :
           subst (λ z. since_at zones z other ≡ makes (since_at zones z node)) (same_zone place zone is)
           (ap (λ o. since_in o other) none ∙ sym nothing ∙ ap makes (sym (ap (λ o. since_in o node) none)))
 
--- a queue that begins with one node
-pub begun : (zones new : BTreeMap Place Queue) (place : Place) (node at : ℕ) (queue : Queue) → Updates zone_cmp zones new place (Some queue)
-    → ((other : ℕ) → since_at zones place other ≡ None) → ((other : ℕ) → beat_number (waits_since queue other) ≡ cond (node == other) (Some at) None)
-    → (zone : Place) (other : ℕ) → since_at new zone other ≡ cond (node == other && zone_eq place zone) (Some at) (since_at zones zone other)
-begun zones new place node at queue u none now zone other = ap (λ o. since_in o other) (u.0 zone) ∙ by_zone (zone_eq place zone) refl
+-- a queue that was missing begins with one node
+pub begun : (zones before new : BTreeMap Place Queue) (place : Place) (node at : ℕ) (queue : Queue) → before ≡ zones → Updates zone_cmp before new place (Some queue)
+    → get zone_cmp zones place ≡ None → ((other : ℕ) → beat_number (waits_since queue other) ≡ cond (node == other) (Some at) None)
+    → (zone : Place) (other : ℕ) → since_at new zone other ≡ cond (node == other && zone_eq place zone) (Some (unwrap_or (since_at zones zone node) at)) (since_at zones zone other)
+begun zones before new place node at queue same u none now zone other =
+    ap (λ o. since_in o other) ((subst (λ m. Updates zone_cmp m new place (Some queue)) same u).0 zone) ∙ by_zone (zone_eq place zone) refl
   where
-    by_node : (b : Bool) → cond b (Some at) None ≡ cond (b && true) (Some at) (since_at zones place other)
-    by_node true = refl
-    by_node false = sym (none other)
+    was : (n : ℕ) → since_at zones place n ≡ None
+    was n = ap (λ o. since_in o n) none
+
+    by_node : (b : Bool) → cond b (Some at) None ≡ cond (b && true) (Some (unwrap_or (since_at zones place node) at)) (since_at zones place other)
+    by_node true = ap (λ o. Some (unwrap_or o at)) (sym (was node))
+    by_node false = sym (was other)
 
     and_false : (b : Bool) (x y : Option ℕ) → y ≡ cond (b && false) x y
     and_false true x y = refl
     and_false false x y = refl
 
-    by_zone : (b : Bool) → zone_eq place zone ≡ b → since_in (cond b (Some queue) (get zone_cmp zones zone)) other ≡ cond (node == other && b) (Some at) (since_at zones zone other)
+    by_zone : (b : Bool) → zone_eq place zone ≡ b
+        → since_in (cond b (Some queue) (get zone_cmp zones zone)) other ≡ cond (node == other && b) (Some (unwrap_or (since_at zones zone node) at)) (since_at zones zone other)
     by_zone true is =
-        subst (λ z. beat_number (waits_since queue other) ≡ cond (node == other && true) (Some at) (since_at zones z other)) (same_zone place zone is)
+        subst (λ z. beat_number (waits_since queue other) ≡ cond (node == other && true) (Some (unwrap_or (since_at zones z node) at)) (since_at zones z other)) (same_zone place zone is)
         (now other ∙ by_node (node == other))
-    by_zone false is = and_false (node == other) (Some at) (since_at zones zone other)
+    by_zone false is = and_false (node == other) (Some (unwrap_or (since_at zones zone node) at)) (since_at zones zone other)
 
 -- one queue is as before
 pub kept : (zones new : BTreeMap Place Queue) (place : Place) (old queue : Queue) → get zone_cmp zones place ≡ Some old → Updates zone_cmp zones new place (Some queue)
@@ -102,19 +109,6 @@ kept zones new place old queue found u now zone other = ap (λ o. since_in o oth
         subst (λ z. beat_number (waits_since queue other) ≡ since_at zones z other) (same_zone place zone is)
         (ap beat_number (now other) ∙ sym (ap (λ o. since_in o other) found))
     by_zone false is = refl
-
--- a queue that was missing begins
-pub entered : (zones before new : BTreeMap Place Queue) (place : Place) (node at : ℕ) → before ≡ zones → get zone_cmp zones place ≡ None
-    → ((zone : Place) (other : ℕ) → since_at new zone other ≡ cond (node == other && zone_eq place zone) (Some at) (since_at before zone other))
-    → (zone : Place) (other : ℕ) → since_at new zone other ≡ cond (node == other && zone_eq place zone) (Some (unwrap_or (since_at zones zone node) at)) (since_at zones zone other)
-entered zones before new place node at same none now zone other =
-    now zone other ∙ ap (λ m. cond (node == other && zone_eq place zone) (Some at) (since_at m zone other)) same ∙ by_zone (zone_eq place zone) refl (node == other)
-  where
-    by_zone : (b : Bool) → zone_eq place zone ≡ b → (c : Bool)
-        → cond (c && b) (Some at) (since_at zones zone other) ≡ cond (c && b) (Some (unwrap_or (since_at zones zone node) at)) (since_at zones zone other)
-    by_zone b is false = refl
-    by_zone false is true = refl
-    by_zone true is true = subst (λ z. Some at ≡ Some (unwrap_or (since_at zones z node) at)) (same_zone place zone is) (sym (ap (λ o. Some (unwrap_or (since_in o node) at)) none))
 
 number_itself : (a : ℕ) → nat_cmp a a ≡ Equal
 number_itself a = grind (arith, nat_tests)
@@ -132,13 +126,19 @@ less_is Less is = refl
 less_is Equal is = absurd (cc)
 less_is Greater is = absurd (cc)
 
-pub above_first : (first zone : Place) → is_lt (zone_cmp zone first) ≡ true → is_gt (zone_cmp first zone) ≡ true
+above_first : (first zone : Place) → is_lt (zone_cmp zone first) ≡ true → is_gt (zone_cmp first zone) ≡ true
 above_first first zone less = ap is_gt (zones_total.antisymm first zone ∙ ap ordering_reverse (less_is (zone_cmp zone first) less))
 
--- before the first of the zones nobody waits
-pub before_first : (zones : BTreeMap Place Queue) (first : Place) → IsLowerBound zone_cmp zones first → (zone : Place) → is_lt (zone_cmp zone first) ≡ true → (node : ℕ) → since_at zones zone node ≡ None
-before_first zones first least zone less node = by_queue (get zone_cmp zones zone) refl
+-- before the first of a map's zones there is none
+pub none_before : {V : Type 0} (zones : BTreeMap Place V) (first : Place) → IsLowerBound zone_cmp zones first → (zone : Place) → is_lt (zone_cmp zone first) ≡ true
+    → get zone_cmp zones zone ≡ None
+none_before {V = V} zones first least zone less = by_value (get zone_cmp zones zone) refl
   where
-    by_queue : (o : Option Queue) → get zone_cmp zones zone ≡ o → since_in o node ≡ None
-    by_queue None is = refl
-    by_queue (Some queue) is = absurd (both_ways (is_gt (zone_cmp first zone)) (least zone (subst IsSome (sym is) refl)) (above_first first zone less))
+    by_value : (o : Option V) → get zone_cmp zones zone ≡ o → o ≡ None
+    by_value None is = refl
+    by_value (Some x) is = absurd (both_ways (is_gt (zone_cmp first zone)) (least zone (subst IsSome (sym is) refl)) (above_first first zone less))
+
+-- where the map has nothing nobody waits
+pub next_waits : (queues : Queues) (after next : Option Place) → IsNextPlace queues.zones after next → IsNextZone queues after next
+next_waits queues after None none = λ zone later node. ap (λ o. since_in o node) (none zone later)
+next_waits queues after (Some next) is = (is.0, λ zone later less node. ap (λ o. since_in o node) (is.1 zone later less))

@@ -1,6 +1,6 @@
 -- Since when nodes wait in zones.
 use Rattle.std.specs.Prelude.{◌≡◌, ℕ, Bool, true, false, cond, Option, Some, None, unwrap_or}
-use Rattle.std.specs.BTreeMap.{get}
+use Rattle.std.specs.BTreeMap.{BTreeMap, get}
 use Rattle.std.specs.Ordering.{nat_cmp, is_lt}
 use Rattle.taint_zones.specs.declared.place.Place.{Place}
 use Rattle.taint_zones.specs.declared.queues.Queues.{Queues}
@@ -28,6 +28,12 @@ moved_in (Some place) zone at old = cond (zone_eq place zone) (Some (unwrap_or o
 abbrev pub IsAfter : Option Place → Place → Type 0
 IsAfter None zone = Unit {0}
 IsAfter (Some place) zone = is_lt (zone_cmp place zone) ≡ true
+
+-- the zones after one before this have nothing in a map, or all where there is none
+abbrev pub IsNextPlace : {V : Type 0} → BTreeMap Place V → Option Place → Option Place → Type 0
+IsNextPlace zones after None = (zone : Place) → IsAfter after zone → get zone_cmp zones zone ≡ None
+IsNextPlace zones after (Some next) =
+    IsAfter after next × ((zone : Place) → IsAfter after zone → is_lt (zone_cmp zone next) ≡ true → get zone_cmp zones zone ≡ None)
 
 abbrev pub IsEmpty : Queues → Place → Type 0
 IsEmpty queues zone = (node : ℕ) → since queues zone node ≡ None

@@ -2,6 +2,7 @@
 #![tactic(auto)]
 
 mod limit;
+mod next_place;
 mod place;
 mod pushes;
 mod queues;

@@ -1,4 +1,4 @@
-// The pushes of zones, where nodes are judged at passes alone.
+// The pushes of zones, if nodes are judged at passes alone.
 ghost use Rattle.std.specs.Prelude.{◌≡◌, ◌==◌, ◌&&◌, ◌||◌, ℕ, not, true, false, List, [], ◌∷◌, ◌++◌, Some, None, MatchOption, OnOk, if◌then◌else◌};
 ghost use Rattle.std.specs.BTreeMap.{get};
 ghost use Rattle.kube_objects.specs.Newest.{has};
@@ -6,11 +6,11 @@ ghost use Rattle.kube_objects.specs.Judgement as model;
 ghost use Rattle.taint_zones.specs.Places.{zone_cmp, zone_eq};
 ghost use Rattle.taint_zones.specs.Pushing.{IsNextPushed, counted_at, pushed_at};
 
+use crate::next_place::next_place;
 use crate::{Limit, Place};
 use kube_base::NoMemory;
 use std::alloc::Global;
 use std::collections::BTreeMap;
-use std::ops::Bound;
 use taint_queue::Pushes;
 
 /// The queues of zones that hold pushes of nodes. Each call costs the logarithm of the zones and of the pushes.
@@ -32,8 +32,8 @@ impl ZonePushes {
         }
     }
 
-    /// A node is to stand in the queue of a zone, and counts as pushed there from now on: it is pushed where that is asked for or it doesn't
-    /// count yet, and, unless a queue holds a node many times, where no push of it stands.
+    /// A node is to stand in the queue of a zone, and counts as pushed there from now on: it is pushed if that is asked for or it doesn't
+    /// count yet, and, unless a queue holds a node many times, if no push of it stands.
     pub fn want(&mut self, place: Place, node: u32, anew: bool, again: bool) -> Result<(), NoMemory>
         ensures names { OnOk result ((zone : Place) → pushed_at self.new zone
             ≡ (if zone_eq place zone && ((anew || not (counted_at self.old zone node)) && (again || not (model.holds_name node (pushed_at self.old zone))))
@@ -84,7 +84,7 @@ impl ZonePushes {
         }
     }
 
-    /// The first push of a zone had its turn: it goes where its node counts as pushed there. Takes no memory.
+    /// The first push of a zone had its turn: it goes if its node counts as pushed there. Takes no memory.
     pub fn take_head(&mut self, place: Place)
         ensures some { (zone : Place) (node : ℕ) (rest : List ℕ) → pushed_at self.old zone ≡ node ∷ rest
             → pushed_at self.new zone ≡ (if zone_eq place zone then model.taken (counted_at self.old zone node) (pushed_at self.old zone)
@@ -123,27 +123,6 @@ impl ZonePushes {
     pub fn next_zone(&self, after: Option<Place>) -> Option<Place>
         ensures { IsNextPushed self.now after result }
     {
-        match after {
-            None => self.first_zone(),
-            Some(place) => {
-                match self
-                    .zones
-                    .range((Bound::Excluded(place), Bound::Unbounded))
-                    .next()
-                {
-                    None => None,
-                    Some((next, _)) => Some(*next),
-                }
-            }
-        }
-    }
-
-    fn first_zone(&self) -> Option<Place>
-        ensures { IsNextPushed self.now None result }
-    {
-        match self.zones.first_key_value() {
-            None => None,
-            Some((first, _)) => Some(*first),
-        }
+        next_place(&self.zones, after)
     }
 }

@@ -4,11 +4,11 @@ ghost use Rattle.taint_queue.specs.Order.{precedes};
 ghost use Rattle.taint_zones.specs.Homes.{AreHome};
 
 use crate::Place;
+use crate::next_place::next_place;
 use crate::zone_queues::{leave, to_back, want};
 use kube_base::{Beat, NoMemory};
 use std::alloc::Global;
 use std::collections::BTreeMap;
-use std::ops::Bound;
 use taint_queue::Queue;
 
 /// The queues of zones, and the zone in which each node waits.
@@ -38,7 +38,7 @@ impl Queues {
         }
     }
 
-    /// The node waits in this zone, and in no other, or nowhere where there is none. Where it waits in that zone already it
+    /// The node waits in this zone, and in no other, or nowhere if there is none. If it waits in that zone already it
     /// keeps its beat, else it waits since this beat.
     pub fn settle(&mut self, node: u32, place: Option<Place>, at: Beat) -> Result<(), NoMemory>
         ensures { OnOk result ((zone : Place) (other : ℕ) → since self.new zone other
@@ -108,7 +108,7 @@ impl Queues {
         want(&mut self.zones, self.alloc, place, node, at)
     }
 
-    /// The node that waits in a zone since the least beat, and of equal ones the least; none exactly where nobody waits.
+    /// The node that waits in a zone since the least beat, and of equal ones the least; none exactly if nobody waits.
     /// Takes no memory.
     pub fn head(&self, place: Place) -> Option<u32>
         ensures first { IfSome result (λ node. (at : ℕ) × (since self.now place node ≡ Some at)
@@ -130,32 +130,11 @@ impl Queues {
         to_back(&mut self.zones, place, node, at);
     }
 
-    /// The next zone after this one, or the first, that has a queue. Between the two nobody waits; where there is none,
+    /// The next zone after this one, or the first, that has a queue. Between the two nobody waits; if there is none,
     /// nobody waits after this one.
     pub fn next_zone(&self, after: Option<Place>) -> Option<Place>
         ensures { IsNextZone self.now after result }
     {
-        match after {
-            None => self.first_zone(),
-            Some(place) => {
-                match self
-                    .zones
-                    .range((Bound::Excluded(place), Bound::Unbounded))
-                    .next()
-                {
-                    None => None,
-                    Some((next, _)) => Some(*next),
-                }
-            }
-        }
-    }
-
-    fn first_zone(&self) -> Option<Place>
-        ensures { IsNextZone self.now None result }
-    {
-        match self.zones.first_key_value() {
-            None => None,
-            Some((first, _)) => Some(*first),
-        }
+        next_place(&self.zones, after)
     }
 }

@@ -35,27 +35,13 @@ pub(crate) fn want(
 {
     match zones.get_mut(&place) {
         Some(queue) => queue.want(node, at),
-        None => begin(zones, alloc, place, node, at),
+        None => {
+            let mut queue = Queue::new(alloc);
+            queue.want(node, at)?;
+            zones.insert(place, queue)?;
+            Ok(())
+        }
     }
-}
-
-// The zone has a queue, with this node alone.
-fn begin(
-    zones: &mut BTreeMap<Place, Queue>,
-    alloc: Global,
-    place: Place,
-    node: u32,
-    at: Beat,
-) -> Result<(), NoMemory>
-    requires { (other : ℕ) → since_at zones.old place other ≡ None }
-    ensures ok { OnOk result ((zone : Place) (other : ℕ) → since_at zones.new zone other
-        ≡ (if node == other && zone_eq place zone then Some at.0 else since_at zones.old zone other)) }
-    ensures err { OnErr result ((zone : Place) (other : ℕ) → since_at zones.new zone other ≡ since_at zones.old zone other) }
-{
-    let mut queue = Queue::new(alloc);
-    queue.want(node, at)?;
-    zones.insert(place, queue)?;
-    Ok(())
 }
 
 // A node that waits in the zone does so since this beat from now on.

@@ -12,7 +12,7 @@ use kube_base::Local;
 use std::alloc::Global;
 use std::collections::BTreeMap;
 
-/// The zones of a term: the limit of each zone that its last pass found, and the nodes that wait; or their pushes, where nodes are judged at
+/// The zones of a term: the limit of each zone that its last pass found, and the nodes that wait; or their pushes, if nodes are judged at
 /// passes alone.
 ///
 /// A zone's queue is kept apart from its limit, since nodes may wait in a zone that no pass has found yet.
@@ -43,7 +43,7 @@ impl Zones {
         }
     }
 
-    /// Takes the token of a zone, where it is there.
+    /// Takes the token of a zone, if it is there.
     pub fn try_take(&mut self, place: Place, now: Local) -> bool
         requires { now.0 ≤ most_local }
         ensures there { (doc : Doc) (q : Identity) (k : ℕ) (h : List Entry) → LimitsStand doc q h self.old

@@ -8,7 +8,7 @@ use Rattle.kube_objects.specs.declared.deed.Actor.{Actor}
 use Rattle.kube_objects.specs.Clocks.{local}
 use Rattle.kube_objects.specs.Document.{Doc, is_controller, renew_deadline}
 use Rattle.kube_objects.specs.Elector.{Follow, retry_at, timer_says, Fails, shown, observed, leads, lead_says, follow_on, timer_follow, deadline_says, deadline, attempt}
-use Rattle.kube_objects.specs.Entry.{Entry, Identity, Call, Fact, First as FirstPut, Event as Happens, Starts, Stops, Sends, Answers, Delivers, Expires, Leads, Ends, Crashes, Stalls, Ticks, actor_of, entry, StepsDown, ReleaseBegins, ReleaseEnds, ReleaseStops}
+use Rattle.kube_objects.specs.Entry.{Entry, Identity, Call, Fact, Stops, Sends, Delivers, Leads, entry}
 use Rattle.kube_objects.specs.Identities.{is_by}
 use Rattle.kube_objects.specs.Newest.{newest, when, only_if, join, has, or_zero}
 use Rattle.kube_objects.specs.Pauses.{is_paused}
@@ -25,8 +25,9 @@ use Rattle.history_laws.proofs.Plainly.{upper, true_is, false_is, same_self}
 use Rattle.history_laws.proofs.Tailed.{tail_all, tail_trans, in_tail, later_tail, turn_tail, before_turn, same_head}
 use Rattle.call_laws.specs.Answering.{with_events}
 use Rattle.call_laws.proofs.Above.{tail_length, next_above}
-use Rattle.call_laws.proofs.Making.{MadeAs, MadeSend, HasStopped, IsOpen, Replied, are_made}
-use Rattle.call_laws.proofs.Starting.{sends_are_due, actor_is}
+use Rattle.call_laws.proofs.Making.{HasStopped, IsOpen, Replied}
+use Rattle.call_laws.proofs.Sending.{MadeFor, made_for}
+use Rattle.call_laws.proofs.Starting.{sends_are_due}
 use Rattle.call_laws.proofs.Placing.{in_own_beat}
 use Rattle.call_laws.proofs.Turning.{IsDue, IsTurnSend}
 use Rattle.takeover_laws.specs.Asking.{HasAsked, CandidatesAsk}
@@ -54,21 +55,7 @@ leads_set doc q (x ∷ h) is = cases x.actor x.fact (leads_set doc q h) is
         by_test true is = refl
         by_test false is = below is
     cases who (Delivers call reply counted) below is = older (deadline_says doc q x.beat who (leads q h) (Delivers call reply counted)) (below is)
-    cases who (FirstPut key object) below is = below is
-    cases who (Happens w version) below is = below is
-    cases who (Sends call arrives) below is = below is
-    cases who (Answers call reply comes wrote) below is = below is
-    cases who (Expires call) below is = below is
-    cases who (Ticks t) below is = below is
-    cases who Starts below is = below is
-    cases who Crashes below is = below is
-    cases who Stops below is = below is
-    cases who (Stalls beats) below is = below is
-    cases who StepsDown below is = below is
-    cases who (ReleaseBegins at_deadline) below is = below is
-    cases who ReleaseEnds below is = below is
-    cases who ReleaseStops below is = below is
-    cases who Ends below is = below is
+    cases who d below is = below is
 
 pub leads_on : (q : Identity) (g h : List Entry) → IsTail g h → leads q g ≡ true → leads q h ≡ true
 leads_on q g [] at is = subst (λ g. leads q g ≡ true) at is
@@ -145,14 +132,8 @@ module _ (doc : Doc) (rules : ReleasesByStop doc) (near far a e n r : ℕ) (q : 
       position : IsTail (s.x ∷ s.before) (history doc (suc n))
       position = tail_trans (s.x ∷ s.before) h (history doc (suc n)) s.position high
 
-      made : MadeSend doc s.x.beat s.x.step s.x.actor s.call s.arrives s.before
-      made = subst (λ d. MadeAs doc s.x.beat s.x.step s.x.actor d s.before) s.fact (are_made doc rules (suc n) s.x s.before position)
-
-      mine : made.q ≡ q
-      mine = actor_is made.q q (sym made.by ∙ s.actor)
-
-      role_made : is_controller doc made.q.process ≡ true
-      role_made = ap (λ (p : Identity). is_controller doc p.process) mine ∙ role
+      made : MadeFor doc q s.x.beat s.x.step s.call s.arrives s.before
+      made = made_for doc rules (suc n) q s.x s.before s.call s.arrives position s.actor s.fact
 
       asked_as : s.call.request ≡ Get election → nat_lt (local doc q.process s.x.beat) due_at ≡ false → HasAsked doc q due_at low h
       asked_as get due = record {
@@ -176,41 +157,40 @@ module _ (doc : Doc) (rules : ReleasesByStop doc) (near far a e n r : ℕ) (q : 
           asked_as (due.1 ∙ attempt_gets doc q s.x.beat s.before (never_led s.before (tail_trans s.before (s.x ∷ s.before) (history doc (suc n)) (inr (tail_all s.before)) position)))
           (ap (λ at. nat_lt (local doc q.process s.x.beat) at) (sym s.quiet.timer_is) ∙ due.0)
 
-      follows : Replied doc s.x.beat made.q made.request s.before → ⊥
+      follows : Replied doc s.x.beat q s.call.request s.before → ⊥
       follows f = cases (subst (IsTail low) f.is s.since)
         where
-          cases : IsTail low (entry s.x.beat 3 made.q (Delivers f.waiting f.reply true) ∷ f.before) → ⊥
-          cases (inl same) = no_ask made.request (sym fails_too ∙ ap (λ g. asks made.q s.x.beat f.waiting f.reply g) (same ∙ sym f.is) ∙ f.follows)
+          cases : IsTail low (entry s.x.beat 3 q (Delivers f.waiting f.reply true) ∷ f.before) → ⊥
+          cases (inl same) = no_ask s.call.request (sym fails_too ∙ ap (λ g. asks q s.x.beat f.waiting f.reply g) (same ∙ sym f.is) ∙ f.follows)
             where
               asks : Identity → ℕ → Call → Reply → List Entry → Follow
               asks p k c reply g = follow_on doc p k c.kind c.request reply g
 
-              one : failure ≡ entry s.x.beat 3 made.q (Delivers f.waiting f.reply true)
-              one = same_head failure (entry s.x.beat 3 made.q (Delivers f.waiting f.reply true)) T f.before same
+              one : failure ≡ entry s.x.beat 3 q (Delivers f.waiting f.reply true)
+              one = same_head failure (entry s.x.beat 3 q (Delivers f.waiting f.reply true)) T f.before same
 
-              fails_too : asks made.q s.x.beat f.waiting f.reply low ≡ Fails
+              fails_too : asks q s.x.beat f.waiting f.reply low ≡ Fails
               fails_too =
-                  ap (λ p. asks p s.x.beat f.waiting f.reply low) mine
-                  ∙ ap (λ k. asks q k f.waiting f.reply low) (sym (ap (λ (e : Entry). e.beat) one))
+                  ap (λ k. asks q k f.waiting f.reply low) (sym (ap (λ (e : Entry). e.beat) one))
                   ∙ ap (λ c. asks q r c f.reply low) (sym (ap (λ (e : Entry). call_or w e.fact) one))
                   ∙ ap (λ reply. asks q r w reply low) (sym (ap (λ (e : Entry). reply_or reply e.fact) one))
                   ∙ failed
           cases (inr below) =
-              s.quiet.undelivered (entry s.x.beat 3 made.q (Delivers f.waiting f.reply true)) f.before (subst (IsTail (entry s.x.beat 3 made.q (Delivers f.waiting f.reply true) ∷ f.before)) (sym f.is) (tail_all (entry s.x.beat 3 made.q (Delivers f.waiting f.reply true) ∷ f.before)))
-              below f.waiting f.reply refl (ap actor_of mine)
+              s.quiet.undelivered (entry s.x.beat 3 q (Delivers f.waiting f.reply true)) f.before (subst (IsTail (entry s.x.beat 3 q (Delivers f.waiting f.reply true) ∷ f.before)) (sym f.is) (tail_all (entry s.x.beat 3 q (Delivers f.waiting f.reply true) ∷ f.before)))
+              below f.waiting f.reply refl refl
 
       by_step : (s.x.step ≡ 1) ⊎ ((s.x.step ≡ 3) ⊎ (s.x.step ≡ 4)) → HasAsked doc q due_at low h
       by_step (inr (inr four)) = turned (subst (λ d. IsTurnSend doc s.x.beat q d s.before) s.fact (sends_are_due doc rules (suc n) s.x s.before position four q s.actor) role)
-      by_step (inr (inl three)) = absurd (follows (made.replied role_made three))
-      by_step (inl one) = absurd (stopped_or (made.free role_made))
+      by_step (inr (inl three)) = absurd (follows (made.replied role three))
+      by_step (inl one) = absurd (stopped_or (made.free role))
         where
-          stopped_or : HasStopped s.x.beat made.q made.kind s.before ⊎ ((alive made.q.process s.before ≡ Some made.q.incarnation) × (call_in made.q s.before ≡ None) × (3 ≤ s.x.step) × IsOpen made.kind) → ⊥
+          stopped_or : HasStopped s.x.beat q s.call.kind s.before ⊎ ((alive q.process s.before ≡ Some q.incarnation) × (call_in q s.before ≡ None) × (3 ≤ s.x.step) × IsOpen s.call.kind) → ⊥
           stopped_or (inr free) = omega (arith, free.2, one)
           stopped_or (inl stopped) =
-              let stop = entry s.x.beat 1 made.q Stops in
+              let stop = entry s.x.beat 1 q Stops in
               let there = in_tail stop (history doc (suc n)) (history doc (suc e)) (later_tail doc (suc n) (suc e) (omega (arith, within)))
               (in_tail stop (s.x ∷ s.before) (history doc (suc n)) position (inr (subst (In stop) (sym stopped.is) (inl refl)))) in
-              let before = steady.stops stop there refl (ap (λ b. has (when b made.q.incarnation)) (eq-eqb made.q.process q.process (ap (λ (p : Identity). p.process) mine))) in
+              let before = steady.stops stop there refl (ap (λ b. has (when b q.incarnation)) (eq-eqb q.process q.process refl)) in
               let below = tail_trans (with_events doc a) T s.before after (tail_trans T low s.before (inr (tail_all T)) s.since) in
               let since = (next_above (IsSince a) (with_events doc a) s.before (history doc (suc n)) s.x (since_events doc a n (omega (arith, from, last))) below position).0 in
               let late : a ≤ s.x.beat = ⊎_elim (λ lt. omega (arith, lt)) (λ here. omega (arith, here.0)) since in

@@ -9,7 +9,7 @@ use Rattle.kube_objects.specs.declared.script.Event.{Event}
 use Rattle.kube_objects.specs.Clocks.{local, store_wall, whole_second}
 use Rattle.kube_objects.specs.Document.{Doc, end_beat, is_controller, retry_period, renew_deadline}
 use Rattle.kube_objects.specs.Elector.{succeeds, lead_says, leads, deadline_says, deadline, is_before, in_term, acts}
-use Rattle.kube_objects.specs.Entry.{Entry, Identity, Call, Fact, First, Event as Happens, Starts, Stops, Sends, Answers, Delivers, Expires, Leads, Ends, Crashes, Stalls, Ticks, entry, script_entry, StepsDown, ReleaseBegins, ReleaseEnds, ReleaseStops}
+use Rattle.kube_objects.specs.Entry.{Entry, Identity, Call, Fact, First, Starts, Delivers, Expires, Leads, entry, script_entry, StepsDown, ReleaseBegins, ReleaseEnds, ReleaseStops}
 use Rattle.kube_objects.specs.Identities.{is_same, is_by, of_process}
 use Rattle.kube_objects.specs.Newest.{newest, when, join, has}
 use Rattle.kube_objects.specs.Pauses.{pause_of, is_paused, is_ahead, wait_of, last_wait, reading_of, can_at}
@@ -20,14 +20,13 @@ use Rattle.kube_objects.specs.Own.{ReleasesByStop}
 use Rattle.kube_objects.proofs.Clocks.{local_up}
 use Rattle.kube_objects.proofs.Own.{expire_as-own, acts-own, end_term-own}
 use Rattle.history.specs.History.{put_all, history, at_turn}
-use Rattle.history.specs.Steps.{if_up, restart_if, restart, expire, finish, turn, turns, controller_turn, kubelet_turn, unpaused_turn}
+use Rattle.history.specs.Steps.{if_up, restart_if, restart, expire, finish, turn, controller_turn, kubelet_turn, unpaused_turn}
 use Rattle.history_laws.specs.Tails.{IsTail}
 use Rattle.history_laws.proofs.Counting.{when_test, when_value}
 use Rattle.history_laws.proofs.Lives.{Counted, Over, counted_more, over_more}
 use Rattle.history_laws.proofs.Plainly.{upper, some_is, none_is, false_is, and_left, and_right, not_true, same_is, added_more, and_both}
 use Rattle.history_laws.proofs.Tailed.{tail_all, tail_trans}
-use Rattle.history_laws.proofs.Ticks.{walk_tick}
-use Rattle.history_laws.proofs.Walk.{Anyone, KeepsTurn, KeepsReleaseTurn, Keeps, KeepsRelease, LeadIsUp, StartIsNext, all_kinds, all_release, all_turns, all_release_turns, no_release_turn, walk_history, walk_at_turn, walk_any_turns, walk_any_after_end}
+use Rattle.history_laws.proofs.Walk.{Anyone, KeepsTurn, KeepsReleaseTurn, Keeps, KeepsRelease, LeadIsUp, StartIsNext, all_kinds, all_release, all_turns, all_release_turns, walk_history, walk_at_turn, walk_any_after_end}
 use Rattle.call_laws.proofs.Above.{Above}
 use Rattle.call_laws.proofs.Making.{MadeAs, are_made}
 
@@ -61,26 +60,7 @@ can_least doc p at = by_wait (last_wait doc p at doc.events) refl
 
 -- what an entry at beat k sets as a deadline is after the reading at k
 pub sets_later : (doc : Doc) (q : Identity) (k : ℕ) (who : Actor) (led : Bool) (d : Fact) (at : ℕ) → 1 ≤ renew_deadline doc q.process → deadline_says doc q k who led d ≡ Some at → local doc q.process k < at
-sets_later doc q k who led (Leads version) at lasts is = let e = when_value (is_by q who) (local doc q.process k + renew_deadline doc q.process) at is in omega (arith, e, lasts)
-sets_later doc q k who led (Delivers call reply counted) at lasts is =
-    let now = local doc q.process k + retry_period doc q.process in
-    let e = when_value ((counted && is_by q who) && (led && succeeds call.request reply)) (can_at doc q.process now + renew_deadline doc q.process) at is in
-    omega (arith, e, lasts, can_least doc q.process now)
-sets_later doc q k who led (First key object) at lasts is = absurd (none_is at is)
-sets_later doc q k who led (Happens w version) at lasts is = absurd (none_is at is)
-sets_later doc q k who led (Sends call arrives) at lasts is = absurd (none_is at is)
-sets_later doc q k who led (Answers call reply comes wrote) at lasts is = absurd (none_is at is)
-sets_later doc q k who led (Expires call) at lasts is = absurd (none_is at is)
-sets_later doc q k who led (Ticks t) at lasts is = absurd (none_is at is)
-sets_later doc q k who led Starts at lasts is = absurd (none_is at is)
-sets_later doc q k who led Crashes at lasts is = absurd (none_is at is)
-sets_later doc q k who led Stops at lasts is = absurd (none_is at is)
-sets_later doc q k who led (Stalls beats) at lasts is = absurd (none_is at is)
-sets_later doc q k who led StepsDown at lasts is = absurd (none_is at is)
-sets_later doc q k who led (ReleaseBegins at_deadline) at lasts is = absurd (none_is at is)
-sets_later doc q k who led ReleaseEnds at lasts is = absurd (none_is at is)
-sets_later doc q k who led ReleaseStops at lasts is = absurd (none_is at is)
-sets_later doc q k who led Ends at lasts is = absurd (none_is at is)
+sets_later doc q k who led d at lasts is = grind (arith, when_value, can_least)
 
 -- a deadline that is there and after a reading
 pub record IsAfter (now : ℕ) (o : Option ℕ) : Type 0 where
@@ -131,22 +111,7 @@ led_more doc x h next up s = record { counts = counted_more x h next s.counts; l
             let e : up.0 ≡ q = same_is up.0 q same in
             subst (λ p. p.incarnation ≤ starts p.process (x ∷ h)) e (omega (arith, s.counts up.0.process up.0.incarnation up.2, more up.0))
         by_test false other = older q (subst (λ b. has (upper (when b version) (newest (λ e T. lead_says q e.actor e.fact) h)) ≡ true) (ap (is_by q) up.1 ∙ other) is)
-    leads_counted q who (First key object) up is = older q is
-    leads_counted q who (Happens w version) up is = older q is
-    leads_counted q who (Sends call arrives) up is = older q is
-    leads_counted q who (Answers call reply comes wrote) up is = older q is
-    leads_counted q who (Delivers call reply counted) up is = older q is
-    leads_counted q who (Expires call) up is = older q is
-    leads_counted q who (Ticks t) up is = older q is
-    leads_counted q who Starts up is = older q is
-    leads_counted q who Crashes up is = older q is
-    leads_counted q who Stops up is = older q is
-    leads_counted q who (Stalls beats) up is = older q is
-    leads_counted q who StepsDown up is = older q is
-    leads_counted q who (ReleaseBegins at_deadline) up is = older q is
-    leads_counted q who ReleaseEnds up is = older q is
-    leads_counted q who ReleaseStops up is = older q is
-    leads_counted q who Ends up is = older q is
+    leads_counted q who d up is = older q is
 
     set_leads : (q : Identity) (who : Actor) (d : Fact) → has (upper (deadline_says doc q x.beat who (leads q h) d) (deadline doc q h)) ≡ true → has (upper (lead_says q who d) (newest (λ e T. lead_says q e.actor e.fact) h)) ≡ true
     set_leads q who (Leads version) is = by_test (is_by q who) is
@@ -161,21 +126,7 @@ led_more doc x h next up s = record { counts = counted_more x h next s.counts; l
             → has (upper (when b (can_at doc q.process (local doc q.process x.beat + retry_period doc q.process) + renew_deadline doc q.process)) (deadline doc q h)) ≡ true → leads q h ≡ true
         by_test true test is = and_left (leads q h) (succeeds call.request reply) (and_right (counted && is_by q who) (leads q h && succeeds call.request reply) test)
         by_test false test is = s.set q is
-    set_leads q who (First key object) is = s.set q is
-    set_leads q who (Happens w version) is = s.set q is
-    set_leads q who (Sends call arrives) is = s.set q is
-    set_leads q who (Answers call reply comes wrote) is = s.set q is
-    set_leads q who (Expires call) is = s.set q is
-    set_leads q who (Ticks t) is = s.set q is
-    set_leads q who Starts is = s.set q is
-    set_leads q who Crashes is = s.set q is
-    set_leads q who Stops is = s.set q is
-    set_leads q who (Stalls beats) is = s.set q is
-    set_leads q who StepsDown is = s.set q is
-    set_leads q who (ReleaseBegins at_deadline) is = s.set q is
-    set_leads q who ReleaseEnds is = s.set q is
-    set_leads q who ReleaseStops is = s.set q is
-    set_leads q who Ends is = s.set q is
+    set_leads q who d is = s.set q is
 
 led_keeps : (doc : Doc) → Keeps doc (λ k step h. LedRight doc h)
 led_keeps doc = all_kinds doc (λ k step h. LedRight doc h) (λ k step h s. s) (λ k h s. s) (λ x h next s. led_more doc x h next.0 next.2 s)
@@ -203,25 +154,7 @@ turn_counted doc q p k at is = let s = walk_at_turn doc (λ k step h. LedRight d
 pub turn_leads : (doc : Doc) (q : Identity) (p k : ℕ) → has (deadline doc q (at_turn doc p k)) ≡ true → leads q (at_turn doc p k) ≡ true
 turn_leads doc q p k = (walk_at_turn doc (λ k step h. LedRight doc h) (led_keeps doc) (led_release doc) (first_led doc) p k).set q
 
--- ---- turns set no deadline, and one past it ends the term
-
-deadline_same : (doc : Doc) (q : Identity) (o : Option ℕ) → KeepsTurn doc Anyone (λ k h. deadline doc q h ≡ o)
-deadline_same doc q o = record {
-  restarts = λ k p h s. s;
-  expires = λ k p i call h up waits late of s. s;
-  ends = λ k p i at h role up is before stop s. s;
-  polls = λ k p i h role up awake waits s. s;
-  attempts = λ k p i h role up awake waits s. s;
-  seeks = λ k p i call h role up awake expired late s. s;
-  posts = λ k p i h role up awake none s. s;
-  ticks = λ k p h acting s. walk_tick doc k p (λ g. deadline doc q g ≡ o) (λ t g made s. s) h s;
-}
-
-deadline_release : (doc : Doc) → ReleasesByStop doc → (q : Identity) (o : Option ℕ) → KeepsReleaseTurn doc (λ k h. deadline doc q h ≡ o)
-deadline_release doc rules q o = no_release_turn doc (λ k h. deadline doc q h ≡ o) rules.release
-
-pub deadline_turns : (doc : Doc) → ReleasesByStop doc → (q : Identity) (k n : ℕ) (h : List Entry) → deadline doc q (turns doc k n h) ≡ deadline doc q h
-deadline_turns doc rules q k n h = walk_any_turns doc (λ k g. deadline doc q g ≡ deadline doc q h) (deadline_same doc q (deadline doc q h)) (deadline_release doc rules q (deadline doc q h)) k n h refl
+-- ---- one past its deadline ends the term
 
 over_turns : (doc : Doc) (q : Identity) → KeepsTurn doc Anyone (λ k h. Over q h)
 over_turns doc q = all_turns doc Anyone (λ k h. Over q h) (λ k x h beat step next s. over_more q x h next.0 s)
@@ -260,22 +193,11 @@ past_ends doc rules m q h d role up set counted late awake =
 
 pub next_start : (doc : Doc) (k step : ℕ) (who : Actor) (d : Fact) (h : List Entry) → MadeAs doc k step who d h → StartIsNext who d h
 next_start doc k step who Starts h made = made
-next_start doc k step who (First key object) h made = tt
-next_start doc k step who (Happens w version) h made = tt
-next_start doc k step who (Sends call arrives) h made = tt
-next_start doc k step who (Answers call reply comes wrote) h made = tt
-next_start doc k step who (Delivers call reply counted) h made = tt
-next_start doc k step who (Expires call) h made = tt
-next_start doc k step who (Ticks t) h made = tt
-next_start doc k step who Crashes h made = tt
-next_start doc k step who Stops h made = tt
-next_start doc k step who (Stalls beats) h made = tt
 next_start doc k step who StepsDown h made = absurd made
 next_start doc k step who (ReleaseBegins at_deadline) h made = absurd made
 next_start doc k step who ReleaseEnds h made = absurd made
 next_start doc k step who ReleaseStops h made = absurd made
-next_start doc k step who Ends h made = tt
-next_start doc k step who (Leads version) h made = tt
+next_start doc k step who d h made = tt
 
 pub over_stays : (doc : Doc) → ReleasesByStop doc → (m : ℕ) (q : Identity) (g h : List Entry) → IsTail h (history doc m) → IsTail g h → Over q g → Over q h
 over_stays doc rules m q g [] within at over = subst (Over q) at over

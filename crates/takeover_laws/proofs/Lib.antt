@@ -3,6 +3,8 @@ pub mod Fresh
 pub mod Standing
 pub mod Rounds
 pub mod Deliveries
+pub mod Closing
+pub mod Counted
 pub mod Writers
 pub mod Records
 pub mod Acting

@@ -6,7 +6,7 @@ use Rattle.kube_objects.specs.declared.deed.Actor.{Actor}
 use Rattle.kube_objects.specs.declared.object.Object.{Object}
 use Rattle.kube_objects.specs.Clocks.{rate}
 use Rattle.kube_objects.specs.Document.{Doc, processes, end_beat, is_controller}
-use Rattle.kube_objects.specs.Entry.{Entry, Identity, Call, Fact, First as FirstPut, Event as Happens, Starts, Stops, Sends, Answers, Delivers, Expires, Leads, Ends, Crashes, Stalls, Ticks, actor_of, StepsDown, ReleaseBegins, ReleaseEnds, ReleaseStops}
+use Rattle.kube_objects.specs.Entry.{Entry, Identity, Call, Fact, First as FirstPut, Event as Happens, Answers, Ticks, actor_of, StepsDown, ReleaseBegins, ReleaseEnds, ReleaseStops}
 use Rattle.kube_objects.specs.Identities.{of_process}
 use Rattle.kube_objects.specs.Keys.{key_eq}
 use Rattle.kube_objects.specs.Newest.{when, join, has}
@@ -51,7 +51,7 @@ some_high doc =
 pub asks_elsewhere : (doc : Doc) → IsSound doc → ReleasesByStop doc → (k : ℕ) → k ≤ end_beat doc → (x : Entry) (b : Back) → In x (history doc (suc k)) → back_of x.actor x.fact ≡ Some b → is_controller doc b.who.process ≡ false → key_eq (key_of b.call.request) election ≡ false
 asks_elsewhere doc sound rules k end x b stands is role =
     let h = some_high doc in
-    let right = (turn_right doc h.0 h.1 (bears_own doc h.0 rules) sound (processes doc) k end).entries x stands in
+    let right = (turn_right doc h.0 h.1 (bears_own doc h.0 rules) sound (processes doc) k end).core.entries x stands in
     (subst (λ o. IfSome o (BackRight doc h.0 k (view (history doc (suc k))) x.beat)) is right.1).elsewhere role
 
 pub wrote_key : (r : Request) (w : Option Object) (o : Option Object) → at_key election (request_write r w) ≡ Some o → key_eq (key_of r) election ≡ true
@@ -135,19 +135,11 @@ module _ (doc : Doc) (near far a e n : ℕ) (sound : IsSound doc) (rules : Relea
       by_write : (o : Option (Option Object)) → at_key election (request_write call.request wrote) ≡ o → join (upper (holds T x.beat who (at_key election (request_write call.request wrote))) (last_write election T)) ≡ stored election T
       by_write None is = ap (λ o. join (upper (holds T x.beat who o) (last_write election T))) is
       by_write (Some o) is = absurd (written_by o is)
-  same_stored x T who (Sends call arrives) actor fact position from late made = refl
-  same_stored x T who (Delivers call reply counted) actor fact position from late made = refl
-  same_stored x T who (Expires call) actor fact position from late made = refl
-  same_stored x T who Starts actor fact position from late made = refl
-  same_stored x T who Crashes actor fact position from late made = refl
-  same_stored x T who Stops actor fact position from late made = refl
-  same_stored x T who (Stalls beats) actor fact position from late made = refl
   same_stored x T who StepsDown actor fact position from late made = absurd made
   same_stored x T who (ReleaseBegins at_deadline) actor fact position from late made = absurd made
   same_stored x T who ReleaseEnds actor fact position from late made = absurd made
   same_stored x T who ReleaseStops actor fact position from late made = absurd made
-  same_stored x T who Ends actor fact position from late made = refl
-  same_stored x T who (Leads version) actor fact position from late made = refl
+  same_stored x T who d actor fact position from late made = refl
 
   -- from a + far on, while a reply can still come in time
   pub record_stays : (m : ℕ) → a + far ≤ m → m + far ≤ n → (g : List Entry) → IsTail (history doc (a + far)) g → IsTail g (history doc (suc m)) → stored election g ≡ stored election (history doc (a + far))

@@ -4,7 +4,7 @@ use Rattle.std.proofs.lemmas.Bool.{ltb-true, ltb-false, eqb-true, cases_eq}
 use Rattle.kube_objects.specs.Clocks.{local}
 use Rattle.kube_objects.specs.Document.{Doc, processes, is_controller, renew_deadline}
 use Rattle.kube_objects.specs.Elector.{deadline}
-use Rattle.kube_objects.specs.Entry.{Entry, Identity, Fact, First, Event as Happens, Starts, Stops, Sends, Answers, Delivers, Expires, Leads, Ends, Crashes, Stalls, Ticks, StepsDown, ReleaseBegins, ReleaseEnds, ReleaseStops}
+use Rattle.kube_objects.specs.Entry.{Entry, Identity, Fact, Starts, Stops, Ends, Crashes, StepsDown, ReleaseBegins, ReleaseEnds, ReleaseStops}
 use Rattle.kube_objects.specs.Identities.{identity, of_process}
 use Rattle.kube_objects.specs.Newest.{when, join, has}
 use Rattle.kube_objects.specs.Pauses.{is_paused}
@@ -17,13 +17,14 @@ use Rattle.history_laws.proofs.Lives.{Over}
 use Rattle.history_laws.proofs.Order.{entries_are_earlier}
 use Rattle.history_laws.proofs.Plainly.{upper, some_is, none_is, identity_eq}
 use Rattle.history_laws.proofs.Tailed.{tail_all, tail_trans, in_tail, turn_tail, later_tail}
+use Rattle.lease_laws.proofs.Turns.{deadline_turns}
 use Rattle.call_laws.specs.Answering.{with_events}
 use Rattle.call_laws.proofs.Above.{Above, above_trans, above_more, next_above, in_head}
 use Rattle.call_laws.proofs.Making.{MadeAs, MadeEnd, are_made}
 use Rattle.call_laws.proofs.Placing.{IsLate, after_events, from_beat, not_before}
 use Rattle.call_laws.proofs.Starting.{starts_are_down}
 use Rattle.takeover_laws.specs.Calm.{IsSteady}
-use Rattle.takeover_laws.proofs.Fresh.{same_or_fresh, set_counted, turn_counted, deadline_turns, past_ends, over_stays, still_up, acts_before}
+use Rattle.takeover_laws.proofs.Fresh.{same_or_fresh, set_counted, turn_counted, past_ends, over_stays, still_up, acts_before}
 
 pub controllers_first : (doc : Doc) (p : ℕ) → is_controller doc p ≡ true → p < processes doc
 controllers_first doc p role = let e : processes doc ≡ length doc.controllers + length doc.kubelets = length-append doc.controllers doc.kubelets in omega (arith, ltb-true p (length doc.controllers) role, e)
@@ -70,19 +71,11 @@ lives_on doc rules m q x T stands no_crash no_stop no_end up = cases x.fact refl
             let p : made.q.process ≡ q.process = eqb-true made.q.process q.process is in
             absurd (no_end fact made (ap (λ who. has (of_process q.process who)) made.by ∙ ap (λ b. has (when b made.q.incarnation)) is)
             (identity_eq made.q q p (some_is made.q.incarnation q.incarnation (sym made.up ∙ ap (λ p. alive p T) p ∙ up))))
-    cases (First key object) fact made = up
-    cases (Happens w version) fact made = up
-    cases (Sends call arrives) fact made = up
-    cases (Answers call reply comes wrote) fact made = up
-    cases (Delivers call reply counted) fact made = up
-    cases (Expires call) fact made = up
-    cases (Ticks t) fact made = up
-    cases (Stalls beats) fact made = up
     cases StepsDown fact made = absurd made
     cases (ReleaseBegins at_deadline) fact made = absurd made
     cases ReleaseEnds fact made = absurd made
     cases ReleaseStops fact made = absurd made
-    cases (Leads version) fact made = up
+    cases d fact made = up
 
 module _ (doc : Doc) (rules : ReleasesByStop doc) (near far a e n : ℕ) (q : Identity) (role : is_controller doc q.process ≡ true) (lasts : 1 ≤ renew_deadline doc q.process)
     (steady : IsSteady doc near far a e q.process) (within : n ≤ e) (none : (k : ℕ) → a ≤ k → k ≤ n → Acts doc q k → ⊥) where
@@ -120,7 +113,7 @@ module _ (doc : Doc) (rules : ReleasesByStop doc) (near far a e n : ℕ) (q : Id
       by_deadline None is = is
       by_deadline (Some at) is =
           let three = three_steps doc k (history doc k) in
-          absurd (clash at (deadline_turns doc rules q k q.process three ∙ sym (deadline_turns doc rules q k (processes doc) three) ∙ is))
+          absurd (clash at (deadline_turns doc q k q.process three ∙ sym (deadline_turns doc q k (processes doc) three) ∙ is))
 
   placed : (x : Entry) (T : List Entry) → IsTail (x ∷ T) (history doc (suc n)) → In x (history doc (suc e))
   placed x T at = in_tail x (history doc (suc n)) (history doc (suc e)) (later_tail doc (suc n) (suc e) (omega (arith, within))) (in_head x T (history doc (suc n)) at)

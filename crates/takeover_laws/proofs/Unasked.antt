@@ -1,5 +1,5 @@
 -- A candidate whose attempt failed asks again as soon as its timer says so.
-use Rattle.std.proofs.Common.{◌≡◌, ◌⊎◌, ℕ, ◌+◌, ◌&&◌, not, nat_lt, Bool, true, false, cond, List, [], ◌∷◌, Option, Some, None, refl, sym, ap, ◌∙◌, subst, inl, inr, ⊎_elim}
+use Rattle.std.proofs.Common.{◌≡◌, ◌⊎◌, ℕ, ◌+◌, ◌&&◌, not, nat_lt, Bool, true, false, cond, List, [], ◌∷◌, Option, Some, None, refl, sym, ap, ◌∙◌, subst, inl, inr, ⊎_elim, arith}
 use Rattle.std.specs.Prelude.{if◌then◌else◌}
 use Rattle.kube_objects.specs.declared.call.Reply.{Reply}
 use Rattle.kube_objects.specs.declared.call.Request.{Request}
@@ -7,12 +7,12 @@ use Rattle.kube_objects.specs.declared.call.Request.TheVariants.{Get}
 use Rattle.kube_objects.specs.declared.deed.Actor.{Actor}
 use Rattle.kube_objects.specs.Clocks.{local}
 use Rattle.kube_objects.specs.Document.{Doc, is_controller}
-use Rattle.kube_objects.specs.Elector.{told, is_fast, lead_says, Shown, shown, shows, newly, observed, leads, follow_on, retry_at, timer_follow, timer_says, timer, deadline, attempt, attempt_from, moment, observed_at, acts}
-use Rattle.kube_objects.specs.Entry.{Entry, Identity, Call, CallKind, Plain, Fact, First as FirstPut, Event as Happens, Starts, Stops, Sends, Answers, Delivers, Expires, Leads, Ends, Crashes, Stalls, Ticks, actor_of, StepsDown, ReleaseBegins, ReleaseEnds, ReleaseStops}
+use Rattle.kube_objects.specs.Elector.{lead_says, Shown, shown, shows, newly, observed, leads, timer_says, timer, deadline, attempt, attempt_from, moment, observed_at, acts}
+use Rattle.kube_objects.specs.Entry.{Entry, Identity, Call, CallKind, Plain, Fact, First as FirstPut, Event as Happens, Starts, Stops, Sends, Answers, Delivers, Expires, Leads, Ends, Crashes, Stalls, Ticks, actor_of}
 use Rattle.kube_objects.specs.Identities.{is_by}
-use Rattle.kube_objects.specs.Newest.{newest, when, only_if, join, has, or_zero}
+use Rattle.kube_objects.specs.Newest.{newest, when, join, has, or_zero}
 use Rattle.kube_objects.specs.Pauses.{is_paused}
-use Rattle.kube_objects.specs.Process.{alive, starts, open_as, call_says, last_call, call_in}
+use Rattle.kube_objects.specs.Process.{alive, starts, call_says, last_call, call_in}
 use Rattle.kube_objects.specs.Stored.{election}
 use Rattle.kube_objects.specs.Tick.{tick}
 use Rattle.kube_objects.specs.Turns.{expire_call, expired, end_term, expired_in, just_expired, is_fast_call, attempt_if, try}
@@ -23,6 +23,7 @@ use Rattle.history.specs.History.{history}
 use Rattle.history.specs.Steps.{if_up, restart_if, restart, expire, finish, attempts, ticks_while, ticks, controller_turn, kubelet_turn, unpaused_turn, turn}
 use Rattle.history_laws.specs.Tails.{IsTail}
 use Rattle.history_laws.proofs.Counting.{counted_is}
+use Rattle.history_laws.proofs.Expired.{silent}
 use Rattle.history_laws.proofs.Plainly.{upper, none_is, true_is, same_is, same_self}
 use Rattle.history_laws.proofs.Tailed.{tail_all, tail_trans, same_head}
 use Rattle.history_laws.proofs.Ticks.{walk_tick}
@@ -92,69 +93,13 @@ attempt_gets doc q k h unled = ap (λ b. (cond {A = CallKind × Request} (doc.se
 
 -- ---- entries of others
 
--- they say nothing of its call
-pub others_call : (q : Identity) (who : Actor) (d : Fact) → is_by q who ≡ false → call_says q who d ≡ None
-others_call q who (Sends c arrives) other = ap (λ b. when b (open_as c.kind c)) other
-others_call q who (Delivers c reply false) other = refl
-others_call q who (Delivers c reply true) other = ap (λ b. when b None) other
-others_call q who (Expires c) other = ap (λ b. when b None) other
-others_call q who (FirstPut key object) other = refl
-others_call q who (Happens w version) other = refl
-others_call q who Starts other = refl
-others_call q who Crashes other = refl
-others_call q who Stops other = refl
-others_call q who (Stalls beats) other = refl
-others_call q who StepsDown other = refl
-others_call q who (ReleaseBegins at_deadline) other = ap (λ b. when b None) other
-others_call q who ReleaseEnds other = refl
-others_call q who ReleaseStops other = refl
-others_call q who Ends other = refl
-others_call q who (Answers c reply comes wrote) other = refl
-others_call q who (Leads version) other = refl
-others_call q who (Ticks t) other = refl
-
--- nor of its timer
+-- they say nothing of its timer
 pub others_time : (doc : Doc) (q : Identity) (x : Entry) (h : List Entry) (d : Fact) → is_by q x.actor ≡ false → timer_says doc q x h d ≡ None
-others_time doc q x h Starts other = ap (λ b. when b (local doc q.process x.beat)) other
-others_time doc q x h (Leads version) other = ap (λ b. when b (local doc q.process x.beat)) other
-others_time doc q x h (Expires c) other = ap (λ b. when (b && not (is_fast c.kind)) (retry_at (leads q h) doc q x h)) other
-others_time doc q x h (Delivers c reply false) other = refl
-others_time doc q x h (Delivers c reply true) other =
-    ap (λ b. only_if b (timer_follow doc q x h (leads q h) (follow_on doc q x.beat c.kind c.request reply (x ∷ h)))) other
-others_time doc q x h (Sends c arrives) other = refl
-others_time doc q x h (FirstPut key object) other = refl
-others_time doc q x h (Happens w version) other = refl
-others_time doc q x h Crashes other = refl
-others_time doc q x h Stops other = refl
-others_time doc q x h (Stalls beats) other = refl
-others_time doc q x h StepsDown other = refl
-others_time doc q x h (ReleaseBegins at_deadline) other = refl
-others_time doc q x h ReleaseEnds other = refl
-others_time doc q x h ReleaseStops other = refl
-others_time doc q x h Ends other = refl
-others_time doc q x h (Answers c reply comes wrote) other = refl
-others_time doc q x h (Ticks t) other = refl
+others_time doc q x h d other = grind arith
 
 -- nor of what it was shown
 pub others_show : (q : Identity) (who : Actor) (d : Fact) → is_by q who ≡ false → shows q who d ≡ None
-others_show q who (Delivers c reply false) other = refl
-others_show q who (Delivers c reply true) other = ap (λ b. only_if b (told c.request reply)) other
-others_show q who (Sends c arrives) other = refl
-others_show q who (Expires c) other = refl
-others_show q who (FirstPut key object) other = refl
-others_show q who (Happens w version) other = refl
-others_show q who Starts other = refl
-others_show q who Crashes other = refl
-others_show q who Stops other = refl
-others_show q who (Stalls beats) other = refl
-others_show q who StepsDown other = refl
-others_show q who (ReleaseBegins at_deadline) other = refl
-others_show q who ReleaseEnds other = refl
-others_show q who ReleaseStops other = refl
-others_show q who Ends other = refl
-others_show q who (Answers c reply comes wrote) other = refl
-others_show q who (Leads version) other = refl
-others_show q who (Ticks t) other = refl
+others_show q who d other = grind arith
 
 -- ---- after a failure
 
@@ -218,7 +163,7 @@ module _ (doc : Doc) (q : Identity) (low : List Entry) (at : ℕ) (view : Option
 
         foreign : is_by q x.actor ≡ false → Quiet (x ∷ h)
         foreign other =
-            quiet_more x h below (others_call q x.actor x.fact other) (others_time doc q x h x.fact other) (others_show q x.actor x.fact other) (inr other)
+            quiet_more x h below (silent q x.actor x.fact other) (others_time doc q x h x.fact other) (others_show q x.actor x.fact other) (inr other)
             (λ w reply is mine. true_is (sym (ap (is_by q) mine ∙ same_self q) ∙ other)) s
 
         -- an entry that changes no reading of an elector, whoever its actor is
@@ -256,13 +201,10 @@ module _ (doc : Doc) (q : Identity) (low : List Entry) (at : ℕ) (view : Option
         own who Crashes actor fact mine made = inl (plain Crashes fact refl refl refl (λ k. refl) (λ w r. is_other Crashes w r counts refl refl))
         own who Stops actor fact mine made = inl (plain Stops fact refl refl refl (λ k. refl) (λ w r. is_other Stops w r counts refl refl))
         own who (Stalls beats) actor fact mine made = inl (plain (Stalls beats) fact refl refl refl (λ k. refl) (λ w r. is_other (Stalls beats) w r counts refl refl))
-        own who StepsDown actor fact mine made = absurd made
-        own who (ReleaseBegins at_deadline) actor fact mine made = absurd made
-        own who ReleaseEnds actor fact mine made = absurd made
-        own who ReleaseStops actor fact mine made = absurd made
         own who Ends actor fact mine made = inl (plain Ends fact refl refl refl (λ k. refl) (λ w r. is_other Ends w r counts refl refl))
         own who (Answers c reply comes wrote) actor fact mine made = inl (plain (Answers c reply comes wrote) fact refl refl refl (λ k. refl) (λ w r. is_other (Answers c reply comes wrote) w r counts refl refl))
         own who (Ticks t) actor fact mine made = inl (plain (Ticks t) fact refl refl refl (λ k. refl) (λ w r. is_other (Ticks t) w r counts refl refl))
+        own who d actor fact mine made = absurd made
 
         by_own : (b : Bool) → is_by q x.actor ≡ b → Quiet (x ∷ h) ⊎ Asked (x ∷ h)
         by_own true mine = own x.actor x.fact refl refl mine (are_made doc rules m x h position)

@@ -1,9 +1,8 @@
 -- Who writes the election Lease by a call that was sent in a calm acts soon.
 use Rattle.kube_objects.specs.declared.key.Key.{Key}
-use Rattle.std.proofs.Common.{◌≡◌, ◌⊎◌, ◌<◌, ◌≤◌, ℕ, suc, ◌+◌, ◌*◌, ◌-◌, ◌==◌, ◌&&◌, not, nat_lt, Bool, true, false, List, ◌∷◌, Option, Some, None, IfSome, refl, sym, ap, ◌∙◌, subst, inl, inr, ⊎_elim, arith}
+use Rattle.std.proofs.Common.{◌≡◌, ◌⊎◌, ◌<◌, ◌≤◌, ℕ, suc, ◌+◌, ◌*◌, ◌==◌, ◌&&◌, not, nat_lt, Bool, true, false, List, ◌∷◌, Option, Some, None, IfSome, refl, sym, ap, ◌∙◌, subst, inl, inr, ⊎_elim, arith}
 use Rattle.std.specs.Prelude.{if◌then◌else◌}
-use Rattle.std.proofs.Math.Nat.{mul-le-mul_right}
-use Rattle.std.proofs.lemmas.Bool.{ltb-true, ltb-false, eq-eqb, eqb-true, cases_lt}
+use Rattle.std.proofs.lemmas.Bool.{ltb-false, eq-eqb, cases_lt}
 use Rattle.kube_base.specs.declared.numbers.Version.{Version}
 use Rattle.kube_objects.specs.declared.call.Reply.{Reply}
 use Rattle.kube_objects.specs.declared.call.Reply.TheVariants.{Found, Done, Absent, Exists, Conflict, Unchanged}
@@ -16,11 +15,10 @@ use Rattle.kube_objects.specs.declared.object.Object.{Object}
 use Rattle.kube_objects.specs.declared.object.Object.TheVariants as object
 use Rattle.kube_objects.specs.Answers.{answer, written, if_done}
 use Rattle.kube_objects.specs.Clocks.{local}
-use Rattle.kube_objects.specs.Document.{Doc, is_controller, call_timeout, retry_period, renew_deadline}
+use Rattle.kube_objects.specs.Document.{Doc, is_controller, retry_period, renew_deadline}
 use Rattle.kube_objects.specs.Elector.{Follow, Succeeds, follow_on, leads, succeeds, deadline, acts}
 use Rattle.kube_objects.specs.Entry.{Entry, Identity, Call, CallKind, Fact, First as FirstPut, Event as Happens, Starts, Stops, Sends, Answers, Delivers, Expires, Leads, Ends, Crashes, Stalls, Ticks, actor_of, entry, StepsDown, ReleaseBegins, ReleaseEnds, ReleaseStops}
-use Rattle.kube_objects.specs.Identities.{is_same, is_by, of_process}
-use Rattle.kube_objects.specs.InFlight.{is_due, replies_due}
+use Rattle.kube_objects.specs.Identities.{is_same, of_process}
 use Rattle.kube_objects.specs.Newest.{when, only_if, has}
 use Rattle.kube_objects.specs.Pauses.{can_at}
 use Rattle.kube_objects.specs.Process.{open_as, alive, call_in, is_present, is_late, answered_call, counted}
@@ -31,32 +29,29 @@ use Rattle.kube_objects.specs.Own.{ReleasesByStop}
 use Rattle.history.proofs.Own.{react-own}
 use Rattle.history.specs.History.{three_steps, history, at_turn}
 use Rattle.history.specs.Safe.{Acts}
-use Rattle.history.specs.Steps.{delivered, deliver_all, deliver_as, react_as, step_three}
-use Rattle.history_laws.specs.Order.{IsWithin}
+use Rattle.history.specs.Steps.{delivered, deliver_as, react_as}
 use Rattle.history_laws.specs.Tails.{In, IsTail}
-use Rattle.history_laws.proofs.Counting.{counted_is}
-use Rattle.history_laws.proofs.Plainly.{upper, some_is, none_is, false_is, true_is, and_left, and_right, and_both, same_is, same_self, identity_eq}
-use Rattle.history_laws.proofs.Tailed.{tail_all, tail_trans, in_tail, later_tail, turn_tail, turns_add, two_adds, same_head, same_rest, react_adds}
+use Rattle.history_laws.proofs.Plainly.{upper, some_is, none_is, false_is, true_is, and_both, same_self}
+use Rattle.history_laws.proofs.Tailed.{tail_all, tail_trans, in_tail, later_tail, turn_tail, turns_add, two_adds, same_rest, react_adds}
 use Rattle.history_laws.proofs.Order.{entries_are_earlier}
-use Rattle.kube_objects.proofs.Clocks.{local_up}
-use Rattle.kube_objects.proofs.Own.{is_late-own}
-use Rattle.history_laws.proofs.Walk.{Coming}
-use Rattle.span_laws.proofs.Spans.{goes_most}
 use Rattle.call_laws.specs.Answering.{with_events, with_answers}
-use Rattle.call_laws.specs.Waiting.{Closes, IsClosed}
+use Rattle.call_laws.specs.Waiting.{IsClosed}
 use Rattle.call_laws.proofs.Above.{above_cut, next_above, in_head, place_of}
-use Rattle.call_laws.proofs.Answering.{before_events, events_position, answers_position, deliveries_position}
-use Rattle.call_laws.proofs.Making.{MadeDelivery, MadeExpiry, MadeAs, MadeSend, HasStopped, IsOpen, are_made}
+use Rattle.call_laws.proofs.Answering.{before_events, events_position}
+use Rattle.call_laws.proofs.Making.{MadeAs, HasStopped, IsOpen, are_made}
+use Rattle.call_laws.proofs.Sending.{MadeFor, made_for}
+use Rattle.call_laws.proofs.Starting.{actor_is}
 use Rattle.call_laws.proofs.Once.{answers_differ, due_at}
-use Rattle.call_laws.proofs.Placing.{from_beat, in_own_beat, not_before, within_answers, above_events, messages_travel}
+use Rattle.call_laws.proofs.Placing.{from_beat, in_own_beat, not_before, above_events, messages_travel}
 use Rattle.call_laws.proofs.Above.{low_of}
 use Rattle.call_laws.proofs.Placing.{IsLate}
 use Rattle.call_laws.proofs.Waiting.{calls_wait}
 use Rattle.takeover_laws.specs.Calm.{IsSteady, WritesElection, IsInTime}
 use Rattle.takeover_laws.specs.Rounds.{IsRound, RepliesCount}
-use Rattle.takeover_laws.proofs.Deliveries.{Waits, First, first_for, delivered_adds, deliveries_add, all_coming, any_coming}
+use Rattle.takeover_laws.proofs.Counted.{Counts, counts, reply_in_time, sent_low}
+use Rattle.takeover_laws.proofs.Deliveries.{Waits, delivered_adds}
 use Rattle.takeover_laws.proofs.Fresh.{IsFresh, fresh_stays, can_least, acts_before}
-use Rattle.takeover_laws.proofs.Rounds.{sent_is, rounds_in, in_answers}
+use Rattle.takeover_laws.proofs.Rounds.{sent_is, rounds_in}
 use Rattle.takeover_laws.proofs.Standing.{controllers_first, IsSince, since_events, persists}
 
 -- ---- what a write's reply is followed by
@@ -118,44 +113,6 @@ won_fresh doc q k call reply version h lasts so = by_led (leads q h) refl
       later = omega (arith, lasts);
     }
 
--- an entry of an identity is one of its process
-pub by_process : (q : Identity) (who : Actor) → is_by q who ≡ true → has (of_process q.process who) ≡ true
-by_process q actors.Script is = absurd (false_is is)
-by_process q (actors.Proc id i) is = ap (λ b. has (when b i)) (and_left (id.0 == q.process) (i == q.incarnation) is)
-
--- what closes a call: a reply that counts for it, its expiry, or a stop
-pub closed_by : (q : Identity) (call : Call) (x : Entry) (T : List Entry) (doc : Doc) (C : Type 0) → MadeAs doc x.beat x.step x.actor x.fact T → Closes q call x.actor x.fact
-    → ((w : Call) (reply : Reply) → x.fact ≡ Delivers w reply true → MadeDelivery doc x.beat x.step x.actor w reply T → is_by q x.actor ≡ true → w ≡ call → C)
-    → ((made : MadeExpiry doc x.beat x.actor call T) → made.q ≡ q → is_late doc q x.beat call ≡ true → C)
-    → (x.fact ≡ Stops → has (of_process q.process x.actor) ≡ true → C) → C
-closed_by q call x T doc C made closes reply_counts expires stops = cases x.fact refl made closes
-  where
-    cases : (d : Fact) → x.fact ≡ d → MadeAs doc x.beat x.step x.actor d T → Closes q call x.actor d → C
-    cases (Delivers w reply true) fact made closes = reply_counts w reply fact made closes.0 closes.1
-    cases (Expires w) fact made closes = expires own mine (subst (λ p. is_late doc p x.beat call ≡ true) mine own.late)
-      where
-        own : MadeExpiry doc x.beat x.actor call T
-        own = subst (λ w. MadeExpiry doc x.beat x.actor w T) closes.1 made
-
-        mine : own.q ≡ q
-        mine = same_is own.q q (sym (ap (is_by q) own.by) ∙ closes.0)
-    cases Stops fact made closes = stops fact (by_process q x.actor closes)
-    cases (FirstPut key object) fact made closes = elim closes [ ]
-    cases (Happens w version) fact made closes = elim closes [ ]
-    cases Starts fact made closes = elim closes [ ]
-    cases Crashes fact made closes = elim closes [ ]
-    cases Ends fact made closes = elim closes [ ]
-    cases (Stalls beats) fact made closes = elim closes [ ]
-    cases StepsDown fact made closes = absurd made
-    cases (ReleaseBegins at_deadline) fact made closes = absurd made
-    cases ReleaseEnds fact made closes = absurd made
-    cases ReleaseStops fact made closes = absurd made
-    cases (Sends w arrives) fact made closes = elim closes [ ]
-    cases (Answers w reply comes wrote) fact made closes = elim closes [ ]
-    cases (Delivers w reply false) fact made closes = elim closes [ ]
-    cases (Leads version) fact made closes = elim closes [ ]
-    cases (Ticks tick) fact made closes = elim closes [ ]
-
 -- a reply to the call for which an identity waits counts for that call
 pub waits_count : (doc : Doc) (q : Identity) (k : ℕ) (call : Call) (given : ℕ) (h : List Entry) → (call.number == given) ≡ true → is_late doc q k call ≡ false → Waits doc k q call h → counted doc q k given h ≡ Some call
 waits_count doc q k call given h number timely w =
@@ -178,17 +135,6 @@ pub follow_adds : (doc : Doc) (k : ℕ) (q : Identity) (led : Bool) (f : Follow)
 follow_adds doc k q led f h = react_adds doc k q led f h h (tail_all h)
 
 -- ---- the sending that an answer answers
-
-actor_is : (p q : Identity) → actor_of p ≡ actor_of q → p ≡ q
-actor_is p q is = identity_eq p q (ap process_of is) (ap incarnation_of is)
-  where
-    process_of : Actor → ℕ
-    process_of actors.Script = 0
-    process_of (actors.Proc id i) = id.0
-
-    incarnation_of : Actor → ℕ
-    incarnation_of actors.Script = 0
-    incarnation_of (actors.Proc id i) = i
 
 pub sends_of : (who : Actor) (d : Fact) (s : Sent) → sent_of who d ≡ Some s → (who ≡ actor_of s.who) × (d ≡ Sends s.call s.arrives)
 sends_of actors.Script (Sends call arrives) s is = absurd (none_is s is)
@@ -254,24 +200,7 @@ module _ (doc : Doc) (rules : ReleasesByStop doc) (near far a e n : ℕ) (q : Id
   -- ---- no call is late before its reply can come
 
   pub timely : (call : Call) (j y : ℕ) → call.sent ≡ j → a ≤ j → j ≤ y → y ≤ j + 2 * far → y ≤ e → is_late doc q y call ≡ false
-  timely call j y sent from le most to = by_test (is_late doc q y call) refl
-    where
-      least : local doc q.process y ≤ local doc q.process call.sent + call_timeout doc q.process
-      least =
-          omega (
-            arith,
-            ap (local doc q.process) sent,
-            goes_most doc q.process a e time.fast time.runs j y from le to,
-            mul-le-mul_right time.fast the_beats,
-            time.timeout,
-          )
-        where
-          the_beats : y - j ≤ 2 * far
-          the_beats = omega (arith, most)
-
-      by_test : (b : Bool) → is_late doc q y call ≡ b → is_late doc q y call ≡ false
-      by_test false is = is
-      by_test true is = absurd (omega (arith, ltb-true (local doc q.process call.sent + call_timeout doc q.process) (local doc q.process y) (sym (is_late-own doc rules q y call) ∙ is), least))
+  timely = reply_in_time doc rules far a e q time.fast time.runs time.timeout
 
   -- ---- a call that is answered with a write, and whose reply comes in time, ends in acting
 
@@ -280,147 +209,70 @@ module _ (doc : Doc) (rules : ReleasesByStop doc) (near far a e n : ℕ) (q : Id
     abbrev y : ℕ
     y = r.comes
 
-    abbrev two : List Entry
-    two = with_answers doc y
-
-    abbrev answer_entry : Entry
-    answer_entry = entry r.at 2 q (Answers call (answer call.request r.before) (reply_arrival doc q.process r.at r.before) (written call.request r.before))
-
-    abbrev back : Back
-    back = record { who = q; call = call; reply = answer call.request r.before; comes = reply_arrival doc q.process r.at r.before }
-
-    at_two : IsTail two (history doc (suc n))
-    at_two = tail_trans two (history doc (suc y)) (history doc (suc n)) (answers_position doc y) (later_tail doc (suc y) (suc n) (omega (arith, comes)))
-
-    answer_at : IsTail (answer_entry ∷ r.before) (history doc (suc n))
-    answer_at = tail_trans (answer_entry ∷ r.before) (history doc (suc r.at)) (history doc (suc n)) r.position (later_tail doc (suc r.at) (suc n) (omega (arith, comes, r.comes_least)))
-
-    sent_early : IsTail (s.f ∷ s.before) (with_events doc y)
-    sent_early =
-        tail_trans (s.f ∷ s.before) (history doc y) (with_events doc y)
-        (tail_trans (s.f ∷ s.before) (history doc (suc s.f.beat)) (history doc y) (in_own_beat doc (suc n) s.f s.before s.position) (later_tail doc (suc s.f.beat) y (omega (arith, one, r.least, r.comes_least))))
-        (before_events doc y)
-
-    sent_low : IsTail (s.f ∷ s.before) two
-    sent_low = tail_trans (s.f ∷ s.before) (with_events doc y) two sent_early (two_adds doc y (with_events doc y) (with_events doc y) (tail_all (with_events doc y)))
+    from_a : a ≤ n
+    from_a = omega (arith, s.from, r.least, r.comes_least, comes)
 
     low : IsTail (with_events doc a) s.before
     low = since_low doc a n s.f s.before s.position s.from s.step
 
-    from_a : a ≤ n
-    from_a = omega (arith, s.from, r.least, r.comes_least, comes)
+    on_time : is_late doc q y call ≡ false
+    on_time = timely call s.f.beat y s.sent s.from (omega (arith, r.least, r.comes_least)) (omega (arith, r.most, r.comes_most)) (omega (arith, comes, within))
 
-    -- a reply to the call is that one
-    same_back : (g : List Entry) (x : Entry) (b : Back) → IsTail g (history doc (suc n)) → In x g → back_of x.actor x.fact ≡ Some b → b.who ≡ q → b.call.number ≡ call.number → b ≡ back
-    same_back g x b within_n stands is who number =
-        let p = place_of x g stands in
-        let same = answers_differ doc rules (suc n) x answer_entry p.before r.before b back (tail_trans (x ∷ p.before) g (history doc (suc n)) p.position within_n) answer_at is refl who number in
-        some_is b back (sym is ∙ ap (λ (x : Entry). back_of x.actor x.fact) (same_head x answer_entry p.before r.before same))
+    waits_on : (h : List Entry) → IsTail h (history doc (suc n)) → IsTail (s.f ∷ s.before) h → (call_in q h ≡ Some call) ⊎ IsClosed q call (s.f ∷ s.before) h
+    waits_on h high sent = calls_wait doc rules (suc n) h high q call arrives s.f s.before role sent s.actor s.fact s.opens
 
-    -- it still waits as the replies of the beat come
-    unclosed : IsClosed q call (s.f ∷ s.before) two → ⊥
-    unclosed c =
-        closed_by q call c.e c.before doc ⊥ (are_made doc rules (suc n) c.e c.before position) c.closes delivers_it expires_it
-        (λ fact own. omega (arith, since, steady.stops c.e (in_tail c.e (history doc (suc n)) (history doc (suc e)) (later_tail doc (suc n) (suc e) (omega (arith, within))) (in_head c.e c.before (history doc (suc n)) position)) fact own))
+    unstopped : (z : Entry) (h : List Entry) → IsTail (z ∷ h) (history doc (suc n)) → IsTail (s.f ∷ s.before) h → z.fact ≡ Stops → has (of_process q.process z.actor) ≡ true → ⊥
+    unstopped z h position sent fact own = omega (arith, since, steady.stops z (in_tail z (history doc (suc n)) (history doc (suc e)) (later_tail doc (suc n) (suc e) (omega (arith, within))) (in_head z h (history doc (suc n)) position)) fact own)
       where
-        position : IsTail (c.e ∷ c.before) (history doc (suc n))
-        position = tail_trans (c.e ∷ c.before) two (history doc (suc n)) c.position at_two
-
-        below : IsTail c.before (history doc (suc n))
-        below = tail_trans c.before (c.e ∷ c.before) (history doc (suc n)) (inr (tail_all c.before)) position
-
-        early : IsWithin y 2 c.e
-        early = within_answers doc y c.e (in_head c.e c.before two c.position)
-
-        upto : c.e.beat ≤ y
-        upto = ⊎_elim (λ lt. omega (arith, lt)) (λ here. omega (arith, here.0)) early
-
-        since : a ≤ c.e.beat
+        since : a ≤ z.beat
         since =
             ⊎_elim (λ lt. omega (arith, lt)) (λ here. omega (arith, here.0))
-            (next_above (IsSince a) (with_events doc a) c.before (history doc (suc n)) c.e (since_events doc a n from_a)
-            (tail_trans (with_events doc a) s.before c.before low (tail_trans s.before (s.f ∷ s.before) c.before (inr (tail_all s.before)) c.since)) position).0
+            (next_above (IsSince a) (with_events doc a) h (history doc (suc n)) z (since_events doc a n from_a)
+            (tail_trans (with_events doc a) s.before h low (tail_trans s.before (s.f ∷ s.before) h (inr (tail_all s.before)) sent)) position).0
 
-        delivers_it : (w : Call) (reply : Reply) → c.e.fact ≡ Delivers w reply true → MadeDelivery doc c.e.beat c.e.step c.e.actor w reply c.before → is_by q c.e.actor ≡ true → w ≡ call → ⊥
-        delivers_it w reply fact made own same =
-            let counts = counted_is doc made.b.who c.e.beat made.b.call.number c.before w made.counted_is in
-            let mine : made.b.who ≡ q = same_is made.b.who q (sym (ap (is_by q) made.by) ∙ own) in
-            let b = same_back c.before made.coming.e made.b below made.coming.stands made.coming.is mine (sym counts.number ∙ ap (λ (c : Call). c.number) same) in
-            let beat : c.e.beat ≡ y = some_is c.e.beat y (sym (due_at c.e.beat made.b.comes made.coming.now) ∙ ap (λ (b : Back). b.comes) b ∙ r.comes_is) in
-            ⊎_elim (λ lt. omega (arith, lt, beat)) (λ here. omega (arith, here.1, made.step_is)) early
+    c : Counts doc rules near far n one q s.f s.before call arrives s.position r comes on_time up_at waits_on unstopped
+    c = counts doc rules near far n one q s.f s.before call arrives s.position r comes on_time up_at waits_on unstopped
 
-        expires_it : (made : MadeExpiry doc c.e.beat c.e.actor call c.before) → made.q ≡ q → is_late doc q c.e.beat call ≡ true → ⊥
-        expires_it made mine late =
-            let on_time = timely call s.f.beat y s.sent s.from (omega (arith, r.least, r.comes_least)) (omega (arith, r.most, r.comes_most)) (omega (arith, comes, within)) in
-            omega (
-              arith,
-              ltb-true (local doc q.process call.sent + call_timeout doc q.process) (local doc q.process c.e.beat) (sym (is_late-own doc rules q c.e.beat call) ∙ late),
-              ltb-false (local doc q.process call.sent + call_timeout doc q.process) (local doc q.process y) (sym (is_late-own doc rules q y call) ∙ on_time),
-              local_up doc q.process c.e.beat y upto,
-            )
+    abbrev reply : Reply
+    reply = answer call.request r.before
 
-    waiting : Waits doc y q call two
-    waiting = record {
-      up = up_at two (tail_trans s.before (s.f ∷ s.before) two (inr (tail_all s.before)) sent_low) at_two;
-      call_is = ⊎_elim (λ waits. waits) (λ closed. absurd (unclosed closed)) (calls_wait doc rules (suc n) two at_two q call arrives s.f s.before role sent_low s.actor s.fact s.opens);
-    }
+    abbrev back : Back
+    back = record { who = q; call = call; reply = reply; comes = reply_arrival doc q.process r.at r.before }
 
-    first : First doc y q call (Coming y two) two (deliver_all doc y (replies_due y two) two)
-    first =
-        first_for doc rules y q call (delivered_adds doc y) (deliveries_add doc y) (Coming y two) (replies_due y two) two waiting (all_coming doc y q call two two (λ e at. at))
-        (any_coming doc y q call two two answer_entry back (in_answers doc r.at y answer_entry r.before (omega (arith, one, r.comes_least)) r.position) refl
-        (subst (λ o. is_due y o ≡ true) (sym r.comes_is) (eq-eqb y y refl)) (and_both (is_same q q) (call.number == call.number) (same_self q) (eq-eqb call.number call.number refl)))
+    abbrev done : List Entry
+    done = delivered doc y back c.before
 
-    mine : first.b.who ≡ q
-    mine = same_is first.b.who q (and_left (is_same first.b.who q) (call.number == first.b.call.number) first.mine)
+    abbrev replied : List Entry
+    replied = with_reply y q call reply c.before
 
-    number : (call.number == first.b.call.number) ≡ true
-    number = and_right (is_same first.b.who q) (call.number == first.b.call.number) first.mine
-
-    that : first.b ≡ back
-    that = same_back two first.right.e first.b at_two first.right.stands first.right.is mine (sym (eqb-true call.number first.b.call.number number))
-
-    abbrev follow_of : Back → List Entry
-    follow_of b =
-        react doc y q (leads q (with_reply y q call b.reply first.before)) (follow_on doc q y call.kind call.request b.reply (with_reply y q call b.reply first.before)) (with_reply y q call b.reply first.before)
-
-    follows_at : IsTail (follow_of first.b) (history doc (suc y))
-    follows_at =
-        tail_trans (follow_of first.b) (delivered doc y first.b first.before) (history doc (suc y))
-        (subst (IsTail (follow_of first.b))
-        (sym (delivers doc rules q y call first.b first.before role mine number (timely call s.f.beat y s.sent s.from (omega (arith, r.least, r.comes_least)) (omega (arith, r.most, r.comes_most)) (omega (arith, comes, within))) first.waits))
-        (tail_all (follow_of first.b)))
-        (tail_trans (delivered doc y first.b first.before) (step_three doc y two) (history doc (suc y)) first.position (deliveries_position doc y))
+    follows : done ≡ react doc y q (leads q replied) (follow_on doc q y call.kind call.request reply replied) replied
+    follows = delivers doc rules q y call back c.before role refl c.number on_time c.waits
 
     pub reacted : IsReacted doc near far q call arrives s.f.beat
-    reacted = record { round = r; before = first.before; low = first.low; position = subst (λ (b : Back). IsTail (follow_of b) (history doc (suc y))) that follows_at }
+    reacted = record { round = r; before = c.before; low = c.low; position = subst (λ g. IsTail g (history doc (suc y))) follows c.position }
 
     module _ (won : IsWon call.request (answer call.request r.before)) where
-      reply_won : IsWon call.request first.b.reply
-      reply_won = subst (λ (b : Back). IsWon call.request b.reply) (sym that) won
+      success : Wins doc q y call.kind call.request reply replied
+      success = wins doc q y call.kind call.request reply replied won
 
-      success : Wins doc q y call.kind call.request first.b.reply (with_reply y q call first.b.reply first.before)
-      success = wins doc q y call.kind call.request first.b.reply (with_reply y q call first.b.reply first.before) reply_won
-
-      abbrev done : List Entry
-      done = delivered doc y first.b first.before
-
-      done_is : done ≡ react doc y q (leads q (with_reply y q call first.b.reply first.before)) (Succeeds success.version) (with_reply y q call first.b.reply first.before)
-      done_is =
-          delivers doc rules q y call first.b first.before role mine number
-          (timely call s.f.beat y s.sent s.from (omega (arith, r.least, r.comes_least)) (omega (arith, r.most, r.comes_most)) (omega (arith, comes, within))) first.waits
-          ∙ ap (λ f. react doc y q (leads q (with_reply y q call first.b.reply first.before)) f (with_reply y q call first.b.reply first.before)) success.follows
+      done_is : done ≡ react doc y q (leads q replied) (Succeeds success.version) replied
+      done_is = follows ∙ ap (λ f. react doc y q (leads q replied) f replied) success.follows
 
       fresh : IsFresh doc q y done
-      fresh = subst (IsFresh doc q y) (sym done_is) (won_fresh doc q y call first.b.reply success.version first.before time.deadline success.succeeds_is)
+      fresh = subst (IsFresh doc q y) (sym done_is) (won_fresh doc q y call reply success.version c.before time.deadline success.succeeds_is)
 
       abbrev three : List Entry
       three = three_steps doc y (history doc y)
 
+      abbrev two : List Entry
+      two = with_answers doc y
+
+      done_since : IsTail two done
+      done_since = tail_trans two c.before done c.low (delivered_adds doc y back c.before)
+
       done_low : IsTail (history doc y) done
       done_low =
-          tail_trans (history doc y) two done (tail_trans (history doc y) (with_events doc y) two (before_events doc y) (two_adds doc y (with_events doc y) (with_events doc y) (tail_all (with_events doc y))))
-          (tail_trans two first.before done first.low (delivered_adds doc y first.b first.before))
+          tail_trans (history doc y) two done (tail_trans (history doc y) (with_events doc y) two (before_events doc y) (two_adds doc y (with_events doc y) (with_events doc y) (tail_all (with_events doc y)))) done_since
 
       -- so it acts in its turn
       acts_at : (g : List Entry) → IsTail done g → IsTail g (history doc (suc y)) → acts doc q y g ≡ true
@@ -432,7 +284,7 @@ module _ (doc : Doc) (rules : ReleasesByStop doc) (near far a e n : ℕ) (q : Id
           up : alive q.process g ≡ Some q.incarnation
           up =
               up_at g
-              (tail_trans s.before two g (tail_trans s.before (s.f ∷ s.before) two (inr (tail_all s.before)) sent_low) (tail_trans two done g (tail_trans two first.before done first.low (delivered_adds doc y first.b first.before)) below))
+              (tail_trans s.before two g (tail_trans s.before (s.f ∷ s.before) two (inr (tail_all s.before)) (sent_low doc rules near far n one q s.f s.before call arrives s.position r comes on_time up_at waits_on unstopped)) (tail_trans two done g done_since below))
               (tail_trans g (history doc (suc y)) (history doc (suc n)) above (later_tail doc (suc y) (suc n) (omega (arith, comes))))
 
           by_time : (at : ℕ) → deadline doc q g ≡ Some at → local doc q.process y < at → (b : Bool) → nat_lt (local doc q.process y) at ≡ b → acts doc q y g ≡ true
@@ -441,28 +293,25 @@ module _ (doc : Doc) (rules : ReleasesByStop doc) (near far a e n : ℕ) (q : Id
 
       pub won_acts : ((k : ℕ) → a ≤ k → k ≤ n → Acts doc q k → ⊥) → ⊥
       won_acts none =
-          none y (omega (arith, s.from, r.least, r.comes_least)) comes (role, acts_at (at_turn doc q.process y) (turns_add doc y q.process done three first.position) (turn_tail doc q.process y (omega (arith, controllers_first doc q.process role))))
+          none y (omega (arith, s.from, r.least, r.comes_least)) comes (role, acts_at (at_turn doc q.process y) (turns_add doc y q.process done three c.three) (turn_tail doc q.process y (omega (arith, controllers_first doc q.process role))))
 
   -- ---- an accepted election write
 
   pub sending_of : (call : Call) (arrives : Option ℕ) (f : Entry) (S : List Entry) → IsTail (f ∷ S) (history doc (suc n)) → f.actor ≡ actor_of q → f.fact ≡ Sends call arrives → a ≤ call.sent → (s : Sending doc a n q call arrives) × (s.f ≡ f) × (s.before ≡ S)
-  sending_of call arrives f S position actor fact from = by_free (made.free (ap (λ (p : Identity). is_controller doc p.process) mine ∙ role))
+  sending_of call arrives f S position actor fact from = by_free (made.free role)
     where
-      made : MadeSend doc f.beat f.step f.actor call arrives S
-      made = subst (λ d. MadeAs doc f.beat f.step f.actor d S) fact (are_made doc rules (suc n) f S position)
-
-      mine : made.q ≡ q
-      mine = actor_is made.q q (sym made.by ∙ actor)
+      made : MadeFor doc q f.beat f.step call arrives S
+      made = made_for doc rules (suc n) q f S call arrives position actor fact
 
       sent : call.sent ≡ f.beat
       sent = ap (λ (c : Call). c.sent) made.call_is
 
-      by_free : HasStopped f.beat made.q made.kind S ⊎ ((alive made.q.process S ≡ Some made.q.incarnation) × (call_in made.q S ≡ None) × (3 ≤ f.step) × IsOpen made.kind) → (s : Sending doc a n q call arrives) × (s.f ≡ f) × (s.before ≡ S)
+      by_free : HasStopped f.beat q call.kind S ⊎ ((alive q.process S ≡ Some q.incarnation) × (call_in q S ≡ None) × (3 ≤ f.step) × IsOpen call.kind) → (s : Sending doc a n q call arrives) × (s.f ≡ f) × (s.before ≡ S)
       by_free (inl stopped) =
-          let stop = entry f.beat 1 made.q Stops in
+          let stop = entry f.beat 1 q Stops in
           let in_s : In stop S = subst (In stop) (sym stopped.is) (inl refl) in
           let there = in_tail stop (history doc (suc n)) (history doc (suc e)) (later_tail doc (suc n) (suc e) (omega (arith, within))) (in_tail stop (f ∷ S) (history doc (suc n)) position (inr in_s)) in
-          let before = steady.stops stop there refl (ap (λ b. has (when b made.q.incarnation)) (eq-eqb made.q.process q.process (ap (λ (p : Identity). p.process) mine))) in
+          let before = steady.stops stop there refl (ap (λ b. has (when b q.incarnation)) (eq-eqb q.process q.process refl)) in
           absurd (omega (arith, before, from, sent))
       by_free (inr free) = (
         record {
@@ -474,8 +323,8 @@ module _ (doc : Doc) (rules : ReleasesByStop doc) (near far a e n : ℕ) (q : Id
           from = omega (arith, from, sent);
           step = free.2;
           sent = sent;
-          up = subst (λ (p : Identity). alive p.process S ≡ Some p.incarnation) mine free.0;
-          opens = ap (λ kind. open_as kind call) (ap (λ (c : Call). c.kind) made.call_is) ∙ free.3 call;
+          up = free.0;
+          opens = free.3 call;
         },
         refl,
         refl,

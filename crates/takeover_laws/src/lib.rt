@@ -8,7 +8,7 @@ ghost use Rattle.takeover_laws.specs.Rounds.{RepliesCount, RoundsAreShort};
 ghost use Rattle.takeover_laws.specs.Taking.{TakeoversEndInActing};
 ghost use Rattle.takeover_laws.specs.Waits.{OwnWaitsAreWhole, WaitsAreBetween};
 
-/// Each call of a controller whose messages pass is answered after one way, and its reply is delivered after another; it counts where the
+/// Each call of a controller whose messages pass is answered after one way, and its reply is delivered after another; it counts if the
 /// sender stays up and the call timeout is at least two ways.
 pub fn rounds_are_short()
     ensures short { RoundsAreShort }
@@ -22,7 +22,7 @@ pub fn writers_act()
     ensures records { RecordsStay }
 {}
 
-/// Each wait of a candidate after a failed attempt lies between its shortest and its longest one; both are its retry period where the document
+/// Each wait of a candidate after a failed attempt lies between its shortest and its longest one; both are its retry period if the document
 /// says no waits.
 pub fn waits_are_between()
     ensures between { WaitsAreBetween }
@@ -34,7 +34,7 @@ pub fn candidates_ask()
     ensures { CandidatesAsk }
 {}
 
-/// In a calm, a write on the stored record, or its creation where none is stored, is accepted: it isn't sent while nobody acts up to two
+/// In a calm, a write on the stored record, or its creation if none is stored, is accepted: it isn't sent while nobody acts up to two
 /// ways later.
 pub fn takeovers_end_in_acting()
     ensures { TakeoversEndInActing }

@@ -5,7 +5,6 @@ pub mod Closing
 pub mod Counted
 pub mod Judging
 pub mod Lasting
-mod Same
 pub mod SameTaints
 pub mod Settling
 pub mod Sighted

@@ -32,7 +32,7 @@ use Rattle.evict_queue.specs.declared.rows.Going.TheVariants.{Now, After}
 use Rattle.evict_queue.specs.declared.rows.Row.{Row}
 use Rattle.history_laws.specs.Tails.{IsTail}
 use Rattle.history_laws.proofs.Plainly.{false_is, upper, some_is, none_is, true_is}
-use Rattle.history_laws.proofs.Sightings.{foreign_last, row_anew, row_goes_on, row_none, sight_last}
+use Rattle.history_laws.proofs.Sightings.{foreign_last, one_alike, one_self, one_swap, row_anew, row_goes_on, row_none, sight_last}
 use Rattle.history_laws.proofs.Tailed.{tail_all}
 use Rattle.taint_match.specs.Bearing.{IsBounded}
 use Rattle.tick_laws.specs.Judged.{due_by, is_by_now, sighted_as}
@@ -59,32 +59,6 @@ before_tail q k (e ∷ h) = by_tick (before_tail q k h) (is_tick_of q k e.beat e
     by_tick : IsTail (before_tick q k h) h → (t : Bool) → IsTail (elim t [ true ↦ before_tick q k h | false ↦ e ∷ h ]) (e ∷ h)
     by_tick older true = inr older
     by_tick older false = inl refl
-
--- ---- of one row
-
-one_alike : (a b c : Bears) → is_one_row a b ≡ true → is_one_row a c ≡ is_one_row b c
-one_alike NotAtAll NotAtAll c one = refl
-one_alike (For m) (For n) Untainted one = refl
-one_alike (For m) (For n) NotAtAll one = refl
-one_alike (For m) (For n) Ever one = refl
-one_alike (For m) (For n) (For o) one = refl
-one_alike Untainted b c one = absurd (true_is (sym one))
-one_alike Ever b c one = absurd (true_is (sym one))
-one_alike NotAtAll Untainted c one = absurd (true_is (sym one))
-one_alike NotAtAll Ever c one = absurd (true_is (sym one))
-one_alike NotAtAll (For n) c one = absurd (true_is (sym one))
-one_alike (For m) Untainted c one = absurd (true_is (sym one))
-one_alike (For m) NotAtAll c one = absurd (true_is (sym one))
-one_alike (For m) Ever c one = absurd (true_is (sym one))
-
-one_self : (a b : Bears) → is_one_row a b ≡ true → is_one_row a a ≡ true
-one_self NotAtAll b one = refl
-one_self (For m) b one = refl
-one_self Untainted b one = one
-one_self Ever b one = one
-
-one_swap : (a b : Bears) → is_one_row a b ≡ true → is_one_row b a ≡ true
-one_swap a b one = sym (one_alike a b a one) ∙ one_self a b one
 
 -- the row of what was last seen is there, and of its kind
 record Begun (q : Identity) (pod : Key) (h : List Entry) : Type 0 where

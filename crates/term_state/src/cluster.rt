@@ -12,7 +12,6 @@ ghost use Rattle.std.specs.List.Sorted.{IsStrictlySortedBy};
 ghost use Rattle.std.specs.Ordering.{nat_cmp};
 ghost use Rattle.tick_laws.specs.Judged as judged;
 
-use crate::tries::node_key;
 use evict_queue::{EvictQueue, Rows};
 use kube_base::{NoMemory, Steps, Version};
 use kube_objects::{EvictRule, Key, Lease, Node, NumberList, Pod};
@@ -22,7 +21,7 @@ use watch_cache::{Cache, ListFault, NotSynced};
 
 /// The cluster as a term sees it, and what follows from that: the nodes to untaint or swap, and when pods are due.
 ///
-/// `moved` has the nodes that may begin or end to wait for a taint since it was emptied last. Where dues count from what is seen, `touched`
+/// `moved` has the nodes that may begin or end to wait for a taint since it was emptied last. If dues count from what is seen, `touched`
 /// has the pods of which a tick may see otherwise how long they bear their nodes' taints, until their rows are settled. After `NoMemory` of a
 /// call that changes it, a cluster may only be dropped.
 #[derive(Drop)]
@@ -90,7 +89,7 @@ impl Cluster {
         ensures { (q : Identity) (h : List Entry) (nodes : ℕ → Bool) (pods : Key → Bool) → ClusterBut q h nodes pods self.now
             → result ≡ seen_words.is_stale q (stored_words.node_key name) h }
     {
-        self.cache.is_stale(&node_key(name))
+        self.cache.is_stale(&Key::node(name))
     }
 
     /// Whether the next tick untaints or swaps this node, if nothing changes before.

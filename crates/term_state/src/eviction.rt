@@ -11,7 +11,7 @@ use kube_base::{Steps, Version, Wall};
 use kube_objects::{Due, EvictRule, Key};
 use taint_match::due;
 
-/// A pod that is due: its version, its node with its version where the delete names it, and when the pod was due.
+/// A pod that is due: its version, its node with its version if the delete names it, and when the pod was due.
 #[derive(Clone, Copy, Debug, PartialEq, Eq)]
 pub struct Eviction {
     pub given: Version,
@@ -25,7 +25,7 @@ impl Cluster {
     ghost use Rattle.term_state.specs.Evictions.{IsEviction, IsEvictionBy, IsRowEviction};
     ghost use Rattle.term_state.specs.Sights.{SettledBy};
 
-    /// How the pod is evicted, where it is due by now as it is seen. It counts a step.
+    /// How the pod is evicted, if it is due by now as it is seen. It counts a step.
     pub fn eviction<L>(&self, key: &Key, now: Wall, steps: &mut Steps<L>) -> Option<Eviction>
         ensures some { (doc : Doc) (q : Identity) (h : List Entry) (nodes : ℕ → Bool) (pods : Key → Bool) → ClusterBut q h nodes pods self.now
             → self.now.evict_from ≡ doc.settings.rules.evict_from → SettledBy doc.settings.rules.evict_from doc q h pods self.now

@@ -14,7 +14,6 @@ ghost use Rattle.watch_cache.specs.Kept.{is_on};
 
 use crate::Cluster;
 use crate::last::{Last, due_again};
-use crate::tries::node_key;
 use kube_base::{NoMemory, Steps};
 use kube_objects::{Due, EvictRule, Key, KeyList, Kind, Node};
 use node_taints::{Wants, has_condition, has_opposite, want_of};
@@ -43,7 +42,7 @@ impl Cluster {
         ensures { (q : Identity) (h : List Entry) (nodes : ℕ → Bool) (pods : Key → Bool) → ClusterBut q h nodes pods self.now
             → is_synced q h ≡ true → result ≡ judged.is_dirty q name h }
     {
-        if self.cache.is_stale(&node_key(name)) {
+        if self.cache.is_stale(&Key::node(name)) {
             return false;
         }
         match self.node(name) {
@@ -52,7 +51,7 @@ impl Cluster {
         }
     }
 
-    // When the pod is due, as it is seen; by what came of the one judged last, where it is as that.
+    // When the pod is due, as it is seen; by what came of the one judged last, if it is as that.
     fn due<L>(
         &self,
         key: &Key,
@@ -133,7 +132,7 @@ impl Cluster {
         self.set_moved(name)
     }
 
-    /// The pod's due is exact again; where dues count from what is seen, it will be once the tick's rows are settled.
+    /// The pod's due is exact again; if dues count from what is seen, it will be once the tick's rows are settled.
     pub fn judge_pod<L>(&mut self, key: Key, steps: &mut Steps<L>) -> Result<(), NoMemory>
         ensures stands { (q : Identity) (h : List Entry) (nodes : ℕ → Bool) (pods : Key → Bool) → ClusterBut q h nodes pods self.old
             → is_synced q h ≡ true → OnOk result (ClusterBut q h nodes (but_pod key pods) self.new) }
@@ -145,7 +144,7 @@ impl Cluster {
         self.judge_like(key, &mut None, steps)
     }
 
-    // The same, by what came of the pod judged last, where this one is as that.
+    // The same, by what came of the pod judged last, if this one is as that.
     fn judge_like<L>(
         &mut self,
         key: Key,

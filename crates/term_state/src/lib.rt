@@ -6,6 +6,7 @@ mod eviction;
 mod judge;
 mod last;
 mod moved;
+mod node_try;
 mod note;
 mod queues;
 mod rows;
@@ -17,6 +18,7 @@ mod writes;
 
 pub use cluster::Cluster;
 pub use eviction::Eviction;
+pub use node_try::NodeTry;
 pub use told::Told;
 pub use tries::{try_delete, try_delete_alone};
 pub use view::View;

@@ -18,7 +18,6 @@ ghost use Rattle.watch_cache.specs.TaintChanges.{taints_in};
 ghost use Rattle.watch_cache.specs.Stands.{kept_in};
 
 use crate::Cluster;
-use crate::tries::node_key;
 use kube_base::{NoMemory, Steps, Version};
 use kube_objects::{Key, Node, Object};
 
@@ -29,7 +28,7 @@ impl Cluster {
     ghost use Rattle.term_state.specs.Sights.{IsRetained, SightedBy, has_touched, spent, touched_len};
 
     /// The node is seen as it was written. It counts at most two steps for each pod on the node, with those that settling their rows counts later,
-    /// and none where its taints are as they were.
+    /// and none if its taints are as they were.
     pub fn note_node<L>(
         &mut self,
         name: u32,
@@ -52,7 +51,7 @@ impl Cluster {
             → OnOk result (spent self.new steps.new ≡ spent self.old steps.old) }
     {
         let taints = written.taints.as_slice();
-        let has_new_taints = self.cache.has_other_taints(&node_key(name), taints);
+        let has_new_taints = self.cache.has_other_taints(&Key::node(name), taints);
         self.write_node(name, version, written)?;
         if has_new_taints {
             return self.judge_node(name, steps);
@@ -75,7 +74,8 @@ impl Cluster {
         ensures untouched { touched_len self.new ≡ touched_len self.old }
     {
         let object = Object::Node(written);
-        self.cache.note_own(node_key(name), Some((version, object)))
+        self.cache
+            .note_own(Key::node(name), Some((version, object)))
     }
 
     /// The node is stale until the next sync, and isn't among those to untaint or swap. Pods aren't looked at.
@@ -88,7 +88,7 @@ impl Cluster {
         ensures touched { (key : Key) → has_touched self.new key ≡ has_touched self.old key }
         ensures untouched { touched_len self.new ≡ touched_len self.old }
     {
-        self.cache.set_stale(node_key(name))?;
+        self.cache.set_stale(Key::node(name))?;
         self.unclean.remove(&name);
         Ok(())
     }

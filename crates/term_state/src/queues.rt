@@ -63,7 +63,7 @@ impl Cluster {
         Ok(todo)
     }
 
-    /// Takes out the pod that is due first by now, and of equal ones that with the least key. It counts a step where any pod is due ever.
+    /// Takes out the pod that is due first by now, and of equal ones that with the least key. It counts a step if any pod is due ever.
     pub fn next_due<L>(&mut self, now: Wall, steps: &mut Steps<L>) -> Option<Key>
         ensures stands { (q : Identity) (h : List Entry) (pods : Key → Bool) → ClusterBut q h no_node pods self.old
             → IfSome result (λ pod. ClusterBut q h no_node (λ p. pods p || key_eq pod p) self.new) }
@@ -87,7 +87,7 @@ impl Cluster {
     }
 
     /// The least due of the pods that aren't stale, in microseconds since 1970: of those whose node is seen, or of those that have a row; none
-    /// exactly where none is due ever.
+    /// exactly if none is due ever.
     pub fn least_due(&self) -> Option<u128>
         ensures there { (doc : Doc) (q : Identity) (h : List Entry) → ClusterStands q h self.now
             → self.now.evict_from ≡ doc.settings.rules.evict_from → SettledBy doc.settings.rules.evict_from doc q h no_pod self.now

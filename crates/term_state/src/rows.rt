@@ -1,4 +1,4 @@
-// The rows of ticks at which pods have to go, where their dues count from what is seen.
+// The rows of ticks at which pods have to go, if their dues count from what is seen.
 ghost use Rattle.std.specs.Prelude.{◌≡◌, ◌≤◌, ◌+◌, ◌||◌, ℕ, Bool, true, false, List, IfOk, OnOk};
 ghost use Rattle.kube_objects.specs.Clocks.{wall as wall_in};
 ghost use Rattle.kube_objects.specs.Document.{Doc};
@@ -45,28 +45,9 @@ impl Cluster {
         Ok(())
     }
 
-    /// The rows are as the tick's end leaves them, and so are the dues by them. It counts a step for each pod that was touched. Where dues count
-    /// from the stored taints nothing is touched.
+    /// The rows are as the tick's end leaves them, and so are the dues by them: each pod that was touched has its row, and is due by it. It counts a
+    /// step for each. If dues count from the stored taints, nothing is touched.
     pub fn settle_rows<L>(&mut self, wall: Wall, steps: &mut Steps<L>) -> Result<(), NoMemory>
-        ensures stands { (doc : Doc) (k : ℕ) (q : Identity) (h : List Entry) → ClusterStands q h self.old
-            → self.old.evict_from ≡ doc.settings.rules.evict_from → SightedBy doc.settings.rules.evict_from doc k q h self.old
-            → OnOk result (ClusterStands q h self.new) }
-        ensures settled { (doc : Doc) (k : ℕ) (q : Identity) (h : List Entry) → ClusterStands q h self.old → is_synced q h ≡ true
-            → self.old.evict_from ≡ doc.settings.rules.evict_from → SightedBy doc.settings.rules.evict_from doc k q h self.old
-            → IsSightKept q k h → wall.0 ≡ wall_in doc q.process k
-            → OnOk result (SettledBy doc.settings.rules.evict_from doc q h no_pod self.new) }
-        ensures moved { (n : ℕ) → has_moved self.new n ≡ has_moved self.old n }
-        ensures from { self.new.evict_from ≡ self.old.evict_from }
-        ensures counted { OnOk result (spent self.new steps.new ≤ spent self.old steps.old) }
-    {
-        if self.keeps_rows() {
-            return self.settle_touched(wall, steps);
-        }
-        Ok(())
-    }
-
-    // Each pod that was touched has the row of the tick's end, and is due by it.
-    fn settle_touched<L>(&mut self, wall: Wall, steps: &mut Steps<L>) -> Result<(), NoMemory>
         ensures stands { (doc : Doc) (k : ℕ) (q : Identity) (h : List Entry) → ClusterStands q h self.old
             → self.old.evict_from ≡ doc.settings.rules.evict_from → SightedBy doc.settings.rules.evict_from doc k q h self.old
             → OnOk result (ClusterStands q h self.new) }
@@ -87,8 +68,8 @@ impl Cluster {
         Ok(())
     }
 
-    // How long the pod bears the taints of its node, as both are seen; none where its node isn't. Who isn't seen has none to bear. It goes by
-    // what came of the pod looked at last, where it is as that.
+    // How long the pod bears the taints of its node, as both are seen; none if its node isn't. Who isn't seen has none to bear. It goes by
+    // what came of the pod looked at last, if it is as that.
     fn sight<L>(
         &self,
         pod: &Key,

@@ -39,9 +39,9 @@ impl Cluster {
         self.cache.is_synced()
     }
 
-    /// Takes over what was written since the last sync, and judges nothing. Each write counts a step. It answers the nodes
-    /// whose pods are to be judged: those that were written and whose taints changed, where dues count from what is seen those too that weren't
-    /// there, or all that were written where a key was stale.
+    /// Takes over what was written since the last sync, and judges nothing. Each write counts a step. It returns the nodes
+    /// whose pods are to be judged: those that were written and whose taints changed, if dues count from what is seen those too that weren't
+    /// there, or all that were written if a key was stale.
     pub fn take_over<L>(
         &mut self,
         store: &Store,

@@ -11,19 +11,8 @@ ghost use Rattle.object_store.specs.StoreAnswers.{IsReply};
 ghost use Rattle.term_state.specs.Tried.{answer_of};
 
 use kube_base::{NoMemory, Version};
-use kube_objects::{Answer, Key, Kind, Node, Object};
+use kube_objects::{Answer, Key, Node, Object};
 use object_store::{Store, StoreFault};
-
-/// The key of the node of that name.
-pub(crate) fn node_key(name: u32) -> Key
-    ensures { result ≡ stored_words.node_key name }
-{
-    Key {
-        kind: Kind::Node,
-        space: 0,
-        name,
-    }
-}
 
 // How a write was answered.
 fn answer(outcome: Result<Version, StoreFault>) -> Result<Answer, NoMemory>
@@ -38,8 +27,8 @@ fn answer(outcome: Result<Version, StoreFault>) -> Result<Answer, NoMemory>
     }
 }
 
-/// Tries to write a node in the place of the one with that version. None where the try is lost, which is where requests
-/// don't pass.
+/// Tries to write a node in the place of the one with that version. None if requests don't pass: the
+/// try is lost then.
 pub(crate) fn try_node(
     store: &mut Store,
     passes: bool,
@@ -58,14 +47,14 @@ pub(crate) fn try_node(
         return Ok(None);
     }
     let object = Object::Node(written.copy()?);
-    match answer(store.update(node_key(name), given, object)) {
+    match answer(store.update(Key::node(name), given, object)) {
         Ok(answer) => Ok(Some(answer)),
         Err(NoMemory) => Err(NoMemory),
     }
 }
 
-/// Tries to delete a pod by its version and that of its node. None where the try is lost, which is where requests don't
-/// pass.
+/// Tries to delete a pod by its version and that of its node. None if requests don't pass: the
+/// try is lost then.
 pub fn try_delete(
     store: &mut Store,
     passes: bool,
@@ -84,13 +73,13 @@ pub fn try_delete(
     if !passes {
         return Ok(None);
     }
-    match answer(store.delete_pod(pod, given, node_key(node), node_given)) {
+    match answer(store.delete_pod(pod, given, Key::node(node), node_given)) {
         Ok(answer) => Ok(Some(answer)),
         Err(NoMemory) => Err(NoMemory),
     }
 }
 
-/// Tries to delete a pod by its version alone. None where the try is lost, which is where requests don't pass.
+/// Tries to delete a pod by its version alone. None if requests don't pass: the try is lost then.
 pub fn try_delete_alone(
     store: &mut Store,
     passes: bool,

@@ -20,8 +20,8 @@ ghost use Rattle.term_state.specs.Sights.{SightedBy, spent};
 ghost use Rattle.term_state.specs.Writes.{IsWrite, act_for, makes_stale, stale_by};
 
 use crate::tries::try_node;
-use crate::{Cluster, Told, View};
-use kube_base::{NoMemory, Steps, Version};
+use crate::{Cluster, NodeTry, Told, View};
+use kube_base::{NoMemory, Steps};
 use kube_objects::{Act, Answer, Node};
 use object_store::Store;
 
@@ -127,11 +127,11 @@ impl Cluster {
     }
 }
 
-/// Tries to write a node in the place of the one with that version, and answers how it went. None where the try is lost,
-/// which is where requests don't pass.
+/// Tries to write a node in the place of the one with that version, and returns how it went. None if the try is lost,
+/// which is if requests don't pass.
 ///
 /// What is answered is told, and an accepted write is seen. A refused untaint or swap makes the node stale until the next
-/// sync. It counts at most two steps for each pod on the node, with those that settling its row counts later, and none where its taints are as
+/// sync. It counts at most two steps for each pod on the node, with those that settling its row counts later, and none if its taints are as
 /// they were seen.
 pub fn try_write<L>(
     cluster: &mut Cluster,
@@ -139,24 +139,21 @@ pub fn try_write<L>(
     view: &View,
     told: &mut Told,
     steps: &mut Steps<L>,
-    name: u32,
-    given: Version,
-    written: Node,
-    write: NodeWrite,
+    made: NodeTry,
 ) -> Result<Option<Answer>, NoMemory>
     ensures answer { (q : Identity) (h : List Entry) → StoreStands h store.old → view.entry.now.passes ≡ not (loses_requests q.process h)
-        → IfOk result (λ answer. answer ≡ tries.try_node q name given h) }
+        → IfOk result (λ answer. answer ≡ tries.try_node q made.name made.given h) }
     ensures stands { (doc : Doc) (k : ℕ) (q : Identity) (before : List Deed) (h : List Entry) (tick : Tick)
         → MidTick doc q k before h cluster.old store.old told.old → IsView doc k q h view.entry.now
-        → IsWrite write name written (tries.try_node q name given h) tick → has (seen_node q name h) ≡ true
+        → IsWrite made.write made.name made.written (tries.try_node q made.name made.given h) tick → has (seen_node q made.name h) ≡ true
         → OnOk result (MidTick doc q k before (add k q tick h) cluster.new store.new told.new) }
     ensures counted { (doc : Doc) (k : ℕ) (q : Identity) (before : List Deed) (h : List Entry) (tick : Tick)
         → MidTick doc q k before h cluster.old store.old told.old → IsView doc k q h view.entry.now
-        → IsWrite write name written (tries.try_node q name given h) tick
+        → IsWrite made.write made.name made.written (tries.try_node q made.name made.given h) tick
         → OnOk result (spent cluster.new steps.new + tick_cost q k h ≤ spent cluster.old steps.old + tick_cost q k (add k q tick h)) }
 {
-    let answer = try_node(store, view.passes, name, given, &written)?;
-    tell(told, name, write, answer)?;
-    cluster.note_answer(name, written, write, answer, steps)?;
+    let answer = try_node(store, view.passes, made.name, made.given, &made.written)?;
+    tell(told, made.name, made.write, answer)?;
+    cluster.note_answer(made.name, made.written, made.write, answer, steps)?;
     Ok(answer)
 }

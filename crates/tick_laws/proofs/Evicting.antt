@@ -26,7 +26,7 @@ use Rattle.kube_objects.specs.Tolerations.{due}
 use Rattle.kube_objects.specs.Tries.{try_delete, try_delete_alone}
 use Rattle.history_laws.proofs.Plainly.{false_is}
 use Rattle.history_laws.proofs.Sightings.{and_out, delete_shows, delete_stales, sighted_same}
-use Rattle.history_laws.proofs.Ticks.{Each, IsPodKey, pods_only}
+use Rattle.history_laws.proofs.Ticks.{Each, IsPodKey, pods_only, pods_of_dues}
 use Rattle.tick_laws.specs.Changes.{IsChange, gone_by, refused_by}
 use Rattle.tick_laws.specs.Judged.{due_on, due_as, is_dirty, seen_due, sighted_as, due_by, term_due, is_by_now}
 use Rattle.tick_laws.specs.Walks.{Among, is_after, after}
@@ -288,40 +288,11 @@ module _ (doc : Doc) (k : ℕ) (q : Identity) where
 -- ---- the dues of pods, in order
 
 module _ (doc : Doc) (q : Identity) (h : List Entry) where
-  insert_among : (at : ℕ) (pod : Key) (ys : List (ℕ × Key)) → Among (at, pod) (insert_due at pod ys)
-  insert_among at pod [] = inl refl
-  insert_among at pod (y ∷ ys) = by_order (insert_among at pod ys) (nat_le at y.0)
-    where
-      by_order : Among (at, pod) (insert_due at pod ys) → (b : Bool) → Among (at, pod) (elim b [ true ↦ (at, pod) ∷ y ∷ ys | false ↦ y ∷ insert_due at pod ys ])
-      by_order later true = inl refl
-      by_order later false = inr later
-
-  insert_keeps : (at : ℕ) (pod : Key) (ys : List (ℕ × Key)) (x : ℕ × Key) → Among x ys → Among x (insert_due at pod ys)
-  insert_keeps at pod [] x there = absurd there
-  insert_keeps at pod (y ∷ ys) x there = by_order (insert_keeps at pod ys x) (nat_le at y.0) there
-    where
-      by_order : (Among x ys → Among x (insert_due at pod ys)) → (b : Bool) → Among x (y ∷ ys) → Among x (elim b [ true ↦ (at, pod) ∷ y ∷ ys | false ↦ y ∷ insert_due at pod ys ])
-      by_order later true there = inr there
-      by_order later false (inl is) = inl is
-      by_order later false (inr there) = inr (later there)
-
-  -- each pod that is due ever has one
-  pub pods_of_dues : (pods : List Key) (pod : Key) (at : ℕ) → model.due_by doc.settings.rules.evict_from doc q pod h ≡ At at → Among pod pods → Among (at, pod) (dues doc q pods h)
-  pods_of_dues [] pod at due there = absurd there
-  pods_of_dues (p ∷ pods) pod at due (inl is) =
-      subst (λ p. Among (at, pod) (and_due p (model.due_by doc.settings.rules.evict_from doc q p h) (dues doc q pods h))) is
-      (subst (λ d. Among (at, pod) (and_due pod d (dues doc q pods h))) (sym due) (insert_among at pod (dues doc q pods h)))
-  pods_of_dues (p ∷ pods) pod at due (inr there) = by_due (pods_of_dues pods pod at due there) (model.due_by doc.settings.rules.evict_from doc q p h)
-    where
-      by_due : Among (at, pod) (dues doc q pods h) → (d : Due) → Among (at, pod) (and_due p d (dues doc q pods h))
-      by_due later Never = later
-      by_due later (At other) = insert_keeps other p (dues doc q pods h) (at, pod) later
-
   -- a pod that the term would delete is among them
   pub due_among : (pod : Key) (now : ℕ) → is_by_now now (term_due doc q pod h) ≡ true → (at : ℕ) × Among pod (pod_keys h) × Among (at, pod) (dues doc q (pod_keys h) h)
   due_among pod now is =
       let found = by_rule doc.settings.rules.evict_from is in
-      (found.0, found.1, pods_of_dues (pod_keys h) pod found.0 found.2 found.1)
+      (found.0, found.1, pods_of_dues doc q h (pod_keys h) pod found.0 found.2 found.1)
     where
       by_rule : (rule : EvictRule) → is_by_now now (due_by rule doc q pod h) ≡ true → (at : ℕ) × Among pod (pod_keys h) × (model.due_by rule doc q pod h ≡ At at)
       by_rule evictions.Added is =

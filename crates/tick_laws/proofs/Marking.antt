@@ -93,7 +93,7 @@ insert_there n (m ∷ ms) ascends (inr there) =
     later m (x ∷ xs) above (inl is) = ap (λ x. nat_cmp x m) is ∙ names_strict.total.antisymm x m ∙ ap ordering_reverse above.0
     later m (x ∷ xs) above (inr there) = later m xs above.1 there
 
-lease_shown : (q : Identity) (name : ℕ) (h : List Entry) → of_kind lease_in (shown q (node_lease name) h) ≡ seen_lease q name h
+pub lease_shown : (q : Identity) (name : ℕ) (h : List Entry) → of_kind lease_in (shown q (node_lease name) h) ≡ seen_lease q name h
 lease_shown q name h = by_held (seen q (node_lease name) h)
   where
     by_held : (o : Option Held) → of_kind lease_in (kept o) ≡ as_kind lease_in o

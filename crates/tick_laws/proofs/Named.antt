@@ -1,5 +1,5 @@
 -- What is seen has a name that was written, and the names written ascend.
-use Rattle.std.proofs.Common.{◌≡◌, ◌∙◌, ◌⊎◌, inl, inr, ℕ, Bool, true, false, List, [], ◌∷◌, Option, Some, None, refl, sym, ap, subst, Less, Equal, Greater}
+use Rattle.std.proofs.Common.{◌≡◌, ◌∙◌, ◌⊎◌, inl, inr, ℕ, Bool, true, false, List, [], ◌∷◌, Option, Some, None, refl, ap, Less, Equal, Greater}
 use Rattle.std.specs.Ordering.{nat_cmp, ordering_reverse}
 use Rattle.std.specs.declared.cmp.Ordering.{Ordering}
 use Rattle.kube_base.specs.declared.numbers.Version.{Version}
@@ -11,36 +11,18 @@ use Rattle.kube_objects.specs.declared.pod.Pod.{Pod}
 use Rattle.kube_objects.specs.Answers.{as_kind, node_in}
 use Rattle.kube_objects.specs.Entry.{Entry, Identity, Fact, Ticks, Tick, Sync}
 use Rattle.kube_objects.specs.Identities.{is_by}
-use Rattle.kube_objects.specs.Keys.{key_cmp, key_eq}
+use Rattle.kube_objects.specs.Keys.{key_cmp}
 use Rattle.kube_objects.specs.Newest.{when, only_if, join}
 use Rattle.kube_objects.specs.Seen.{tick_shows, seen_says, seen, pod_in, seen_node, seen_pod, insert_once, insert_named, named, written_names, node_name, is_pod, pod_key, node_names, pod_keys}
-use Rattle.kube_objects.specs.Stored.{Held, Write, holds, at_key, tick_write, write_of, last_write, stored, node_key}
-use Rattle.kube_objects.proofs.KeyOrder.{same_key, key_itself}
+use Rattle.kube_objects.specs.Stored.{Held, tick_write, write_of, node_key}
+use Rattle.kube_objects.proofs.KeyOrder.{key_itself}
+use Rattle.history_laws.proofs.Named.{held_named, named_keeps, stored_named}
 use Rattle.history_laws.proofs.Plainly.{none_is}
 use Rattle.tick_laws.specs.Walks.{IsStrict, Among, Above, Ascends}
 use Rattle.tick_laws.proofs.Orders.{names_strict, keys_strict}
 use Rattle.watch_cache.proofs.Frames.{upper, last_seen}
 
 module _ {A : Type 0} (compare : A → A → Ordering) (strict : IsStrict compare) where
-  pub insert_in : (n : A) (ms : List A) → Among n (insert_once compare n ms)
-  insert_in n [] = inl refl
-  insert_in n (m ∷ ms) = by_order (compare n m) refl (insert_in n ms)
-    where
-      by_order : (o : Ordering) → compare n m ≡ o → Among n (insert_once compare n ms) → Among n (elim o [ Less ↦ n ∷ m ∷ ms | Equal ↦ m ∷ ms | Greater ↦ m ∷ insert_once compare n ms ])
-      by_order Less is later = inl refl
-      by_order Equal is later = inl (strict.same n m is)
-      by_order Greater is later = inr later
-
-  pub insert_keeps : (a n : A) (ms : List A) → Among a ms → Among a (insert_once compare n ms)
-  insert_keeps a n [] p = absurd p
-  insert_keeps a n (m ∷ ms) p = by_order (compare n m) p (insert_keeps a n ms)
-    where
-      by_order : (o : Ordering) → (a ≡ m) ⊎ Among a ms → (Among a ms → Among a (insert_once compare n ms)) → Among a (elim o [ Less ↦ n ∷ m ∷ ms | Equal ↦ m ∷ ms | Greater ↦ m ∷ insert_once compare n ms ])
-      by_order Less p later = inr p
-      by_order Equal p later = p
-      by_order Greater (inl is) later = inl is
-      by_order Greater (inr p) later = inr (later p)
-
   -- what is among them after an insertion was there, or is the new one
   pub insert_only : (a n : A) (ms : List A) → Among a (insert_once compare n ms) → (a ≡ n) ⊎ Among a ms
   insert_only a n [] p = p
@@ -87,39 +69,21 @@ module _ {A : Type 0} (compare : A → A → Ordering) (strict : IsStrict compar
     names_ascend [] = tt
     names_ascend (e ∷ h) = ascends_named (named f (write_of e.fact)) (written_names compare f h) (names_ascend h)
 
-    pub named_keeps : (a : A) (o : Option A) (ms : List A) → Among a ms → Among a (insert_named compare o ms)
-    named_keeps a None ms p = p
-    named_keeps a (Some n) ms p = insert_keeps a n ms p
-
     module _ (key : Key) (n : A) (is : f key ≡ Some n) where
-      -- a write of the key, or what was there before it
-      held_named : (h : List Entry) (k : ℕ) (who : Actor) (o : Option Write) (old : Option (Option Held)) (y : Held) → (join old ≡ Some y → Among n (written_names compare f h))
-          → join (upper (holds h k who (at_key key o)) old) ≡ Some y → Among n (insert_named compare (named f o) (written_names compare f h))
-      held_named h k who None old y p now = p now
-      held_named h k who (Some w) old y p now = by_test (key_eq w.0 key) refl now
-        where
-          by_test : (b : Bool) → key_eq w.0 key ≡ b → join (upper (holds h k who (when b w.1)) old) ≡ Some y → Among n (insert_named compare (f w.0) (written_names compare f h))
-          by_test true same now = subst (λ o. Among n (insert_named compare o (written_names compare f h))) (sym (ap f (same_key w.0 key same) ∙ is)) (insert_in n (written_names compare f h))
-          by_test false same now = named_keeps n (f w.0) (written_names compare f h) (p now)
-
-      pub stored_named : (h : List Entry) (y : Held) → stored key h ≡ Some y → Among n (written_names compare f h)
-      stored_named [] y now = absurd (none_is y now)
-      stored_named (e ∷ h) y now = held_named h e.beat e.actor (write_of e.fact) (last_write key h) y (stored_named h y) now
-
       seen_more : (q : Identity) (e : Entry) (h : List Entry) (y : Held) → (seen q key h ≡ Some y → Among n (written_names compare f h)) → seen q key (e ∷ h) ≡ Some y → Among n (written_names compare f (e ∷ h))
       seen_more q e h y p now = cases e.actor e.fact now
         where
           own : (who : Actor) (t : Tick) → join (upper (tick_shows key e.beat who t h) (last_seen q key h)) ≡ Some y → Among n (insert_named compare (named f (tick_write t)) (written_names compare f h))
-          own who Sync now = stored_named h y now
-          own who t now = held_named h e.beat who (tick_write t) (last_seen q key h) y p now
+          own who Sync now = stored_named compare strict.same f key n is h y now
+          own who t now = held_named compare strict.same f key n is h e.beat who (tick_write t) (last_seen q key h) y p now
 
           by_test : (who : Actor) (t : Tick) (b : Bool) → join (upper (only_if b (tick_shows key e.beat who t h)) (last_seen q key h)) ≡ Some y → Among n (insert_named compare (named f (tick_write t)) (written_names compare f h))
           by_test who t true now = own who t now
-          by_test who t false now = named_keeps n (named f (tick_write t)) (written_names compare f h) (p now)
+          by_test who t false now = named_keeps compare strict.same f n (named f (tick_write t)) (written_names compare f h) (p now)
 
           cases : (who : Actor) (d : Fact) → join (upper (seen_says q key e.beat who d h) (last_seen q key h)) ≡ Some y → Among n (insert_named compare (named f (write_of d)) (written_names compare f h))
           cases who (Ticks t) now = by_test who t (is_by q who) now
-          cases who d now = named_keeps n (named f (write_of d)) (written_names compare f h) (p now)
+          cases who d now = named_keeps compare strict.same f n (named f (write_of d)) (written_names compare f h) (p now)
 
       pub seen_named : (q : Identity) (h : List Entry) (y : Held) → seen q key h ≡ Some y → Among n (written_names compare f h)
       seen_named q [] y now = absurd (none_is y now)

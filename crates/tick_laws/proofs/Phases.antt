@@ -1,35 +1,29 @@
 -- Which entries each phase of a tick adds, and what a phase leaves as it was.
-use Rattle.std.proofs.Common.{◌≡◌, ◌∙◌, ℕ, ◌+◌, ◌==◌, ◌&&◌, not, Bool, true, false, List, [], ◌∷◌, Option, Some, None, refl, sym, ap, subst, ◌||◌}
+use Rattle.std.proofs.Common.{◌≡◌, ◌∙◌, ℕ, ◌+◌, ◌==◌, ◌&&◌, not, Bool, true, false, List, [], ◌∷◌, Option, Some, None, refl, sym, ap, subst}
 use Rattle.std.specs.Prelude.{if◌then◌else◌}
-use Rattle.std.specs.List.{list_any}
 use Rattle.kube_base.specs.declared.numbers.Version.{Version}
 use Rattle.kube_objects.specs.declared.call.Answer.{Answer}
 use Rattle.kube_objects.specs.declared.deed.Actor.{Actor}
 use Rattle.kube_objects.specs.declared.key.Key.{Key}
 use Rattle.kube_objects.specs.declared.node.Node.{Node}
-use Rattle.kube_objects.specs.declared.node.ZoneState.{ZoneState}
 use Rattle.kube_objects.specs.declared.rules.EvictRule.{EvictRule}
 use Rattle.kube_objects.specs.declared.rules.EvictRule.TheVariants.{Added, Seen}
 use Rattle.kube_objects.specs.declared.rules.SightRule.{SightRule}
 use Rattle.kube_objects.specs.declared.rules.SightRule.TheVariants.{Keep, Strip}
 use Rattle.kube_objects.specs.Document.{Doc, of_millis}
 use Rattle.kube_objects.specs.Entry.{Entry, Identity, Place, Fact, Ticks, Tick, Sync, Pass, Mark, Mode, Zone, Untaint, Swap, Head, Delete, Skip, actor_of, entry}
-use Rattle.kube_objects.specs.Health.{and_name, at_pass, before_pass, is_found, is_known, is_pass, is_pass_due, mark_of, last_pass, marked_name, marked_since, pass_period, pass_says, pods_to_write, work_of}
-use Rattle.kube_objects.specs.InForce.{watches}
-use Rattle.kube_objects.specs.Judgement.{Passed, counts, had_turn, marks as marks_of, passes, queue, queue_head, turns_on}
-use Rattle.kube_objects.specs.Modes.{nodes, places, place_eq, state_in, rate_in, all_full, mode}
+use Rattle.kube_objects.specs.Health.{and_name, at_pass, before_pass, is_found, is_known, is_pass, last_pass, marked_name, marked_since, pass_period, pass_says, pods_to_write, work_of}
+use Rattle.kube_objects.specs.Judgement.{counts, had_turn, marks as marks_of, passes, queue, queue_head, turns_on}
+use Rattle.kube_objects.specs.Modes.{place_eq, mode}
 use Rattle.kube_objects.specs.Newest.{newest, when, only_if, join, or_else, or_zero}
 use Rattle.kube_objects.specs.Identities.{is_by}
-use Rattle.kube_objects.specs.Seen.{is_accepted, seen_node, is_fresh, is_stale, is_refused, is_pod, node_names}
+use Rattle.kube_objects.specs.Seen.{is_accepted, is_refused, is_pod}
 use Rattle.kube_objects.specs.Stored.{node_key}
-use Rattle.kube_objects.specs.Tainting.{Wants, Nothing, Wanted, Whatever, wants, has_condition, is_opposite}
-use Rattle.kube_objects.specs.Tick.{judge, push}
-use Rattle.kube_objects.specs.Tick.{add, for_each, has_settled, is_stripped, sync, mark_as, mark_seen, mark, is_same_mode, mode_as, set_mode, zone_as, zone, set_zones, marks, pass, clean_as, clean_seen, clean, cleaned, taint, tainted, evict, evicted, tick, whole_pass, add_untaint, add_swap}
-use Rattle.kube_objects.specs.Tokens.{is_zone, rated_says, rated, is_rated, has_rate, is_base, base, fills, fills_zone, grown, is_full, is_there}
-use Rattle.kube_objects.specs.Tries.{try_node}
+use Rattle.kube_objects.specs.Tick.{add, is_stripped, sync, set_mode, zone, set_zones, marks, pass, clean, cleaned, tainted, evict, evicted, tick}
+use Rattle.kube_objects.specs.Tokens.{is_zone, rated_says, rated, has_rate, is_base, base, fills, fills_zone, grown, is_full, is_there}
 use Rattle.kube_objects.proofs.Passes.{IsQuiet, and_last, counts_kept as quiet_counts, passes_grow, queue_grows}
 use Rattle.history_laws.proofs.Plainly.{false_is, true_is, none_is, some_is}
-use Rattle.history_laws.proofs.Ticks.{IsDeleteBy, MadeTick, IsPodKey, cleaned_each, evict_step, evicted_each, judge_step, push_step, tainted_each, walk_sync, walk_pass, walk_cleaned, walk_tainted, walk_evicted, walk_tick}
+use Rattle.history_laws.proofs.Ticks.{IsDeleteBy, MadeTick, WritesOver, IsPodKey, is_looking, is_cleaning, is_heading, evict_step, evicted_each, kept_sync, kept_mode, kept_zone, kept_rest, kept_pass, kept_clean, kept_cleaned, kept_tainted, walk_sync, walk_pass, walk_cleaned, walk_tainted, walk_evicted, walk_tick}
 use Rattle.tick_laws.specs.Judged.{waits_since}
 use Rattle.tick_laws.specs.Rows.{no_heads, IsFresh}
 use Rattle.tick_laws.specs.Since.{IsReached, AreReached}
@@ -37,7 +31,6 @@ use Rattle.watch_cache.proofs.Frames.{upper}
 use Rattle.watch_cache.specs.Stands.{is_tick_by}
 use Rattle.tick_laws.proofs.Foreign.{foreign_change}
 use Rattle.tick_laws.proofs.Reached.{own_reached, sync_reached, refused_node_reached, refused_pod_reached, refused_alone_reached}
-use Rattle.tick_laws.proofs.Tainting.{heading, taint_either}
 use Rattle.tick_laws.proofs.Waiting.{no_heads_more, delete_key, fresh_same}
 
 -- ---- the entries of each phase
@@ -49,120 +42,38 @@ is_passing (Mode on) = true
 is_passing (Zone place state rate) = true
 is_passing _ = false
 
-abbrev pub is_cleaning : Tick → Bool
-is_cleaning (Untaint name given written a) = true
-is_cleaning (Swap name wanted given written a) = true
-is_cleaning _ = false
-
-abbrev pub is_heading : Tick → Bool
-is_heading (Head place name wanted given written a) = true
-is_heading (Skip place name) = true
-is_heading _ = false
-
-abbrev pub is_deleting : Tick → Bool
-is_deleting (Delete pod given node_given at a) = true
-is_deleting _ = false
-
--- what a step for each of some things keeps
-pub every : {A : Type 0} (f : A → List Entry → List Entry) (P : List Entry → Type 0) → ((a : A) (h : List Entry) → P h → P (f a h)) → (xs : List A) (h : List Entry) → P h → P (for_each f xs h)
-every f P keeps [] h p = p
-every f P keeps (x ∷ xs) h p = every f P keeps xs (f x h) (keeps x h p)
+looking_passes : (t : Tick) → is_looking t ≡ true → is_passing t ≡ true
+looking_passes Pass is = refl
+looking_passes t is = is
 
 module _ (doc : Doc) (k : ℕ) (q : Identity) (P : List Entry → Type 0) where
-  pub sync_keeps : ((h : List Entry) → P h → P (add k q Sync h)) → (h : List Entry) → P h → P (sync doc k q h)
-  sync_keeps more h p = by_test (has_settled doc k q h && (watches doc q.process h && not (is_fresh q h)))
-    where
-      by_test : (b : Bool) → P (if b then add k q Sync h else h)
-      by_test true = more h p
-      by_test false = p
-
   module _ (more : (t : Tick) (h : List Entry) → is_passing t ≡ true → P h → P (add k q t h)) where
-    pub mark_step : (name : ℕ) (h : List Entry) → P h → P (mark doc k q name h)
-    mark_step name h p = by_seen (seen_node q name h)
-      where
-        by_mark : (x : Version × Node) (o : Option Node) → P (mark_as k q name x.0 o h)
-        by_mark x None = p
-        by_mark x (Some written) = more (Mark name x.0 written (try_node q name x.0 h)) h refl p
-
-        by_seen : (o : Option (Version × Node)) → P (mark_seen doc k q name o h)
-        by_seen None = p
-        by_seen (Some x) = by_mark x (mark_of doc q k name x.1 h)
+    looked : (t : Tick) (h : List Entry) → is_looking t ≡ true → MadeTick doc k q t h → WritesOver q t h → P h → P (add k q t h)
+    looked t h is made over p = more t h (looking_passes t is) p
 
     pub mode_step : (h : List Entry) → P h → P (set_mode doc k q h)
-    mode_step h p = by_mode (all_full doc (nodes q h))
-      where
-        by_test : (on b : Bool) → P (if b then h else add k q (Mode on) h)
-        by_test on true = p
-        by_test on false = more (Mode on) h refl p
-
-        by_mode : (on : Bool) → P (mode_as k q on h)
-        by_mode on = by_test on (is_same_mode on (mode q h))
+    mode_step = kept_mode doc k q P looked
 
     pub zone_step : (seen : List Node) (place : Place) (h : List Entry) → P h → P (zone doc k q seen place h)
-    zone_step seen place h p = by_state (state_in doc seen place) (rate_in doc (mode q h) seen place)
-      where
-        by_test : (s : ZoneState) (rate : ℕ) (b : Bool) → P (if b then h else add k q (Zone place s rate) h)
-        by_test s rate true = p
-        by_test s rate false = more (Zone place s rate) h refl p
-
-        by_state : (s : ZoneState) (rate : ℕ) → P (zone_as k q place s rate h)
-        by_state s rate = by_test s rate (is_rated s rate (rated q place h))
+    zone_step = kept_zone doc k q P looked
 
     -- marks, mode and zones, after the entry of the pass
     pub pass_rest : (h : List Entry) → P h → P (set_zones doc k q (set_mode doc k q (marks doc k q h)))
-    pass_rest h p =
-        let marked = marks doc k q h in
-        let moded = set_mode doc k q marked in
-        every (zone doc k q (nodes q moded)) P (zone_step (nodes q moded)) (places (nodes q moded)) moded
-        (mode_step marked (every (mark doc k q) P mark_step (node_names h) h p))
+    pass_rest = kept_rest doc k q P looked
 
     pub pass_keeps : (h : List Entry) → P h → P (pass doc k q h)
-    pass_keeps h p = by_test (is_pass_due doc k q h)
-      where
-        by_test : (b : Bool) → P (if b then whole_pass doc k q h else h)
-        by_test false = p
-        by_test true = pass_rest (add k q Pass h) (more Pass h refl p)
+    pass_keeps = kept_pass doc k q P (λ h p. more Pass h refl p) pass_rest
 
   module _ (more : (t : Tick) (h : List Entry) → is_cleaning t ≡ true → MadeTick doc k q t h → P h → P (add k q t h)) where
     pub clean_step : (name : ℕ) (h : List Entry) → P h → P (clean doc k q name h)
-    clean_step name h p = by_stale (is_stale q (node_key name) h) (seen_node q name h) refl
-      where
-        by_untaint : (x : Version × Node) → seen_node q name h ≡ Some x → (b : Bool) → P (if b then add_untaint k q name x.0 x.1 h else h)
-        by_untaint x is false = p
-        by_untaint x is true = more _ h refl (x.1, is, refl) p
-
-        by_swap : (x : Version × Node) → seen_node q name h ≡ Some x → (wanted : ℕ) (b : Bool) → P (if b then add_swap doc k q name x.0 x.1 wanted h else h)
-        by_swap x is wanted false = p
-        by_swap x is wanted true = more _ h refl (x.1, is, refl) p
-
-        by_wants : (x : Version × Node) → seen_node q name h ≡ Some x → (w : Wants) → P (clean_as doc k q name x.0 x.1 w h)
-        by_wants x is Nothing = by_untaint x is (has_condition x.1)
-        by_wants x is (Wanted wanted) = by_swap x is wanted (list_any (is_opposite wanted) x.1.taints)
-        by_wants x is Whatever = p
-
-        by_stale : (b : Bool) (o : Option (Version × Node)) → seen_node q name h ≡ o → P (clean_seen doc k q name b o h)
-        by_stale true o is = p
-        by_stale false None is = p
-        by_stale false (Some x) is = by_wants x is (wants (is_stripped doc.settings.rules.first_sight k q name h || mode q h) x.1)
-
-    pub judged_step : (x : Passed) (name : ℕ) (h : List Entry) → P h → P (judge doc k q x name h)
-    judged_step x name h p =
-        judge_step doc k q P x name h p (λ z is. more _ h refl (z.1, is, refl) p) (λ y z was is wanted wants. more _ h refl (z.1, is, refl) p)
+    clean_step = kept_clean doc k q P (λ t h is made over p. more t h is made p)
 
     pub cleaned_keeps : (h : List Entry) → P h → P (cleaned doc k q h)
-    cleaned_keeps h p = cleaned_each doc k q P clean_step judged_step h p
+    cleaned_keeps = kept_cleaned doc k q P (λ t h is made over p. more t h is made p)
 
   module _ (more : (t : Tick) (h : List Entry) → is_heading t ≡ true → MadeTick doc k q t h → P h → P (add k q t h)) where
-    pub taint_step : (place : Place) (h : List Entry) → P h → P (taint doc k q place h)
-    taint_step place h p =
-        taint_either doc k q place h P p (λ at n wanted w token head. more (heading doc k q place n wanted w.x (try_node q n w.x.0 h)) h refl (token, (w.x.1, w.sees, refl)) p)
-
-    pub pushed_step : (place : Place) (h : List Entry) → P h → P (push doc k q place h)
-    pushed_step place h p =
-        push_step doc k q P place h p (λ name token. more (Skip place name) h refl token p) (λ name x token is wanted wants. more _ h refl (token, (x.1, is, refl)) p)
-
     pub tainted_keeps : (h : List Entry) → P h → P (tainted doc k q h)
-    tainted_keeps h p = tainted_each doc k q P taint_step pushed_step h p
+    tainted_keeps = kept_tainted doc k q P (λ t h is made over p. more t h is made p)
 
   module _ (more : (pod : Key) (given node_given : Version) (at : ℕ) (a : Option Answer) (h : List Entry) → is_pod pod.kind ≡ true → P h → P (add k q (Delete pod given node_given at a) h)) where
     pub evict_keeps : (pod : Key) (h : List Entry) → IsPodKey pod → P h → P (evict doc k q pod h)
@@ -319,7 +230,7 @@ passing_alone t is = refl
 
 module _ (doc : Doc) (k : ℕ) (q : Identity) (h : List Entry) where
   pub sync_limits : KeepsLimits q h (sync doc k q h)
-  sync_limits = sync_keeps doc k q (KeepsLimits q h) (λ g s. limits_more q k h g Sync refl refl s) h (limits_same q h)
+  sync_limits = kept_sync doc k q (KeepsLimits q h) (λ g s. limits_more q k h g Sync refl refl s) h (limits_same q h)
 
   pub cleaned_limits : KeepsLimits q h (cleaned doc k q h)
   cleaned_limits =
@@ -357,7 +268,7 @@ module _ (doc : Doc) (k : ℕ) (q : Identity) (h : List Entry) where
   -- ---- before the queued taints there are none
 
   pub sync_heads : no_heads q k h ≡ true → no_heads q k (sync doc k q h) ≡ true
-  sync_heads = sync_keeps doc k q (λ g. no_heads q k g ≡ true) (λ g s. heads_kept q k g Sync refl s) h
+  sync_heads = kept_sync doc k q (λ g. no_heads q k g ≡ true) (λ g s. heads_kept q k g Sync refl s) h
 
   pub pass_heads : no_heads q k h ≡ true → no_heads q k (pass doc k q h) ≡ true
   pass_heads = pass_keeps doc k q (λ g. no_heads q k g ≡ true) (λ t g is s. heads_kept q k g t (passing_alone t is) s) h

@@ -25,9 +25,9 @@ use Rattle.kube_objects.specs.Tries.{try_node}
 use Rattle.kube_objects.proofs.Passes.{IsQuiet, and_last, counts_kept, passes_grow, queue_grows}
 use Rattle.kube_objects.proofs.Tokens.{token_is_there}
 use Rattle.history_laws.proofs.Plainly.{none_is, some_is}
+use Rattle.history_laws.proofs.Named.{insert_in, insert_keeps}
 use Rattle.tick_laws.specs.Changes.{turn_at, turn_by, turn_of}
 use Rattle.tick_laws.specs.Walks.{Among, after, is_after}
-use Rattle.tick_laws.proofs.Named.{insert_in, insert_keeps}
 use Rattle.tick_laws.proofs.Orders.{place_itself, places_strict, same_place}
 use Rattle.tick_laws.proofs.Tainting.{places_ascend}
 use Rattle.tick_laws.proofs.Walks.{walk_end, walk_next}
@@ -45,9 +45,9 @@ zone_has place (n ∷ ns) some = by_node (is_in place n) refl (zone_has place ns
 
     by_node : (b : Bool) → is_in place n ≡ b → (nat_lt 0 (size_in place ns) ≡ true → Among place (places ns)) → Among place (places (n ∷ ns))
     by_node true is later =
-        subst (λ p. Among p (places (n ∷ ns))) (same_place (place_of n) place is) (insert_in place_cmp places_strict (place_of n) (places ns))
+        subst (λ p. Among p (places (n ∷ ns))) (same_place (place_of n) place is) (insert_in place_cmp places_strict.same (place_of n) (places ns))
     by_node false is later =
-        insert_keeps place_cmp places_strict place (place_of n) (places ns)
+        insert_keeps place_cmp places_strict.same place (place_of n) (places ns)
         (later (sym (ap (nat_lt 0) (size ∙ ap (λ b. cond b 1 0 + size_in place ns) is ∙ nothing (size_in place ns))) ∙ some))
       where
         nothing : (n : ℕ) → 0 + n ≡ n

@@ -1,5 +1,5 @@
 -- A further delete is within the limit exactly where no more than the rest of the burst is owed.
-use Rattle.std.proofs.Common.{◌≡◌, ◌↔◌, ◌⊎◌, ℕ, ◌+◌, ◌-◌, ◌*◌, ◌≤◌, ◌<◌, ◌&&◌, nat_le, Bool, true, false, List, [], ◌∷◌, refl, sym, subst, inl, inr, ⊎_elim, ◌∙◌, arith}
+use Rattle.std.proofs.Common.{◌≡◌, ◌↔◌, ℕ, ◌+◌, ◌-◌, ◌*◌, ◌≤◌, ◌<◌, ◌&&◌, nat_le, Bool, true, false, List, [], ◌∷◌, refl, sym, subst, inl, inr, ◌∙◌, arith}
 use Rattle.std.proofs.lemmas.Bool.{leb-true, leb-false, le-leb}
 use Rattle.std.proofs.lemmas.Nat.{mul-le}
 use Rattle.kube_objects.specs.Clocks.{local}
@@ -10,7 +10,7 @@ use Rattle.kube_objects.specs.Tokens.{token_size}
 use Rattle.kube_objects.proofs.Clocks.{local_up}
 use Rattle.history_laws.specs.Order.{IsOrdered, IsWithin}
 use Rattle.history_laws.specs.Tails.{In}
-use Rattle.history_laws.proofs.Plainly.{true_is, false_is, and_left, and_right, and_both}
+use Rattle.history_laws.proofs.Plainly.{true_is, and_left, and_right, and_both}
 use Rattle.tick_laws.specs.Room.{owed, AreInBeats, AreUpTo, RoomIsOwed}
 
 -- ---- the order by beats

@@ -28,11 +28,12 @@ use Rattle.kube_objects.specs.Tick.{add, cleaned, has_settled, pass, sync, taint
 use Rattle.kube_objects.proofs.KeyOrder.{key_itself}
 use Rattle.history_laws.proofs.Plainly.{false_is, none_is, upper}
 use Rattle.history_laws.proofs.Sightings.{and_out, row_more, sight_apart, sight_last, sighted_same}
+use Rattle.history_laws.proofs.Ticks.{is_cleaning, is_heading}
 use Rattle.tick_laws.specs.Changes.{after_write, wrote_as}
 use Rattle.tick_laws.specs.Judged.{shown, sighted_as, due_by, term_due}
 use Rattle.tick_laws.specs.Sights.{AreSightsKept}
 use Rattle.tick_laws.proofs.Frames.{delete_change, gone_pod, node_shown, own_shown, pod_shown, same_node, same_pod}
-use Rattle.tick_laws.proofs.Phases.{is_passing, is_cleaning, is_heading, pass_keeps, cleaned_keeps, tainted_keeps}
+use Rattle.tick_laws.proofs.Phases.{is_passing, pass_keeps, cleaned_keeps, tainted_keeps}
 use Rattle.tick_laws.proofs.Ticked.{own_before}
 use Rattle.tick_laws.proofs.Tried.{same_dues}
 use Rattle.watch_cache.specs.Kept.{of_kind}

@@ -26,13 +26,14 @@ use Rattle.kube_objects.specs.Tokens.{is_base, base, rated, has_token, is_full, 
 use Rattle.kube_objects.specs.Tries.{try_node}
 use Rattle.kube_objects.proofs.Tokens.{token_is_there}
 use Rattle.history_laws.proofs.Plainly.{none_is, some_is}
+use Rattle.history_laws.proofs.Named.{insert_in, insert_keeps}
 use Rattle.tick_laws.specs.Changes.{IsChange, noted_by}
 use Rattle.tick_laws.specs.Judged.{key_if, waits_since, is_dirty, seen_due}
 use Rattle.tick_laws.specs.Rows.{IsFresh}
 use Rattle.tick_laws.specs.Walks.{Among, Ascends, is_after, after}
 use Rattle.tick_laws.proofs.Frames.{mild_change, head_is, given_node, noted_node}
 use Rattle.tick_laws.proofs.Heads.{head_none, head_waits}
-use Rattle.tick_laws.proofs.Named.{insert_in, insert_keeps, ascends_insert, node_is_named}
+use Rattle.tick_laws.proofs.Named.{ascends_insert, node_is_named}
 use Rattle.tick_laws.proofs.Orders.{places_strict, same_place, place_itself}
 use Rattle.tick_laws.proofs.Tried.{noted_waits, refused_waits, noted_dirty, same_dirties, noted_due, same_dues}
 use Rattle.tick_laws.proofs.Waiting.{head_key, other_since, fresh_same, fresh_head}
@@ -55,12 +56,12 @@ place_among q h n x sees (m ∷ ms) (inl is) = by_seen (seen_node q m h) (ap (λ
     by_seen None same = absurd (none_is x same)
     by_seen (Some y) same =
         subst (λ (p : Version × Node). Among (place_of p.1) (insert_once place_cmp (place_of y.1) (places (nodes_among q ms h)))) (some_is y x same)
-        (insert_in place_cmp places_strict (place_of y.1) (places (nodes_among q ms h)))
+        (insert_in place_cmp places_strict.same (place_of y.1) (places (nodes_among q ms h)))
 place_among q h n x sees (m ∷ ms) (inr there) = by_seen (seen_node q m h) (place_among q h n x sees ms there)
   where
     by_seen : (o : Option (Version × Node)) → Among (place_of x.1) (places (nodes_among q ms h)) → Among (place_of x.1) (places (and_node o (nodes_among q ms h)))
     by_seen None later = later
-    by_seen (Some y) later = insert_keeps place_cmp places_strict (place_of x.1) (place_of y.1) (places (nodes_among q ms h)) later
+    by_seen (Some y) later = insert_keeps place_cmp places_strict.same (place_of x.1) (place_of y.1) (places (nodes_among q ms h)) later
 
 -- the zone of a node that is seen
 pub seen_place : (q : Identity) (h : List Entry) (n : ℕ) (x : Version × Node) → seen_node q n h ≡ Some x → Among (place_of x.1) (places (nodes q h))

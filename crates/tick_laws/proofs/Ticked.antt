@@ -19,13 +19,13 @@ use Rattle.kube_objects.specs.Tick.{add, sync, pass, clean, cleaned, taint_as, t
 use Rattle.kube_objects.specs.Tokens.{has_token}
 use Rattle.kube_objects.specs.Wire.{loses_requests}
 use Rattle.history_laws.proofs.Ticks.{walk_sync, walk_pass, walk_cleaned, walk_tainted, walk_evicted}
+use Rattle.history_laws.proofs.Named.{named_keeps}
 use Rattle.tick_laws.specs.Ticked.{ticked, IsTicked}
 use Rattle.tick_laws.specs.Walks.{Among}
 use Rattle.tick_laws.proofs.Cleaning.{clean_either}
 use Rattle.tick_laws.proofs.Evicting.{evict_either}
 use Rattle.tick_laws.proofs.Frames.{own_synced}
 use Rattle.tick_laws.proofs.Judging.{judge_either}
-use Rattle.tick_laws.proofs.Named.{named_keeps}
 use Rattle.tick_laws.proofs.Orders.{names_strict, keys_strict}
 use Rattle.tick_laws.proofs.Syncing.{sync_synced}
 use Rattle.watch_cache.proofs.Ticks.{same_self}
@@ -76,10 +76,10 @@ module _ (q : Identity) (k : ℕ) (h g : List Entry) (s : IsTicked q k h g) wher
   ticked_watches doc p = ticked_keeps q k (λ g. watches doc p g ≡ watches doc p h) (λ t g is. is) h g s refl
 
   pub ticked_node_names : (n : ℕ) → Among n (node_names h) → Among n (node_names g)
-  ticked_node_names n there = ticked_keeps q k (λ g. Among n (node_names g)) (λ t g. named_keeps nat_cmp names_strict node_name n (named node_name (tick_write t)) (node_names g)) h g s there
+  ticked_node_names n there = ticked_keeps q k (λ g. Among n (node_names g)) (λ t g. named_keeps nat_cmp names_strict.same node_name n (named node_name (tick_write t)) (node_names g)) h g s there
 
   pub ticked_pod_keys : (key : Key) → Among key (pod_keys h) → Among key (pod_keys g)
-  ticked_pod_keys key there = ticked_keeps q k (λ g. Among key (pod_keys g)) (λ t g. named_keeps key_cmp keys_strict pod_key key (named pod_key (tick_write t)) (pod_keys g)) h g s there
+  ticked_pod_keys key there = ticked_keeps q k (λ g. Among key (pod_keys g)) (λ t g. named_keeps key_cmp keys_strict.same pod_key key (named pod_key (tick_write t)) (pod_keys g)) h g s there
 
   -- a term that has synced stays so
   pub ticked_synced : is_synced q h ≡ true → is_synced q g ≡ true

@@ -1,18 +1,15 @@
 -- Lists in strict order, and what of them comes after a place in them.
-use Rattle.std.specs.Prelude.{◌≡◌, ◌⊎◌, Bool, true, cond, List, [], ◌∷◌, Option, Some, None}
+use Rattle.std.specs.Prelude.{◌≡◌, Bool, true, cond, List, [], ◌∷◌, Option, Some, None}
 use Rattle.std.specs.Cmp.{IsTotalOrder}
 use Rattle.std.specs.Ordering.{is_lt}
 use Rattle.std.specs.declared.cmp.Ordering.{Ordering}
 use Rattle.std.specs.declared.cmp.Ordering.TheVariants.{Less, Equal}
+pub use Rattle.history_laws.specs.Tails.{Among}
 
 -- an order that tells things apart
 pub record IsStrict {A : Type 0} (compare : A → A → Ordering) : Type 0 where
   pub total : IsTotalOrder compare
   pub same : (a b : A) → compare a b ≡ Equal → a ≡ b
-
-abbrev pub Among : {A : Type 0} → A → List A → Type 0
-Among x [] = ⊥
-Among x (y ∷ ys) = (x ≡ y) ⊎ Among x ys
 
 -- all come after this one
 abbrev pub Above : {A : Type 0} → (A → A → Ordering) → A → List A → Type 0

@@ -2,7 +2,7 @@
 use kube_base::{KUBE_NODE_LEASE, ListOf, NoMemory, Wall};
 use kube_objects::{
     Effect, Holder, Key, Kind, Lease, Node, Object, Operator, Pod, Ready, ReadyStatus, Taint,
-    Taints, Toleration, Tolerations,
+    Taints, Toleration, TolerationList, Tolerations,
 };
 use object_store::Store;
 use std::alloc::Global;
@@ -87,7 +87,10 @@ fn ready(status: ReadyStatus, heartbeat: i64) -> Ready {
     }
 }
 
-fn add_toleration(tolerations: &mut Tolerations, key: Option<(u32, i64)>) -> Result<(), NoMemory> {
+fn add_toleration(
+    tolerations: &mut TolerationList,
+    key: Option<(u32, i64)>,
+) -> Result<(), NoMemory> {
     let Some((key, seconds)) = key else {
         return Ok(());
     };
@@ -120,6 +123,58 @@ fn any_taint() -> Toleration {
     }
 }
 
+fn node(region: u32, zone: u32, taints: Taints, ready: Option<Ready>) -> Node {
+    Node {
+        region,
+        zone,
+        taints,
+        ready,
+    }
+}
+
+fn put_node(store: &mut Store, name: u32, node: Node, now: Wall) -> Result<(), NoMemory> {
+    put(store, Key::node(name), Object::Node(node), now)
+}
+
+fn put_lease(store: &mut Store, name: u32, renewed: i64, now: Wall) -> Result<(), NoMemory> {
+    let renewed = Wall(EPOCH.saturating_add_signed(renewed.saturating_mul(1_000)));
+    put(
+        store,
+        key(Kind::Lease, KUBE_NODE_LEASE, name),
+        Object::Lease(lease(renewed)),
+        now,
+    )
+}
+
+fn put_pod(store: &mut Store, name: u32, pod: Pod, now: Wall) -> Result<(), NoMemory> {
+    put(
+        store,
+        key(Kind::Pod, NAMESPACE, name),
+        Object::Pod(pod),
+        now,
+    )
+}
+
+fn pod(
+    alloc: Global,
+    node: u32,
+    first: Option<(u32, i64)>,
+    second: Option<(u32, i64)>,
+) -> Result<Pod, NoMemory> {
+    let mut list = TolerationList::new(alloc);
+    add_toleration(&mut list, first)?;
+    add_toleration(&mut list, second)?;
+    let tolerations = Tolerations::of(list)?;
+    Ok(Pod { node, tolerations })
+}
+
+fn daemon(alloc: Global, node: u32) -> Result<Pod, NoMemory> {
+    let mut list = TolerationList::new(alloc);
+    list.push(any_taint())?;
+    let tolerations = Tolerations::of(list)?;
+    Ok(Pod { node, tolerations })
+}
+
 /// Writes what a change writes. A watch and a loss write nothing.
 pub(crate) fn write(
     alloc: Global,
@@ -129,64 +184,24 @@ pub(crate) fn write(
 ) -> Result<(), NoMemory> {
     match change {
         Change::Node(name, zone, status, added) => {
-            let node = Node {
-                region: REGION,
-                zone,
-                taints: taints(alloc, added)?,
-                ready: Some(ready(status, 0)),
-            };
-            put(store, key(Kind::Node, 0, name), Object::Node(node), now)
+            let taints = taints(alloc, added)?;
+            put_node(
+                store,
+                name,
+                node(REGION, zone, taints, Some(ready(status, 0))),
+                now,
+            )
         }
-        Change::BareNode(name) => {
-            let node = Node {
-                region: 0,
-                zone: 0,
-                taints: ListOf::new(alloc),
-                ready: None,
-            };
-            put(store, key(Kind::Node, 0, name), Object::Node(node), now)
-        }
+        Change::BareNode(name) => put_node(store, name, node(0, 0, ListOf::new(alloc), None), now),
         Change::Status(name, status, heartbeat) => {
-            let node = Node {
-                region: 0,
-                zone: 0,
-                taints: ListOf::new(alloc),
-                ready: Some(ready(status, heartbeat)),
-            };
-            put(store, key(Kind::Node, 0, name), Object::Node(node), now)
+            let posted = node(0, 0, ListOf::new(alloc), Some(ready(status, heartbeat)));
+            put_node(store, name, posted, now)
         }
-        Change::NodeLease(name, renewed) => {
-            let renewed = Wall(EPOCH.saturating_add_signed(renewed.saturating_mul(1_000)));
-            put(
-                store,
-                key(Kind::Lease, KUBE_NODE_LEASE, name),
-                Object::Lease(lease(renewed)),
-                now,
-            )
-        }
+        Change::NodeLease(name, renewed) => put_lease(store, name, renewed, now),
         Change::Pod(name, node, first, second) => {
-            let mut tolerations = ListOf::new(alloc);
-            add_toleration(&mut tolerations, first)?;
-            add_toleration(&mut tolerations, second)?;
-            let pod = Pod { node, tolerations };
-            put(
-                store,
-                key(Kind::Pod, NAMESPACE, name),
-                Object::Pod(pod),
-                now,
-            )
+            put_pod(store, name, pod(alloc, node, first, second)?, now)
         }
-        Change::Daemon(name, node) => {
-            let mut tolerations = ListOf::new(alloc);
-            tolerations.push(any_taint())?;
-            let pod = Pod { node, tolerations };
-            put(
-                store,
-                key(Kind::Pod, NAMESPACE, name),
-                Object::Pod(pod),
-                now,
-            )
-        }
+        Change::Daemon(name, node) => put_pod(store, name, daemon(alloc, node)?, now),
         Change::Renewal => put(store, Key::ELECTION, Object::Lease(lease(now)), now),
         Change::Watch(_) | Change::Passes(_) => Ok(()),
     }

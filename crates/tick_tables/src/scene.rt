@@ -7,8 +7,7 @@ use crate::rows::{Pace, Renewals, Row, Span};
 use controller_core::Term;
 use kube_base::{Beat, Local, NoMemory, ProcId, Steps, Version, Wall};
 use kube_objects::{
-    BucketRule, EvictRule, JudgeRule, ProbeRule, QueueRule, ReleaseActing, ReleaseRule, Reply,
-    RespectRule, RetryRule, SightRule, TickSettings,
+    ReleaseActing, ReleaseRule, Reply, RespectRule, RetryRule, Rules, TickSettings,
 };
 use leader_elector::{Candidate, CandidateNext, Leading, Timing};
 use object_store::Store;
@@ -53,9 +52,10 @@ fn time(pace: Pace, beat: u16) -> Wall {
 fn settings(row: &Row) -> TickSettings
     ensures { result.secondary_rate ≤ result.primary_rate }
 {
+    let rules = Rules::own();
     TickSettings {
-        first_sync_millis: 0,
-        probe: ProbeRule::Run,
+        first_sync_millis: rules.first_sync_millis,
+        probe: rules.probe,
         monitor_period_millis: 5_000,
         grace_period_millis: row.grace_millis,
         startup_grace_millis: 60_000,
@@ -65,15 +65,15 @@ fn settings(row: &Row) -> TickSettings
         large_zone: 50,
         unhealthy_percent: 55,
         rate_policy: row.policy,
-        judge: JudgeRule::Tick,
-        first_sight: SightRule::Keep,
-        queue: QueueRule::Once,
-        bucket: BucketRule::Empty,
-        evict_from: EvictRule::Added,
-        evict_burst: 0,
-        evict_rate: 20_000,
-        ready_millis: 0,
-        ready_burst: 0,
+        judge: rules.judge,
+        first_sight: rules.first_sight,
+        queue: rules.queue,
+        bucket: rules.bucket,
+        evict_from: rules.evict_from,
+        evict_burst: rules.evict_burst,
+        evict_rate: rules.evict_rate,
+        ready_millis: rules.ready_millis,
+        ready_burst: rules.ready_burst,
     }
 }
 

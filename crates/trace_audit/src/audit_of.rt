@@ -35,7 +35,7 @@ pub const OUTSIDE: u32 = 42;
 /// The code of a taint line that breaks the spacing.
 pub const SPACING: u32 = 43;
 
-/// Reads the text of a trace, and reports on it where it is safe: where no two identities lead at one beat, leaders alone act,
+/// Reads the text of a trace, and reports on it if it is safe: if no two identities lead at one beat, leaders alone act,
 /// and taints are spaced. Otherwise it refuses it with a code, and the first line at fault.
 ///
 /// The lines are read once, from the last to the first, so that a lead's line is met when the end of its span is known.

@@ -17,7 +17,7 @@ pub(crate) struct Pass {
     pub(crate) header: Header,
     /// The first line that is wrong or missing.
     pub(crate) wrong: Option<u64>,
-    /// The beat of the first of these lines, where it is of a form.
+    /// The beat of the first of these lines, if it is of a form.
     pub(crate) next: Option<u32>,
     pub(crate) review: Review,
 }

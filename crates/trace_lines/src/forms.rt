@@ -18,7 +18,7 @@ pub(crate) enum Sort {
     Kubelet,
 }
 
-/// What a line behind the first says, without its line feed, where it is of a form.
+/// What a line behind the first says, without its line feed, if it is of a form.
 #[tactic(auto, unfolding(crate::specs::Forms::line_of))]
 pub fn read_line(text: &[u8]) -> Option<Line<&[u8]>>
     ensures line { Reads seen result (spec.line_of text.now) }

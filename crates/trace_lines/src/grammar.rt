@@ -60,7 +60,7 @@ fn digits(text: &[u8], most: u64) -> Option<u64>
     Some(number)
 }
 
-/// The number with one more digit, where it is at most `most`.
+/// The number with one more digit, if it is at most `most`.
 fn number_and_digit(number: u64, digit: u8, most: u64) -> Option<u64>
     requires { digit < 10 }
     ensures { MatchOption result (most < 10 * number + digit) (λ next. (next ≡ 10 * number + digit) × (next ≤ most)) }

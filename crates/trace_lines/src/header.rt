@@ -18,7 +18,7 @@ pub struct Header {
 /// The greatest last beat: seven days of beats of 1 ms.
 pub(crate) const LAST_BEAT: u64 = 604_800_000;
 
-/// What the first line says, where it is one.
+/// What the first line says, if it is one.
 #[tactic(auto, unfolding(crate::specs::Headers::header_of))]
 pub fn read_header(text: &[u8]) -> Option<Header>
     ensures header { result ≡ spec.header_of text.now }

@@ -33,7 +33,7 @@ pub enum Says<T> {
     Stall(u32),
     /// The version of the success.
     Lead(u64),
-    /// A write of the election Lease: how it was answered, and the transitions written, 0 where it wasn't taken.
+    /// A write of the election Lease: how it was answered, and the transitions written, 0 if it wasn't taken.
     Election(Verb, Answer, u32),
     /// A write of a node's Lease: the node.
     NodeLease(Verb, T, Answer),

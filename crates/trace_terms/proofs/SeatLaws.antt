@@ -4,12 +4,13 @@ use Rattle.std.specs.List.{filter, cons_option}
 use mathlib.Core.List.{reverse-cons}
 use Rattle.std.specs.Str.{bytes_eq}
 use Rattle.kube_base.specs.Names.{with_name}
+use Rattle.trace_terms.specs.declared.mark.Mark.{Mark}
 use Rattle.trace_terms.specs.declared.role.Role.{Role}
 use Rattle.trace_terms.specs.declared.role.Role.TheVariants.{Leads, Ends, Zones, Taints, Acts, Idles}
 use Rattle.trace_terms.specs.declared.seat.Seat.{Seat}
 use Rattle.trace_terms.specs.Entries.{Entry}
 use Rattle.trace_terms.specs.Terms.{ended, own, own_with, is_lead, is_end, is_acting, is_taint}
-use Rattle.trace_terms.specs.Findings.{earlier, least, numbers, zone_line, zone_lines, different, greatest, zones_of, rate_of, start_of, taints_of, mark_of}
+use Rattle.trace_terms.specs.Findings.{earlier, least, numbers, zone_line, zone_lines, different, greatest, taints_of, mark_of}
 use Rattle.trace_terms.specs.Seats.{blank, acted, after, Sits, SeatStands, AreAfter}
 
 -- ---- one line more
@@ -68,14 +69,19 @@ marks-with role e acts is = ap (λ r. reverse (map mark_of (cond (is_taint r) (e
     by true = reverse-cons (mark_of e) (map mark_of taints)
     by false = refl
 
--- with a line that is of no zone the zone lines are as before
-unzoned : (e : Entry) (acts : List Entry) (to : ℕ) (s : Seat) → zone_lines (e ∷ acts) ≡ zone_lines acts → Sits to acts s
-    → (s.zones ≡ zones_of (e ∷ acts)) × (s.rate ≡ rate_of (e ∷ acts)) × (s.start ≡ start_of (e ∷ acts))
-unzoned e acts to s same h = (
-  h.zones ∙ ap (λ ls. different (map (λ z. z.zone) ls)) (sym same),
-  h.rate ∙ ap (λ ls. greatest (map (λ z. z.rate) ls)) (sym same),
-  h.start ∙ ap (λ ls. slice_get (map (λ z. z.beat) ls) 0) (sym same),
-)
+-- an acting line of no zone, with the taints that are told of
+sits-unzoned : (e : Entry) (acts : List Entry) (to : ℕ) (s : Seat) → zone_lines (e ∷ acts) ≡ zone_lines acts → Sits to acts s
+    → (taints : List Mark) → taints ≡ taints_of (e ∷ acts) → Sits to (e ∷ acts) (record (acted e.beat e.line s) { taints = taints })
+sits-unzoned e acts to s same h taints told =
+    record {
+      until = h.until;
+      first = ap (λ l. earlier (Some e.line) l) h.first;
+      late = acted-late to e acts s h;
+      zones = h.zones ∙ ap (λ ls. different (map (λ z. z.zone) ls)) (sym same);
+      rate = h.rate ∙ ap (λ ls. greatest (map (λ z. z.rate) ls)) (sym same);
+      start = h.start ∙ ap (λ ls. slice_get (map (λ z. z.beat) ls) 0) (sym same);
+      taints = told;
+    }
 
 sits-act : (role : Role (List ℕ)) (to : ℕ) (e : Entry) (acts : List Entry) (s : Seat) → e.role ≡ role → is_acting role ≡ true → Sits to acts s
     → Sits to (e ∷ acts) (after role e.beat e.line s)
@@ -94,27 +100,8 @@ sits-act (Zones zone rate) to e acts s is acting h =
       taints = h.taints ∙ sym (marks-with (Zones zone rate) e acts is);
     }
 sits-act Taints to e acts s is acting h =
-    let same = unzoned e acts to s (lines-with Taints e acts is) h in
-    record {
-      until = h.until;
-      first = ap (λ l. earlier (Some e.line) l) h.first;
-      late = acted-late to e acts s h;
-      zones = same.0;
-      rate = same.1;
-      start = same.2;
-      taints = ap (λ ts. ts ++ mark_of e ∷ []) h.taints ∙ sym (marks-with Taints e acts is);
-    }
-sits-act Acts to e acts s is acting h =
-    let same = unzoned e acts to s (lines-with Acts e acts is) h in
-    record {
-      until = h.until;
-      first = ap (λ l. earlier (Some e.line) l) h.first;
-      late = acted-late to e acts s h;
-      zones = same.0;
-      rate = same.1;
-      start = same.2;
-      taints = h.taints ∙ sym (marks-with Acts e acts is);
-    }
+    sits-unzoned e acts to s (lines-with Taints e acts is) h (s.taints ++ mark_of e ∷ []) (ap (λ ts. ts ++ mark_of e ∷ []) h.taints ∙ sym (marks-with Taints e acts is))
+sits-act Acts to e acts s is acting h = sits-unzoned e acts to s (lines-with Acts e acts is) h s.taints (h.taints ∙ sym (marks-with Acts e acts is))
 
 -- ---- lines behind a beat
 

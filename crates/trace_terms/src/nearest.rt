@@ -18,7 +18,7 @@ pub struct Nearest {
 }
 
 impl Nearest {
-    /// The first span of another identity, where it begins before this beat: its line.
+    /// The first span of another identity, if it begins before this beat: its line.
     pub fn overlap(self, who: usize, to: u32) -> Option<u64>
         ensures { result ≡ spec.begun_before to (spec.another self who) }
     {

@@ -42,7 +42,7 @@ impl Roll {
         self.texts.len()
     }
 
-    /// The place of a text, which is added where it is new.
+    /// The place of a text, which is added if it is new.
     pub fn place(&mut self, text: &[u8]) -> Result<usize, NoMemory>
         ensures place { IfOk result (λ place. place ≡ number_in self.old text.now) }
         ensures held { OnOk result (self.new ≡ with_name self.old text.now) }

@@ -5,8 +5,8 @@ ghost use Rattle.trace_terms.specs.Findings as spec;
 use crate::earlier::earlier;
 use crate::mark::Mark;
 
-/// The first of the taint lines of a term, which stand here from the last to the first, that breaks the spacing: where there is no zone
-/// line, or where it comes too soon after the one as many taint lines before it as there are zones, or after the first zone line where
+/// The first of the taint lines of a term, which stand here from the last to the first, that breaks the spacing: if there is no zone
+/// line, or if it comes too soon after the one as many taint lines before it as there are zones, or after the first zone line if
 /// there are fewer.
 pub(crate) fn first_breaking(
     millis: u32,

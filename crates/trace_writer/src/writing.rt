@@ -30,7 +30,7 @@ pub struct FirstLine {
 /// The room that most lines fit into, in bytes.
 const USUAL: usize = 128;
 
-/// Writes the first line of a trace, with whether the lease premise holds. After a fault or want of memory a prefix of it was given.
+/// Writes the first line of a trace, with whether the lease premise holds. After a fault, or out of memory, a prefix of it was given.
 pub fn write_first<K: Sink>(
     alloc: Global,
     sink: &mut K,

@@ -1,5 +1,6 @@
 -- An index goes with the objects that it lists.
 use Rattle.std.proofs.Common.{◌≡◌, ℕ, Bool, true, false, cond, not, ◌&&◌, ◌||◌, Option, None, refl, sym, ap, ◌∙◌}
+use Rattle.std.proofs.lemmas.Bool.{and_parts}
 use Rattle.kube_base.specs.declared.numbers.Version.{Version}
 use Rattle.kube_objects.specs.declared.key.Key.{Key}
 use Rattle.kube_objects.specs.declared.object.Object.{Object}
@@ -99,27 +100,19 @@ stays true false has is there = absurd (cc)
 stays false true has is there = absurd (cc)
 stays false false has is there = refl
 
-first_of : (b c : Bool) → (b && c) ≡ true → b ≡ true
-first_of true c is = refl
-first_of false c is = is
-
-second_of : (b c : Bool) → (b && c) ≡ true → c ≡ true
-second_of true c is = is
-second_of false c is = absurd (cc)
-
 -- what is under a key is listed
 pub node_there : (objects : Shown) (index : Index) (key : Key) (was : Option (Version × Object)) (n : ℕ) → IsIndexed objects index → was ≡ objects key
     → (key_eq key (node_key n) && is_node_in was) ≡ true → has_node index n ≡ true
 node_there objects index key was n s old there =
     s.nodes n
-    ∙ ap (λ k. is_node_in (objects k)) (sym (same_key key (node_key n) (first_of (key_eq key (node_key n)) (is_node_in was) there)))
+    ∙ ap (λ k. is_node_in (objects k)) (sym (same_key key (node_key n) (and_parts (key_eq key (node_key n)) (is_node_in was) there).0))
     ∙ ap is_node_in (sym old)
-    ∙ second_of (key_eq key (node_key n)) (is_node_in was) there
+    ∙ (and_parts (key_eq key (node_key n)) (is_node_in was) there).1
 
 pub pod_there : (objects : Shown) (index : Index) (key : Key) (was : Option (Version × Object)) (n : ℕ) (k : Key) → IsIndexed objects index → was ≡ objects key
     → (is_pod_in n was && key_eq key k) ≡ true → has_pod index n k ≡ true
 pod_there objects index key was n k s old there =
     s.pods n k
-    ∙ ap (λ x. is_pod_in n (objects x)) (sym (same_key key k (second_of (is_pod_in n was) (key_eq key k) there)))
+    ∙ ap (λ x. is_pod_in n (objects x)) (sym (same_key key k (and_parts (is_pod_in n was) (key_eq key k) there).1))
     ∙ ap (is_pod_in n) (sym old)
-    ∙ first_of (is_pod_in n was) (key_eq key k) there
+    ∙ (and_parts (is_pod_in n was) (key_eq key k) there).0

@@ -17,9 +17,9 @@ use Rattle.kube_objects.specs.Feeds.{is_among}
 use Rattle.kube_objects.specs.Keys.{key_cmp, key_eq, kind_rank}
 use Rattle.kube_objects.specs.contracts.key.KeyOrd.TheImpl as key_ord
 use Rattle.kube_objects.proofs.KeyOrder.{key_order, same_key, key_itself}
+use Rattle.key_map.proofs.Pairs.{pair_eq, pairs_by}
 use Rattle.watch_cache.specs.Listed.{is_named, placed_cmp}
 use Rattle.watch_cache.specs.Told.{AreListed}
-use Rattle.watch_cache.proofs.Orders.{pair_eq, pairs_by}
 
 abbrev pub Pair : Type 0
 Pair = ℕ × Key

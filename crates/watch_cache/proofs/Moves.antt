@@ -1,5 +1,6 @@
 -- An object is listed before its old listing goes, or the new one goes again.
 use Rattle.std.proofs.Common.{◌≡◌, ℕ, ◌==◌, ◌&&◌, ◌||◌, not, Bool, true, false, Option, None, Result, Ok, Err, OnOk, OnErr, refl, sym, ap, ◌∙◌, subst}
+use Rattle.std.proofs.lemmas.Bool.{and_parts, eqb-true}
 use Rattle.kube_base.specs.declared.numbers.Version.{Version}
 use Rattle.kube_objects.specs.declared.key.Key.{Key}
 use Rattle.kube_objects.specs.declared.object.Object.{Object}
@@ -14,15 +15,7 @@ use Rattle.watch_cache.specs.Indexed.{IsIndexed}
 use Rattle.watch_cache.specs.Kept.{is_node_in, is_pod_in}
 use Rattle.watch_cache.specs.Listed.{has_node, has_pod, lists_node, lists_pod}
 use Rattle.watch_cache.proofs.IndexLaws.{Shown, indexed_as, indexed_over, node_there, pod_there, stays, with}
-use Rattle.watch_cache.proofs.Same.{own_listing, same_number}
-
-first_of : (b c : Bool) → (b && c) ≡ true → b ≡ true
-first_of true c is = refl
-first_of false c is = is
-
-second_of : (b c : Bool) → (b && c) ≡ true → c ≡ true
-second_of true c is = is
-second_of false c is = absurd (cc)
+use Rattle.watch_cache.proofs.Same.{own_listing}
 
 -- ---- one entry of the index
 
@@ -40,7 +33,7 @@ undone false has none = refl
 -- ---- listings with a common entry are one
 
 same_node : (a b : Listing) (n : ℕ) → lists_node a n ≡ true → lists_node b n ≡ true → a ≡ b
-same_node (Node i) (Node j) n is also = ap Node (same_number i n is ∙ sym (same_number j n also))
+same_node (Node i) (Node j) n is also = ap Node (eqb-true i n is ∙ sym (eqb-true j n also))
 same_node (Node i) Nowhere n is also = absurd (cc)
 same_node (Node i) (Pod j k) n is also = absurd (cc)
 same_node Nowhere b n is also = absurd (cc)
@@ -48,8 +41,8 @@ same_node (Pod i k) b n is also = absurd (cc)
 
 same_pod : (a b : Listing) (n : ℕ) (key : Key) → lists_pod a n key ≡ true → lists_pod b n key ≡ true → a ≡ b
 same_pod (Pod i k) (Pod j l) n key is also =
-    let node : i ≡ j = same_number i n (first_of (i == n) (key_eq k key) is) ∙ sym (same_number j n (first_of (j == n) (key_eq l key) also)) in
-    let pod : k ≡ l = same_key k key (second_of (i == n) (key_eq k key) is) ∙ sym (same_key l key (second_of (j == n) (key_eq l key) also)) in
+    let node : i ≡ j = eqb-true i n (and_parts (i == n) (key_eq k key) is).0 ∙ sym (eqb-true j n (and_parts (j == n) (key_eq l key) also).0) in
+    let pod : k ≡ l = same_key k key (and_parts (i == n) (key_eq k key) is).1 ∙ sym (same_key l key (and_parts (j == n) (key_eq l key) also).1) in
     λ x. Pod (node x) (pod x)
 same_pod (Pod i k) Nowhere n key is also = absurd (cc)
 same_pod (Pod i k) (Node j) n key is also = absurd (cc)
@@ -71,13 +64,13 @@ pub node_absent : (objects : Shown) (index : Index) (key : Key) (n : ℕ) (b : B
     → (key_eq key (node_key n) && b) ≡ true → has_node index n ≡ false
 node_absent objects index key n b s none is =
     s.nodes n
-    ∙ ap (λ k. is_node_in (objects k)) (sym (same_key key (node_key n) (first_of (key_eq key (node_key n)) b is)))
+    ∙ ap (λ k. is_node_in (objects k)) (sym (same_key key (node_key n) (and_parts (key_eq key (node_key n)) b is).0))
     ∙ ap is_node_in none
 
 pub pod_absent : (objects : Shown) (index : Index) (key k : Key) (n : ℕ) (b : Bool) → IsIndexed objects index → objects key ≡ None
     → (b && key_eq key k) ≡ true → has_pod index n k ≡ false
 pod_absent objects index key k n b s none is =
-    s.pods n k ∙ ap (λ k. is_pod_in n (objects k)) (sym (same_key key k (second_of b (key_eq key k) is))) ∙ ap (is_pod_in n) none
+    s.pods n k ∙ ap (λ k. is_pod_in n (objects k)) (sym (same_key key k (and_parts b (key_eq key k) is).1)) ∙ ap (is_pod_in n) none
 
 -- ---- the same index
 

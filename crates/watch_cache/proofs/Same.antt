@@ -1,6 +1,6 @@
 -- Listings and taints that the derived tests tell equal are one.
-use Rattle.std.proofs.Common.{◌≡◌, ℕ, ◌&&◌, ◌==◌, Bool, true, false, Option, Some, None, List, [], ◌∷◌, refl, ap, ◌∙◌, arith}
-use Rattle.std.proofs.lemmas.Bool.Decides.{nat_tests}
+use Rattle.std.proofs.Common.{◌≡◌, ◌&&◌, ◌==◌, Bool, true, Option, Some, None, List, [], ◌∷◌, refl, ap, ◌∙◌}
+use Rattle.std.proofs.lemmas.Bool.{and_parts, eq-eqb, eqb-true}
 use Rattle.std.specs.Cmp.Lexicographic.{pointwise}
 use Rattle.std.specs.Option.{option_eq}
 use Rattle.kube_base.specs.declared.numbers.Wall.{Wall}
@@ -29,44 +29,27 @@ same_kind kind.Lease kind.Lease is = refl
 same_kind kind.Pod kind.Pod is = refl
 same_kind a b is = absurd (cc)
 
-first_of : (b c : Bool) → (b && c) ≡ true → b ≡ true
-first_of true c is = refl
-first_of false c is = is
-
-second_of : (b c : Bool) → (b && c) ≡ true → c ≡ true
-second_of true c is = is
-second_of false c is = absurd (cc)
-
-pub same_number : (a b : ℕ) → (a == b) ≡ true → a ≡ b
-same_number a b is = grind (arith, nat_tests)
-
-own_number : (a : ℕ) → (a == a) ≡ true
-own_number a = grind (arith, nat_tests)
-
 key_parts : (a b : Key) → (keys.eq-value).it a b ≡ ((kinds.eq-value).it a.kind b.kind && ((a.space == b.space) && (a.name == b.name)))
 key_parts a b = refl
 
 same_key : (a b : Key) → (keys.eq-value).it a b ≡ true → a ≡ b
 same_key a b is =
-    let kind : a.kind ≡ b.kind = same_kind a.kind b.kind (first_of ((kinds.eq-value).it a.kind b.kind) ((a.space == b.space) && (a.name == b.name)) is) in
-    let rest : ((a.space == b.space) && (a.name == b.name)) ≡ true = second_of ((kinds.eq-value).it a.kind b.kind) ((a.space == b.space) && (a.name == b.name)) is in
-    let space : a.space ≡ b.space = same_number a.space b.space (first_of (a.space == b.space) (a.name == b.name) rest) in
-    let name : a.name ≡ b.name = same_number a.name b.name (second_of (a.space == b.space) (a.name == b.name) rest) in
-    λ i. record { kind = kind i; space = space i; name = name i }
+    let kind = and_parts ((kinds.eq-value).it a.kind b.kind) ((a.space == b.space) && (a.name == b.name)) is in
+    let rest = and_parts (a.space == b.space) (a.name == b.name) kind.1 in
+    λ i. record { kind = same_kind a.kind b.kind kind.0 i; space = eqb-true a.space b.space rest.0 i; name = eqb-true a.name b.name rest.1 i }
 
 pub same_listing : (a b : Listing) → (listings.eq-value).it a b ≡ true → a ≡ b
 same_listing Nowhere Nowhere is = refl
 same_listing Nowhere (Node m) is = absurd (cc)
 same_listing Nowhere (Pod m k) is = absurd (cc)
 same_listing (Node m) Nowhere is = absurd (cc)
-same_listing (Node m) (Node n) is = ap Node (same_number m n is)
+same_listing (Node m) (Node n) is = ap Node (eqb-true m n is)
 same_listing (Node m) (Pod n k) is = absurd (cc)
 same_listing (Pod m k) Nowhere is = absurd (cc)
 same_listing (Pod m k) (Node n) is = absurd (cc)
 same_listing (Pod m k) (Pod n l) is =
-    let name : m ≡ n = same_number m n (first_of (m == n) ((keys.eq-value).it k l) is) in
-    let key : k ≡ l = same_key k l (second_of (m == n) ((keys.eq-value).it k l) is) in
-    λ i. Pod (name i) (key i)
+    let parts = and_parts (m == n) ((keys.eq-value).it k l) is in
+    λ i. Pod (eqb-true m n parts.0 i) (same_key k l parts.1 i)
 
 -- a listing is told equal to itself
 own_kind : (a : Kind) → (kinds.eq-value).it a a ≡ true
@@ -77,13 +60,13 @@ own_kind kind.Pod = refl
 own_key : (a : Key) → (keys.eq-value).it a a ≡ true
 own_key a =
     ap (λ b. b && ((a.space == a.space) && (a.name == a.name))) (own_kind a.kind)
-    ∙ ap (λ b. b && (a.name == a.name)) (own_number a.space)
-    ∙ own_number a.name
+    ∙ ap (λ b. b && (a.name == a.name)) (eq-eqb a.space a.space refl)
+    ∙ eq-eqb a.name a.name refl
 
 pub own_listing : (a : Listing) → (listings.eq-value).it a a ≡ true
 own_listing Nowhere = refl
-own_listing (Node m) = own_number m
-own_listing (Pod m k) = ap (λ b. b && (keys.eq-value).it k k) (own_number m) ∙ own_key k
+own_listing (Node m) = eq-eqb m m refl
+own_listing (Pod m k) = ap (λ b. b && (keys.eq-value).it k k) (eq-eqb m m refl) ∙ own_key k
 
 -- ---- taints
 
@@ -115,26 +98,28 @@ same_time : (a b : Option Wall) → option_eq time_eq a b ≡ true → a ≡ b
 same_time None None is = refl
 same_time None (Some b) is = absurd (cc)
 same_time (Some a) None is = absurd (cc)
-same_time (Some a) (Some b) is = ap (λ n. Some (record { 0 = n })) (same_number a.0 b.0 is)
+same_time (Some a) (Some b) is = ap (λ n. Some (record { 0 = n })) (eqb-true a.0 b.0 is)
 
 same_taint : (a b : Taint) → taint_eq a b ≡ true → a ≡ b
 same_taint a b is =
-    let key : a.key ≡ b.key = same_number a.key b.key (first_of (a.key == b.key) ((a.value == b.value) && (effect_eq a.effect b.effect && option_eq time_eq a.added b.added)) is) in
-    let more = second_of (a.key == b.key) ((a.value == b.value) && (effect_eq a.effect b.effect && option_eq time_eq a.added b.added)) is in
-    let value : a.value ≡ b.value = same_number a.value b.value (first_of (a.value == b.value) (effect_eq a.effect b.effect && option_eq time_eq a.added b.added) more) in
-    let rest = second_of (a.value == b.value) (effect_eq a.effect b.effect && option_eq time_eq a.added b.added) more in
-    let effect : a.effect ≡ b.effect = same_effect a.effect b.effect (first_of (effect_eq a.effect b.effect) (option_eq time_eq a.added b.added) rest) in
-    let added : a.added ≡ b.added = same_time a.added b.added (second_of (effect_eq a.effect b.effect) (option_eq time_eq a.added b.added) rest) in
-    λ i. record { key = key i; value = value i; effect = effect i; added = added i }
+    let two = effect_eq a.effect b.effect && option_eq time_eq a.added b.added in
+    let key = and_parts (a.key == b.key) ((a.value == b.value) && two) is in
+    let value = and_parts (a.value == b.value) two key.1 in
+    let rest = and_parts (effect_eq a.effect b.effect) (option_eq time_eq a.added b.added) value.1 in
+    λ i. record {
+      key = eqb-true a.key b.key key.0 i;
+      value = eqb-true a.value b.value value.0 i;
+      effect = same_effect a.effect b.effect rest.0 i;
+      added = same_time a.added b.added rest.1 i;
+    }
 
 pub same_taints : (xs ys : List Taint) → taints_eq xs ys ≡ true → xs ≡ ys
 same_taints [] [] is = refl
 same_taints [] (y ∷ ys) is = absurd (cc)
 same_taints (x ∷ xs) [] is = absurd (cc)
 same_taints (x ∷ xs) (y ∷ ys) is =
-    let one : x ≡ y = same_taint x y (first_of (taint_eq x y) (taints_eq xs ys) is) in
-    let rest : xs ≡ ys = same_taints xs ys (second_of (taint_eq x y) (taints_eq xs ys) is) in
-    λ i. one i ∷ rest i
+    let parts = and_parts (taint_eq x y) (taints_eq xs ys) is in
+    λ i. same_taint x y parts.0 i ∷ same_taints xs ys parts.1 i
 
 -- ---- and taints are told equal to themselves
 
@@ -145,11 +130,11 @@ own_effect effect.NoExecute = refl
 
 own_time : (a : Option Wall) → option_eq time_eq a a ≡ true
 own_time None = refl
-own_time (Some a) = own_number a.0
+own_time (Some a) = eq-eqb a.0 a.0 refl
 
 own_taint : (a : Taint) → taint_eq a a ≡ true
-own_taint a = ap (λ b. b && ((a.value == a.value) && (effect_eq a.effect a.effect && option_eq time_eq a.added a.added))) (own_number a.key)
-    ∙ ap (λ b. b && (effect_eq a.effect a.effect && option_eq time_eq a.added a.added)) (own_number a.value)
+own_taint a = ap (λ b. b && ((a.value == a.value) && (effect_eq a.effect a.effect && option_eq time_eq a.added a.added))) (eq-eqb a.key a.key refl)
+    ∙ ap (λ b. b && (effect_eq a.effect a.effect && option_eq time_eq a.added a.added)) (eq-eqb a.value a.value refl)
     ∙ ap (λ b. b && option_eq time_eq a.added a.added) (own_effect a.effect)
     ∙ own_time a.added
 

@@ -11,7 +11,7 @@ ghost use Rattle.kube_objects.specs.Stored as stored_words;
 use crate::objects::Objects;
 use crate::{ListFault, NotSynced};
 use kube_base::{NoMemory, Steps, Version};
-use kube_objects::{Changed, Key, KeyList, Kind, Lease, Node, NumberList, Object, Pod};
+use kube_objects::{Changed, Key, KeyList, Lease, Node, NumberList, Object, Pod};
 use std::alloc::Global;
 use std::collections::BTreeSet;
 
@@ -96,8 +96,8 @@ impl Cache {
         Ok(())
     }
 
-    /// Takes over an own accepted write: the object with its version, or none where it was removed. Where memory is wanting
-    /// the cache is as before.
+    /// Takes over an own accepted write: the object with its version, or none if it was removed. Out of memory the
+    /// cache is as before.
     pub fn note_own(&mut self, key: Key, written: Option<(Version, Object)>) -> Result<(), NoMemory>
         ensures kept { OnOk result ((k : Key) → kept_in self.new k ≡ (if key_eq key k then written else kept_in self.old k)) }
         ensures err { OnErr result ((k : Key) → kept_in self.new k ≡ kept_in self.old k) }
@@ -111,24 +111,19 @@ impl Cache {
         self.objects.write(key, written)
     }
 
-    /// The node of that name. None where the last seen write removed it, or there is none. `NotSynced` before the first sync.
+    /// The node of that name. None if the last seen write removed it, or there is none. `NotSynced` before the first sync.
     pub fn node(&self, node: u32) -> Result<Option<(Version, &Node)>, NotSynced>
         ensures kept { found result ≡ if_synced (synced_in self.now) (of_kind node_in (kept_in self.now (stored_words.node_key node))) }
         ensures answer { (q : Identity) (h : List Entry) → CacheStands q h self.now
             → found result ≡ if_synced (seen_words.is_synced q h) (seen_node q node h) }
     {
-        let key = Key {
-            kind: Kind::Node,
-            space: 0,
-            name: node,
-        };
-        match self.look(&key)? {
+        match self.look(&Key::node(node))? {
             Some((version, Object::Node(node))) => Ok(Some((version, node))),
             _ => Ok(None),
         }
     }
 
-    /// The Lease under a key. None where the last seen write removed it, or there is none. `NotSynced` before the first sync.
+    /// The Lease under a key. None if the last seen write removed it, or there is none. `NotSynced` before the first sync.
     pub fn lease(&self, key: &Key) -> Result<Option<(Version, &Lease)>, NotSynced>
         ensures kept { found result ≡ if_synced (synced_in self.now) (of_kind lease_in (kept_in self.now key.now)) }
         ensures answer { (q : Identity) (h : List Entry) → CacheStands q h self.now
@@ -140,7 +135,7 @@ impl Cache {
         }
     }
 
-    /// The pod under a key. None where the last seen write removed it, or there is none. `NotSynced` before the first sync.
+    /// The pod under a key. None if the last seen write removed it, or there is none. `NotSynced` before the first sync.
     /// It counts a step.
     pub fn pod<L>(
         &self,
@@ -191,7 +186,7 @@ impl Cache {
         }
     }
 
-    /// Makes a key stale until the next sync. Where memory is wanting the cache is as before.
+    /// Makes a key stale until the next sync. If memory runs out the cache is as before.
     pub fn set_stale(&mut self, key: Key) -> Result<(), NoMemory>
         ensures stale { OnOk result ((k : Key) → stale_in self.new k ≡ (key_eq key k || stale_in self.old k)) }
         ensures err { OnErr result ((k : Key) → stale_in self.new k ≡ stale_in self.old k) }
@@ -213,7 +208,7 @@ impl Cache {
         self.stale.contains(key)
     }
 
-    // The object under a key, where there was a sync.
+    // The object under a key, if there was a sync.
     fn look(&self, key: &Key) -> Result<Option<(Version, &Object)>, NotSynced>
         ensures { found result ≡ if_synced (synced_in self.now) (kept_in self.now key.now) }
     {

@@ -5,16 +5,9 @@ ghost use Rattle.std.specs.Ordering.{nat_cmp};
 
 use crate::listing::Listing;
 use kube_base::{ListOf, NoMemory, Steps};
-use kube_objects::{Key, KeyList, Kind, NumberList};
+use kube_objects::{Key, KeyList, NumberList};
 use std::alloc::Global;
 use std::collections::BTreeSet;
-
-// The least key.
-const FIRST: Key = Key {
-    kind: Kind::Node,
-    space: 0,
-    name: 0,
-};
 
 /// The names of the nodes, and the keys of the pods by the names of their nodes. It is kept as objects come and go, so a
 /// list of pods costs what it lists.
@@ -101,7 +94,7 @@ impl Index {
         // It is read, so that it is known to be a u64.
         let _ = steps.count();
         let mut keys = ListOf::new(self.alloc);
-        for pod in self.pods.range((node, FIRST)..) {
+        for pod in self.pods.range((node, Key::node(0))..) {
             let (on, key) = *pod;
             if on != node {
                 return Ok(keys);

@@ -18,7 +18,7 @@ use kube_base::{NoMemory, Steps, Version};
 use kube_objects::{Changed, Key, KeyList, NumberList, Object};
 use std::alloc::Global;
 
-/// Objects under their keys, each with a version. The index lists just these. It is changed only where an object comes,
+/// Objects under their keys, each with a version. The index lists just these. It is changed only if an object comes,
 /// goes or moves, so that to put an object where it was costs the same however many there are.
 #[derive(Drop)]
 pub(crate) struct Objects {
@@ -73,7 +73,7 @@ impl Objects {
         }
     }
 
-    /// Puts an object under a key in the place of what is there, or takes that out. Where memory is wanting nothing changes.
+    /// Puts an object under a key in the place of what is there, or takes that out. If memory runs out nothing changes.
     pub(crate) fn write(
         &mut self,
         key: Key,

@@ -126,7 +126,7 @@ impl Cache {
     }
 
     /// The names of nodes that changed since the last sync: of those whose taints are others now, with `new` of those that weren't there at
-    /// it, and of all of them where a key is stale. On each other node no pod's due changes but by a change of the pod. The changes are those
+    /// it, and of all of them if a key is stale. On each other node no pod's due changes but by a change of the pod. The changes are those
     /// from `position` on, and aren't taken over.
     pub fn nodes_to_judge<C: Changed>(
         &self,

@@ -1,7 +1,7 @@
 // The cache's calls.
 use crate::{Cache, ListFault, NotSynced};
 use kube_base::{ListOf, Steps, Version};
-use kube_objects::{Changed, Holder, Key, KeyList, Kind, Lease, Node, Object, Pod};
+use kube_objects::{Changed, Holder, Key, KeyList, Kind, Lease, Node, Object, Pod, Tolerations};
 use std::alloc::Global;
 use std::sync::ledger::Blank;
 use std::test::Fail;
@@ -57,7 +57,7 @@ fn key(kind: Kind, name: u32) -> Key {
 fn pod_on(alloc: Global, node: u32) -> Object {
     Object::Pod(Pod {
         node,
-        tolerations: ListOf::new(alloc),
+        tolerations: Tolerations::new(alloc),
     })
 }
 

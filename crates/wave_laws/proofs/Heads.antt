@@ -26,6 +26,7 @@ use Rattle.kube_objects.proofs.Own.{tainted-own}
 use Rattle.kube_objects.proofs.Tokens.{empty_grown, token_is_there}
 use Rattle.history_laws.specs.Tails.{IsTail}
 use Rattle.history_laws.proofs.Plainly.{none_is, some_is, true_is, false_is}
+use Rattle.history_laws.proofs.Ticks.{every}
 use Rattle.eviction_laws.proofs.Early.{versioned_is}
 use Rattle.outage_laws.specs.Attended.{IsAttended}
 use Rattle.tick_laws.specs.Judged.{key_if, waits_since}
@@ -33,7 +34,6 @@ use Rattle.tick_laws.specs.Walks.{Among, Ascends}
 use Rattle.tick_laws.proofs.Heads.{Precedes, head_waits}
 use Rattle.tick_laws.proofs.Named.{node_names_ascend, node_is_named}
 use Rattle.tick_laws.proofs.Orders.{names_strict, same_place, place_itself}
-use Rattle.tick_laws.proofs.Phases.{every}
 use Rattle.tick_laws.proofs.Quiet.{head_some}
 use Rattle.tick_laws.proofs.Tainting.{IsWaiting, waiting, waiting_place, since_waits, heading, taint_adds, taint_either, heading_since, heading_since_elsewhere, heading_base, heading_base_elsewhere, heading_full, heading_full_by, heading_token, accepted_waits}
 use Rattle.tick_laws.proofs.Walks.{above_less}

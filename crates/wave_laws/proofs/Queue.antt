@@ -20,6 +20,7 @@ use Rattle.history.specs.Steps.{elector_turn}
 use Rattle.history_laws.specs.Tails.{In, IsTail}
 use Rattle.history_laws.proofs.Order.{entries_are_earlier}
 use Rattle.history_laws.proofs.Tailed.{tail_all, tail_trans, in_tail, turn_tail, before_turn, later_tail}
+use Rattle.history_laws.proofs.Ticks.{every}
 use Rattle.eviction_laws.proofs.Cache.{Mirrors, mirrors_sync, mirrors_more, fresh}
 use Rattle.row_laws.specs.Keys.{is_ticking}
 use Rattle.outage_laws.specs.Attended.{IsAttended}
@@ -31,7 +32,7 @@ use Rattle.tick_laws.specs.Judged.{waits_since}
 use Rattle.tick_laws.specs.Rows.{no_heads, settled, IsFresh}
 use Rattle.tick_laws.specs.Ticked.{IsTicked}
 use Rattle.tick_laws.proofs.Foreign.{foreign_since}
-use Rattle.tick_laws.proofs.Phases.{every, foreign_limits, sync_heads, pass_heads, cleaned_heads, evicted_limits, evicted_since}
+use Rattle.tick_laws.proofs.Phases.{foreign_limits, sync_heads, pass_heads, cleaned_heads, evicted_limits, evicted_since}
 use Rattle.tick_laws.proofs.Tainting.{taint_either, heading_fresh}
 use Rattle.tick_laws.proofs.Ticked.{ticked_keeps, ticked_then, ticked_before, sync_ticked, pass_ticked, cleaned_ticked, tainted_ticked, evicted_ticked}
 use Rattle.tick_laws.proofs.Waiting.{settle, fresh_settled, no_heads_start}

@@ -25,6 +25,7 @@ use Rattle.history_laws.specs.Tails.{IsTail}
 use Rattle.history_laws.proofs.Plainly.{upper, same_self, true_is, false_is}
 use Rattle.history_laws.proofs.Tailed.{tail_trans}
 use Rattle.history_laws.proofs.Walk.{Ticking, walk_to_tick, walk_at_turn}
+use Rattle.history_laws.proofs.Ticks.{every}
 use Rattle.eviction_laws.proofs.Current.{Unstale}
 use Rattle.eviction_laws.proofs.Turns.{unstale_keeps, unstale_release, put_unstale}
 use Rattle.outage_laws.specs.Attended.{IsAttended}
@@ -36,7 +37,7 @@ use Rattle.tick_laws.specs.Walks.{Among}
 use Rattle.tick_laws.proofs.Cleaning.{tried_dirty, to_clean_kept, clean_adds, clean_either}
 use Rattle.tick_laws.proofs.Frames.{cleaning_change, kept_node}
 use Rattle.tick_laws.proofs.Named.{node_is_named}
-use Rattle.tick_laws.proofs.Phases.{is_passing, every, pass_keeps}
+use Rattle.tick_laws.proofs.Phases.{is_passing, pass_keeps}
 use Rattle.tick_laws.proofs.Ticked.{ticked_keeps, clean_ticked}
 use Rattle.tick_laws.proofs.Tried.{noted_sees}
 use Rattle.wave_laws.specs.Waves.{judged_at, queue_at, SwapsAreAtOnce}

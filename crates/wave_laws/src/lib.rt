@@ -12,7 +12,7 @@ pub fn taints_come()
     ensures anyway { TaintsComeAnyway }
 {}
 
-/// And where the nodes ahead of it leave the queue by taints only, it leaves by its own no sooner than as many intervals later: for every
+/// And if the nodes ahead of it leave the queue by taints only, it leaves by its own no sooner than as many intervals later: for every
 /// document with the project's own rules, those of judgement too, and buckets that start empty.
 pub fn taints_take_time()
     ensures { TaintsTakeTime }

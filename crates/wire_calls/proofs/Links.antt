@@ -1,24 +1,15 @@
 -- Delays and losses that are set.
 use Rattle.std.proofs.Common.{◌≡◌, ℕ, zero, suc, ◌<◌, ◌==◌, Bool, true, false, cond, List, [], ◌∷◌, length, length-set, replicate, slice_get, slice_set, get_or, Option, Some, None, refl, ap, ◌∙◌, arith}
 use Rattle.std.proofs.lemmas.Bool.{eqb-true}
-use Rattle.std.proofs.lemmas.Bool.Decides.{nat_tests}
+use Rattle.kube_base.proofs.Lists.{get-set}
 use Rattle.kube_objects.specs.Entry.{Entry}
 use Rattle.kube_objects.specs.Newest.{or_else, when}
 use Rattle.kube_objects.specs.Wire.{in_force, request_delay_of, reply_delay_of, request_loss_of, reply_loss_of}
 use Rattle.wire_calls.specs.declared.link.Link.{Link}
 use Rattle.wire_calls.specs.WireStands.{IsDelay, first_link, or_first, link_at, link_in}
 
-slice_get-set : {X : Type 0} (xs : List X) (i p : ℕ) (x : X) → i < length xs → slice_get (slice_set xs i x) p ≡ cond (i == p) (Some x) (slice_get xs p)
-slice_get-set [] i p x below = absurd (omega (arith, below))
-slice_get-set (y ∷ xs) zero zero x below = refl
-slice_get-set (y ∷ xs) zero (suc p) x below = ap (λ b. cond b (Some x) (slice_get xs p)) (let apart : false ≡ (zero == suc p) = grind (arith, nat_tests) in apart)
-slice_get-set (y ∷ xs) (suc i) zero x below = ap (λ b. cond b (Some x) (Some y)) (let apart : false ≡ (suc i == zero) = grind (arith, nat_tests) in apart)
-slice_get-set (y ∷ xs) (suc i) (suc p) x below =
-    slice_get-set xs i p x (omega (arith, below))
-    ∙ ap (λ b. cond b (Some x) (slice_get xs p)) (let same : (i == p) ≡ (suc i == suc p) = grind (arith, nat_tests) in same)
-
 pub link_at-set : (links : List Link) (i p : ℕ) (link : Link) → i < length links → link_at (slice_set links i link) p ≡ cond (i == p) link (link_at links p)
-link_at-set links i p link below = ap or_first (slice_get-set links i p link below) ∙ by_test (i == p)
+link_at-set links i p link below = ap or_first (get-set links i p link below) ∙ by_test (i == p)
   where
     by_test : (b : Bool) → or_first (cond b (Some link) (slice_get links p)) ≡ cond b link (link_at links p)
     by_test true = refl

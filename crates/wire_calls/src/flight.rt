@@ -45,7 +45,7 @@ impl<T: Copy + Drop> Flight<T> {
         self.others.push(beat, message)
     }
 
-    /// An empty front becomes that of a beat, where the beat has no queue among the others.
+    /// An empty front becomes that of a beat, if the beat has no queue among the others.
     fn claim_front(&mut self, beat: Beat)
         ensures same { (j : ℕ) → pending self.new j ≡ pending self.old j }
         ensures live { IsLive self.old → IsLive self.new }

@@ -74,7 +74,7 @@ impl<T: Copy + Drop> Queues<T> {
         first
     }
 
-    /// Whether a beat has a queue. Where it has none, nothing arrives at it.
+    /// Whether a beat has a queue. If it has none, nothing arrives at it.
     pub(crate) fn has(&self, beat: Beat) -> bool
         ensures none { result ≡ false → queued self.now beat.0 ≡ [] }
         ensures some { HasNoEmpty self.now → result ≡ has_any (queued self.now beat.0) }
@@ -101,7 +101,7 @@ pub(crate) fn take_first<T: Drop>(queue: &mut VecDeque<T>) -> Option<T>
     queue.pop_front()
 }
 
-/// A queue goes on at the start of its memory, so that few messages at a time take the same few places of it. It costs nothing where the
+/// A queue goes on at the start of its memory, so that few messages at a time take the same few places of it. It costs nothing if the
 /// queue is empty.
 pub(crate) fn begin_anew<T: Drop>(queue: &mut VecDeque<T>)
     ensures { deque_items queue.new ≡ deque_items queue.old }

@@ -18,7 +18,7 @@ use kube_base::{Beat, ProcId, Wall};
 use skew_clock::Clock;
 use world_core::{Wakes, World, sooner_beat};
 
-/// The least beat from the world's next one to the end at which an entry of the history stands. None exactly where there is no such
+/// The least beat from the world's next one to the end at which an entry of the history stands. None exactly if there is no such
 /// beat. It takes no memory.
 pub fn next_beat(world: &World) -> Option<Beat>
     requires ready { IsReady world.now }

@@ -1,8 +1,10 @@
 -- Layer 3, the world around one process: one process has moved, and the world stands again.
 use Rattle.std.proofs.Common.{All, Vec, Global, ◌≡◌, ℕ, ◌+◌, ◌<◌, ◌≤◌, ◌==◌, ◌++◌, Bool, true, false, List, ◌∷◌, Option, Some, None, slice_get, slice_set, length, refl, sym, ap, ◌∙◌, subst, append_assoc, vec_len, arith, if◌then◌else◌}
+use Rattle.std.proofs.lemmas.List.{length-set}
 use Rattle.std.proofs.lemmas.Option.{slice_get_within}
 use Rattle.beat_tree.specs.declared.tree.BeatTree.{BeatTree}
 use Rattle.beat_tree.specs.Leaves.{leaf, room}
+use Rattle.kube_base.proofs.Lists.{get-set_other, get-set_same}
 use Rattle.kube_objects.specs.declared.call.Ask.{Ask}
 use Rattle.kube_objects.specs.declared.deed.Deed.{Deed}
 use Rattle.kube_objects.specs.Answers.{answer, written}
@@ -33,7 +35,6 @@ use Rattle.world_core.specs.Worlds.{AreKept, AreNoted, IsFit, IsReady, SameDocum
 use Rattle.world_core.proofs.Around.{Around, around-world, around-own, around-facts, around-restarted, around-started, starts-facts}
 use Rattle.world_process.proofs.Forces.{in_force-beside}
 use Rattle.world_process.proofs.Processes.{process-incarnation, process-others, process-answered, process-up_first}
-use Rattle.world_core.proofs.Lists.{slice_get-set_same, slice_get-set_other, length-set}
 use Rattle.object_store.specs.Stands.{StoreStands}
 use Rattle.world_process.proofs.Names.{eq-is, eq-isnt, eq-self}
 use Rattle.world_process.proofs.Plainly.{plain-entry, known-later, starts-start}
@@ -71,12 +72,12 @@ each-set doc i h cs c0 c1 was others own p c is = by_place (p == i) refl
     by_place : (b : Bool) → (p == i) ≡ b → ProcessStands doc p h c
     by_place true same =
         let place : p ≡ i = eq-is p i same in
-        let there : Some c ≡ Some c1 = sym is ∙ ap (slice_get (slice_set cs i c1)) place ∙ slice_get-set_same cs i c1 c0 was in
+        let there : Some c ≡ Some c1 = sym is ∙ ap (slice_get (slice_set cs i c1)) place ∙ get-set_same cs i c1 (slice_get_within cs i c0 was) in
         let own_c : c1 ≡ c = cc in
         subst (λ x. ProcessStands doc x h c) (sym place) (subst (ProcessStands doc i h) own_c own)
     by_place false other =
         let apart : ¬ (p ≡ i) = λ e. (let now : (p == i) ≡ true = ap (λ x. p == x) (sym e) ∙ eq-self p in cc) in
-        others p c apart (sym (slice_get-set_other cs i p c1 apart) ∙ is)
+        others p c apart (sym (get-set_other cs i p c1 apart) ∙ is)
 
 -- what was read of the document stands as before
 pub doc-same : (doc : Doc) (k : ℕ) (w v : World) → SameDocument w v → length v.processes.items ≡ length w.processes.items → DocStands doc k w → DocStands doc k v
@@ -252,14 +253,14 @@ keeps-moved i c0 c1 w v ready m count same kept noted =
     own_at : (j : ℕ) (c : Process) → slice_get v.processes.items j ≡ Some c → (j == i) ≡ true → c1 ≡ c
     own_at j c is here =
         let place : j ≡ i = eq-is j i here in
-        let there : Some c ≡ Some c1 = sym is ∙ ap (λ cs. slice_get cs j) m.now ∙ ap (slice_get (slice_set w.processes.items i c1)) place ∙ slice_get-set_same w.processes.items i c1 c0 m.was in
+        let there : Some c ≡ Some c1 = sym is ∙ ap (λ cs. slice_get cs j) m.now ∙ ap (slice_get (slice_set w.processes.items i c1)) place ∙ get-set_same w.processes.items i c1 (slice_get_within w.processes.items i c0 m.was) in
         cc
 
     apart_at : (j : ℕ) → (j == i) ≡ false → ¬ (j ≡ i)
     apart_at j other e = let now : (j == i) ≡ true = ap (λ x. j == x) (sym e) ∙ eq-self j in cc
 
     other_at : (j : ℕ) (c : Process) → slice_get v.processes.items j ≡ Some c → (j == i) ≡ false → slice_get w.processes.items j ≡ Some c
-    other_at j c is other = sym (slice_get-set_other w.processes.items i j c1 (apart_at j other)) ∙ ap (λ cs. slice_get cs j) (sym m.now) ∙ is
+    other_at j c is other = sym (get-set_other w.processes.items i j c1 (apart_at j other)) ∙ ap (λ cs. slice_get cs j) (sym m.now) ∙ is
 
     kept_at : (j : ℕ) (c : Process) → slice_get v.processes.items j ≡ Some c → (b : Bool) → (j == i) ≡ b → IsKept c
     kept_at j c is true here = subst IsKept (own_at j c is here) kept
@@ -291,12 +292,12 @@ keeps-moved i c0 c1 w v ready m count same kept noted =
     by_place : (j : ℕ) (c : Process) → slice_get v.processes.items j ≡ Some c → (b : Bool) → (j == i) ≡ b → (clock_of c).end ≡ w.end.0
     by_place j c is true here =
         let place : j ≡ i = eq-is j i here in
-        let there : Some c ≡ Some c1 = sym is ∙ ap (λ cs. slice_get cs j) m.now ∙ ap (slice_get (slice_set w.processes.items i c1)) place ∙ slice_get-set_same w.processes.items i c1 c0 m.was in
+        let there : Some c ≡ Some c1 = sym is ∙ ap (λ cs. slice_get cs j) m.now ∙ ap (slice_get (slice_set w.processes.items i c1)) place ∙ get-set_same w.processes.items i c1 (slice_get_within w.processes.items i c0 m.was) in
         let own : c1 ≡ c = cc in
         ap (λ x. (clock_of x).end) (sym own) ∙ ap (λ x. x.end) same.clock ∙ ready.clocks i c0 m.was
     by_place j c is false other =
         let apart : ¬ (j ≡ i) = λ e. (let now : (j == i) ≡ true = ap (λ x. j == x) (sym e) ∙ eq-self j in cc) in
-        ready.clocks j c (sym (slice_get-set_other w.processes.items i j c1 apart) ∙ ap (λ cs. slice_get cs j) (sym m.now) ∙ is)
+        ready.clocks j c (sym (get-set_other w.processes.items i j c1 apart) ∙ ap (λ cs. slice_get cs j) (sym m.now) ∙ is)
 
 -- a process was written back as it was
 pub keeps-set : (i : ℕ) (c0 : Process) (w v : World) → IsReady w → Moved i c0 c0 w v → vec_len v.processes ≡ vec_len w.processes → v.turn_beats ≡ w.turn_beats → Keeps w v

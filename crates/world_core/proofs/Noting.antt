@@ -1,5 +1,5 @@
 -- Layer 4, the steps of a beat: a process that has changed keeps the beat of its next turn; what it did it has still done.
-use Rattle.std.proofs.Common.{◌≡◌, ℕ, Bool, List, ◌∷◌, Option, Some, None, sym, subst}
+use Rattle.std.proofs.Common.{◌≡◌, ◌∙◌, ℕ, Bool, List, ◌∷◌, Option, Some, None, sym, subst, vec_len}
 use Rattle.kube_base.specs.declared.numbers.ProcId.{ProcId}
 use Rattle.kube_objects.specs.declared.call.Ask.{Ask}
 use Rattle.kube_objects.specs.declared.script.What.TheVariants as what
@@ -14,6 +14,9 @@ use Rattle.world_process.specs.declared.process.Process.{Process}
 use Rattle.world_process.specs.Moves as moves
 use Rattle.world_process.specs.Processes.{Begun, Crashed, IsKept, IsTimed, ProcessStands, Replied, SameProcess, StoppedAs, incarnation_of, waking_of}
 use Rattle.world_process.proofs.Wakes.{timed-same}
+use Rattle.world_core.specs.declared.world.World.{World}
+use Rattle.world_core.specs.Worlds.{IsReady, Keeps}
+use Rattle.world_core.proofs.MidBeat.{Moved, Noted, keeps-moved}
 use Rattle.world_core.proofs.Turns.{asks_in-kept}
 
 -- z stands for what y does
@@ -23,6 +26,13 @@ StandsAs y z = (doc : Doc) (p : ℕ) (h : List Entry) → ProcessStands doc p h 
 -- what kept the beat before still does, the process having changed from x to y
 pub kept-after : (x y z : Process) → IsKept x → SameProcess x y → waking_of y ≡ waking_of x → (IsTimed y → IsKept z) → IsKept z
 kept-after x y z kept same waking keeps = keeps (timed-same x y same.clock waking kept.timed)
+
+-- a process has changed from x to y, and kept the beat of its next turn
+pub keeps-noted : {i : ℕ} {x y z : Process} {w v : World} → SameProcess x y → waking_of y ≡ waking_of x → SameProcess y z → (IsTimed y → IsKept z)
+    → Noted i z w.turn_beats v.turn_beats → IsReady w → Moved i x z w v → vec_len v.processes ≡ vec_len w.processes → Keeps w v
+keeps-noted {i = i} {x = x} {y = y} {z = z} {w = w} {v = v} same waking after kept noted ready m count =
+    keeps-moved i x z w v ready m count (record { me = after.me ∙ same.me; clock = after.clock ∙ same.clock })
+    (kept (timed-same x y same.clock waking (ready.kept i x m.was).timed)) noted
 
 pub crashed-kept : (doc : Doc) (k : ℕ) (id : ProcId) (h : List Entry) (y z : Process) (b : Bool) → StandsAs y z → incarnation_of z ≡ incarnation_of y → Crashed doc k id h y b → Crashed doc k id h z b
 crashed-kept doc k id h y z b keeps same s =

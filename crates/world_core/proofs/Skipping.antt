@@ -9,7 +9,7 @@ use Rattle.kube_objects.specs.Entry.{Entry}
 use Rattle.kube_objects.specs.InFlight.{requests_due, replies_due}
 use Rattle.agenda_laws.specs.Ahead.{IsNextEvent, IsNextMessage, IsSilent}
 use Rattle.agenda_laws.specs.Parts.{IsUneventful}
-use Rattle.agenda_laws.specs.Standing.{Among}
+use Rattle.history_laws.specs.Tails.{Among}
 use Rattle.agenda_laws.proofs.Parts.{events_add_by_parts}
 use Rattle.agenda_laws.proofs.Standing.{beats_add_by_parts}
 use Rattle.beat_laws.proofs.Unticked.{unticked_later}

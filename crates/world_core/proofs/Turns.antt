@@ -1,5 +1,5 @@
 -- Layer 4, the steps of a beat: the turn of a process that keeps the beat of its next turn.
-use Rattle.std.proofs.Common.{◌≡◌, ℕ, not, Bool, true, false, List, ◌∷◌, Option, Some, None, refl, sym, ap, ◌∙◌, subst}
+use Rattle.std.proofs.Common.{◌≡◌, ℕ, ◌≤◌, not, Bool, true, false, List, ◌∷◌, Option, Some, None, slice_get, refl, sym, ap, ◌∙◌, subst, arith}
 use Rattle.kube_objects.specs.declared.call.Ask.{Ask}
 use Rattle.kube_objects.specs.declared.deed.Deed.{Deed}
 use Rattle.kube_objects.specs.Document.{Doc, is_controller}
@@ -7,18 +7,22 @@ use Rattle.kube_objects.specs.Entry.{Entry, Identity, Sends, entry}
 use Rattle.kube_objects.specs.Identities.{identity}
 use Rattle.kube_objects.specs.Pauses.{is_paused}
 use Rattle.kube_objects.specs.Wire.{Back, Sent, next_call}
+use Rattle.agenda_laws.specs.Times.{is_early}
 use Rattle.world_process.specs.declared.moves.Turn.{Turn}
 use Rattle.world_process.specs.declared.process.Process.{Process}
+use Rattle.world_process.specs.Beats.{beat_in}
 use Rattle.world_process.specs.Moves as moves
 use Rattle.world_process.specs.Moves.{own_turn}
-use Rattle.world_process.specs.Processes.{ProcessStands, SameProcess, Turned, incarnation_of}
+use Rattle.world_process.specs.Processes.{ProcessStands, SameProcess, Turned, incarnation_of, waking_of}
 use Rattle.world_process.specs.Plain.{with_facts}
 use Rattle.world_process.proofs.Processes.{process-incarnation}
+use Rattle.world_process.proofs.Wakes.{kept-still}
 use Rattle.world_core.specs.declared.world.World.{World}
-use Rattle.world_core.specs.Worlds.{MidBeat}
+use Rattle.world_core.specs.Worlds.{IsReady, MidBeat}
 use Rattle.world_core.specs.Waits.{awake_turn, turn_if}
 use Rattle.world_core.proofs.Around.{around-world}
 use Rattle.world_core.proofs.MidBeat.{AsksOn, Moved, within-moved}
+use Rattle.world_core.proofs.Moving.{within-end}
 
 pub same-twice : (x y z : Process) → SameProcess x y → SameProcess y z → SameProcess x z
 same-twice x y z a b = record { me = b.me ∙ a.me; clock = b.clock ∙ a.clock }
@@ -73,6 +77,16 @@ awake-still doc k p h still = by_pause (not (is_paused doc p k))
     by_pause : (b : Bool) → turn_if doc k p b h ≡ h
     by_pause true = still
     by_pause false = refl
+
+-- it keeps a beat that is later than this one
+pub running-early : (doc : Doc) (k i : ℕ) (before deeds : List Deed) (arriving : List Sent) (coming : List Back) (h : List Entry) (x : Process) (w : World) → IsReady w → w.beat.0 ≤ w.end.0
+    → slice_get w.processes.items i ≡ Some x → is_early k (beat_in (waking_of x).until) ≡ true
+    → MidBeat doc k before arriving coming h w deeds → MidBeat doc k before arriving coming (awake_turn doc k i h) w deeds
+running-early doc k i before deeds arriving coming h x w ready within was early r =
+    let at : w.beat.0 ≡ k = r.world.rest.document.at in
+    let inside = within-end w i x ready within was in
+    let still = (kept-still doc k i h x (ready.kept i x was) (r.world.processes i x was) (omega (arith, at, inside))).1 early in
+    subst (λ g. MidBeat doc k before arriving coming g w deeds) (sym (awake-still doc k i h still)) r
 
 -- it has no turn in a pause
 pub running-paused : (doc : Doc) (k i : ℕ) (before deeds : List Deed) (arriving : List Sent) (coming : List Back) (h : List Entry) (w : World) → is_paused doc i k ≡ true

@@ -9,7 +9,7 @@ ghost use Rattle.kube_objects.specs.Tries.{as_answer as answer_of};
 use kube_base::{Beat, NoMemory, Version};
 use kube_objects::{Act, Actor, Answer, Deed, Deeds, Key, Reply, Request};
 
-/// Adds the deed of an entry, where it has one.
+/// Adds the deed of an entry, if it has one.
 pub fn tell(deeds: &mut Deeds, beat: Beat, actor: Actor, act: Option<Act>) -> Result<(), NoMemory>
     ensures { OnOk result (deeds.new ≡ deeds.old ++ deeds_of beat.0 actor act) }
 {
@@ -112,7 +112,7 @@ pub fn lead_act(lead: Option<Version>) -> Option<Act>
     }
 }
 
-/// What is printed of a removal, where something was removed.
+/// What is printed of a removal, if something was removed.
 pub fn remove_act(key: Key, version: Option<Version>) -> Option<Act>
     ensures { result ≡ event_act (What.Remove key) version }
 {

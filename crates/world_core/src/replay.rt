@@ -13,7 +13,7 @@ use std::alloc::Global;
 use std::sync::ledger::Blank;
 use zone_state::Policies;
 
-/// Does all beats of a document, and answers their printed entries.
+/// Does all beats of a document, and returns their printed entries.
 pub fn deeds_of(alloc: Global, document: Document, policies: &Policies) -> Result<Deeds, NoMemory>
     requires lawful { IsLawfulDoc (doc_of document) }
     ensures { IfOk result (λ deeds. deeds ≡ printed (whole_history (doc_of document))) }

@@ -15,7 +15,7 @@ use kube_objects::Reply;
 use wire_calls::{Fate, Sent, Wire};
 use world_process::Process;
 
-/// The reply to a request that arrived is sent. It stays out of line, as the answer does.
+/// The reply to a request that arrived is sent. It stays out of line, so that a beat at which nothing arrives makes no room for it.
 #[inline(never)]
 pub fn send_back(
     wire: &mut Wire,

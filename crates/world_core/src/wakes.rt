@@ -6,7 +6,7 @@ ghost use Rattle.world_core.specs.Waits.{beat_of};
 use kube_base::{Beat, Local};
 
 /// What a process waits for: something that is there already, a reading of its clock, or a time of day in microseconds since 1970 that
-/// counts from another reading on, which is none where it never does.
+/// counts from another reading on, which is none if it never does.
 #[derive(Clone, Copy, Debug, PartialEq, Eq)]
 pub struct Wakes {
     pub at_once: bool,

@@ -72,7 +72,7 @@ impl World {
         ensures writable { (doc : Doc) (k : ℕ) → WasRead doc self.now → WorldStands doc k (history doc k) self.now → k ≤ end_beat doc + 1
             → IfOk result (AreWritable (names_of self.now) (length doc.controllers)) }
     {
-        // The names hold what every list of names does.
+        // Reading the length lets the checker use what every list of names keeps.
         let _held = self.names.len();
         self.store.objects()
     }
@@ -91,7 +91,7 @@ impl World {
         self.beat.0 > self.end.0
     }
 
-    /// Does one beat, and answers its printed entries. It counts one step.
+    /// Does one beat, and returns its printed entries. It counts one step.
     pub fn beat<L>(&mut self, policies: &Policies, steps: &mut Steps<L>) -> Result<Deeds, NoMemory>
         requires ready { IsReady self.old }
         requires within { at_of self.old ≤ end_of self.old }
@@ -104,7 +104,7 @@ impl World {
         ensures counted { steps.new ≡ counted steps.old 1 }
     {
         steps.tick();
-        // The names hold what every list of names does.
+        // Reading the length lets the checker use what every list of names keeps.
         let _held = self.names.len();
         let mut deeds = Deeds::new(self.alloc);
         self.first_starts(&mut deeds)?;
@@ -116,7 +116,7 @@ impl World {
         Ok(deeds)
     }
 
-    /// Goes on to a later beat, at most to the one after the end, where no entry stands at the beats between.
+    /// Goes on to a later beat, at most to the one after the end, if no entry stands at the beats between.
     pub fn skip_to(&mut self, beat: Beat)
         requires ready { IsReady self.old }
         requires ahead { (at_of self.old ≤ beat.0) × (beat.0 ≤ end_of self.old + 1) }

@@ -1,11 +1,12 @@
 -- The names of a generated document hold its numbers, each under its text.
-use Rattle.std.proofs.Common.{◌≡◌, ℕ, zero, suc, ◌+◌, ◌%◌, ◌<◌, ◌≤◌, ◌^◌, ◌==◌, true, false, List, [], ◌∷◌, ◌++◌, map, length, slice_get, Some, unwrap_or, codes, decimal, refl, sym, ap, ◌∙◌, arith, append_assoc, suc-add, zero-add, length-append}
+use Rattle.std.proofs.Common.{◌≡◌, ℕ, zero, suc, ◌+◌, ◌%◌, ◌<◌, ◌≤◌, ◌^◌, ◌&&◌, true, List, [], ◌∷◌, ◌++◌, map, length, slice_get, Some, unwrap_or, codes, decimal, refl, sym, ap, ◌∙◌, arith, append_assoc, suc-add, zero-add, length-append}
 use Rattle.std.proofs.lemmas.Fmt.{decimal_by_steps, decimal_digit, length-decimal-le}
 use Rattle.std.proofs.lemmas.List.FromFn.{length-map-range_with_len}
+use Rattle.std.proofs.lemmas.Bool.{and_parts}
 use Rattle.std.proofs.lemmas.Bool.Decides.{nat_tests}
 use Rattle.std.proofs.lemmas.Option.{slice_get_within}
 use Rattle.std.specs.List.{range_with_len}
-use Rattle.manifest_json.specs.Fields.{Texts, is_name, is_name_rest, is_small_letter_or_digit, is_label}
+use Rattle.manifest_json.specs.Fields.{Texts, is_name, is_name_rest, is_small_letter_or_digit, may_follow, is_label}
 use Rattle.manifest_json.specs.Readable.{IsHeld, IsNameNumber, IsLabelNumber}
 use Rattle.world_gen.specs.Numbers.{controller_number, node_number, region_number, zone_number, space_number, pod_number, short_name, short_names, controller_names, node_names, zones, zone_names, pod_names, generated_names}
 
@@ -32,35 +33,22 @@ held-first letter n i lt = held-short_name letter 0 n i lt ∙ ap (λ k. Some (s
 
 -- ---- a small letter and a decimal number are a name
 
-abbrev AreDigits : List ℕ → Type 0
-AreDigits [] = Unit {0}
-AreDigits (d ∷ ds) = (48 ≤ d) × (d < 58) × AreDigits ds
+-- a digit goes on in a name
+rest-push : (last : ℕ) (text : List ℕ) (d : ℕ) → is_name_rest last text ≡ true → 48 ≤ d → d < 58 → is_name_rest last (text ++ (d ∷ [])) ≡ true
+rest-push last [] d small lo hi = grind (arith, nat_tests, small, lo, hi)
+rest-push last (byte ∷ text) d both lo hi =
+    let parts = and_parts (may_follow last byte) (is_name_rest byte text) both in
+    ap (λ b. b && is_name_rest byte (text ++ (d ∷ []))) parts.0 ∙ rest-push byte text d parts.1 lo hi
 
-digits-push : (ds : List ℕ) (d : ℕ) → AreDigits ds → 48 ≤ d → d < 58 → AreDigits (ds ++ (d ∷ []))
-digits-push [] d h lo hi = (lo, hi, tt)
-digits-push (e ∷ es) d h lo hi = (h.0, h.1, digits-push es d h.2 lo hi)
+rest-decimal : (last n : ℕ) → is_small_letter_or_digit last ≡ true → n < 2 ^ 64 → is_name_rest last (decimal n) ≡ true
+rest-decimal last n small few =
+    decimal_by_steps (λ _ ds. is_name_rest last ds ≡ true) (λ n lt. rest-push last [] (48 + n) small (omega arith) (omega arith))
+    (λ n ds ge h. rest-push last ds (48 + n % 10) h (omega arith) (omega arith)) n few
 
-are-digits : (n : ℕ) → n < 2 ^ 64 → AreDigits (decimal n)
-are-digits n few =
-    decimal_by_steps (λ _ ds. AreDigits ds) (λ n lt. (omega arith, omega arith, tt))
-    (λ n ds ge h. digits-push ds (48 + n % 10) h (omega arith) (omega arith)) n few
-
-digit-follows : (d : ℕ) → 48 ≤ d → d < 58 → is_small_letter_or_digit d ≡ true
-digit-follows d lo hi = grind (arith, nat_tests)
-
-name-rest : (last : ℕ) (ds : List ℕ) → is_small_letter_or_digit last ≡ true → (last == 46) ≡ false → AreDigits ds
-    → is_name_rest last ds ≡ true
-name-rest last [] small dot h = small
-name-rest last (d ∷ ds) small dot h =
-    let digit = digit-follows d h.0 h.1 in
-    let rest = name-rest d ds digit (grind (arith, nat_tests, h)) h.2 in
-    grind (arith, nat_tests, digit, rest, small, dot, h)
-
-pub short_name-is_name : (letter i : ℕ) → is_small_letter_or_digit letter ≡ true → (letter == 46) ≡ false → i < 10 ^ 9
-    → is_name (short_name letter i) ≡ true
-short_name-is_name letter i small dot few =
+pub short_name-is_name : (letter i : ℕ) → is_small_letter_or_digit letter ≡ true → i < 10 ^ 9 → is_name (short_name letter i) ≡ true
+short_name-is_name letter i small few =
     let long = length-decimal-le 9 i (omega arith) few (omega arith) in
-    let rest = name-rest letter (decimal i) small dot (are-digits i (omega arith)) in
+    let rest = rest-decimal letter i small (omega arith) in
     grind (arith, nat_tests, long, rest, small)
 
 -- ---- zones are labels
@@ -139,7 +127,7 @@ module _ (nodes pods : ℕ) where
       is-name names (node_number i) (short_name 110 i)
       (behind-controllers (13 + i) i (short_name 110 i) refl
       (held-left (node_names nodes) behind_nodes i (short_name 110 i) (held-first 110 nodes i lt)))
-      (short_name-is_name 110 i refl refl (omega arith))
+      (short_name-is_name 110 i refl (omega arith))
 
   pub region-label : IsLabelNumber names (region_number nodes)
   region-label = is-label names (region_number nodes) (codes "r1") (behind-nodes (13 + nodes) 0 (codes "r1") (omega arith) refl) refl
@@ -166,7 +154,7 @@ module _ (nodes pods : ℕ) where
   pod-named j lt few =
       is-name names (pod_number nodes j) (short_name 112 j)
       (behind-zones (pod_number nodes j) (suc j) (short_name 112 j) (omega arith) (pod-at pods j lt))
-      (short_name-is_name 112 j refl refl (omega arith))
+      (short_name-is_name 112 j refl (omega arith))
     where
       pod-at : (n i : ℕ) → i < n → slice_get (pod_names n) (suc i) ≡ Some (short_name 112 i)
       pod-at zero i small = absurd (omega arith)

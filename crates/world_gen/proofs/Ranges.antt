@@ -54,23 +54,7 @@ settings-lawful beats few = record {
 }
 
 process-lawful : (name rate : ℕ) → 500000 ≤ rate → rate ≤ 2000000 → IsLawful (process name rate)
-process-lawful name rate least most = record {
-  rate_least = least;
-  rate_most = most;
-  offset_least = omega arith;
-  offset_most = omega arith;
-  ready = tt;
-  lease_least = omega arith;
-  lease = omega arith;
-  renew_least = omega arith;
-  renew = omega arith;
-  retry_least = omega arith;
-  retry = omega arith;
-  timeout_least = omega arith;
-  timeout = omega arith;
-  renew_within_lease = omega arith;
-  retry_within_renew = omega arith;
-}
+process-lawful name rate least most = grind (arith, least, most)
 
 pub controllers-lawful : AllByRecursion IsLawful controllers
 controllers-lawful = (

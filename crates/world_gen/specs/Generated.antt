@@ -1,6 +1,6 @@
 -- The generated document of a seed: three controllers, nodes with their kubelets, Pods that are spread over the nodes, and crashes.
 -- What isn't named here is a document's default. Source: profile.
-use Rattle.std.specs.Prelude.{ℕ, zero, suc, pos, ◌+◌, ◌/◌, ◌==◌, true, false, List, [], ◌∷◌, ◌++◌, map, Some}
+use Rattle.std.specs.Prelude.{ℕ, zero, suc, pos, ◌+◌, ◌/◌, ◌≤◌, ◌==◌, true, false, List, [], ◌∷◌, ◌++◌, map, Some}
 use Rattle.std.specs.List.{range_with_len, filter}
 use Rattle.rand_pcg.specs.Lcg.{Lcg}
 use Rattle.kube_base.specs.declared.numbers.Wall.{Wall}
@@ -138,6 +138,13 @@ abbrev pub events : ℕ → List Crash → List Event
 events beats drawn = map event (by_beat (beats + 1) (drawn ++ middle beats ∷ []))
 
 -- ---- the document
+
+-- the ranges of its sizes
+pub record AreInRange (nodes_asked pods_asked beats_asked : ℕ) : Type 0 where
+  pub some : 1 ≤ nodes_asked
+  pub nodes : nodes_asked ≤ 1000
+  pub pods : pods_asked ≤ 30000
+  pub beats : beats_asked ≤ 100000
 
 unfoldable pub generated : ℕ → ℕ → ℕ → ℕ → Doc
 generated seed nodes pods beats =

@@ -1,9 +1,9 @@
 // The document of a seed.
-ghost use Rattle.std.specs.Prelude.{◌≡◌, ◌≤◌, true, IfOk};
+ghost use Rattle.std.specs.Prelude.{◌≡◌, true, IfOk};
 ghost use Rattle.history.specs.Premise.{lease_premise};
 ghost use Rattle.script_reader.specs.Documents.{doc_of};
 ghost use Rattle.script_reader.specs.Lawful.{IsLawfulDoc, IsWellNamed};
-ghost use Rattle.world_gen.specs.Generated.{generated};
+ghost use Rattle.world_gen.specs.Generated.{AreInRange, generated};
 ghost use Rattle.world_gen.specs.Numbers.{generated_names};
 
 use crate::crash::events;
@@ -26,10 +26,7 @@ pub fn generate(
     pods: u32,
     beats: u32,
 ) -> Result<Document, NoMemory>
-    requires some { 1 ≤ nodes }
-    requires nodes { nodes ≤ 1000 }
-    requires pods { pods ≤ 30000 }
-    requires beats { beats ≤ 100000 }
+    requires { AreInRange nodes pods beats }
     ensures document { IfOk result (λ d. doc_of d ≡ generated seed nodes pods beats) }
     ensures names { IfOk result (λ d. d.names ≡ generated_names nodes pods) }
     ensures lawful { IfOk result (λ d. IsLawfulDoc (doc_of d)) }
@@ -45,10 +42,7 @@ pub fn generate(
 /// Makes the parts, in the order in which they are drawn.
 #[tactic(auto, unfolding(crate::specs::Generated::generated))]
 fn build(alloc: Global, seed: u64, nodes: u32, pods: u32, beats: u32) -> Result<Document, NoMemory>
-    requires some { 1 ≤ nodes }
-    requires nodes { nodes ≤ 1000 }
-    requires pods { pods ≤ 30000 }
-    requires beats { beats ≤ 100000 }
+    requires { AreInRange nodes pods beats }
     ensures document { IfOk result (λ d. doc_of d ≡ generated seed nodes pods beats) }
     ensures names { IfOk result (λ d. d.names ≡ generated_names nodes pods) }
     ensures none_skipped { IfOk result (λ d. d.objects.skipped ≡ 0) }

@@ -1,7 +1,7 @@
 // The names of a document and their numbers.
-ghost use Rattle.std.specs.Prelude.{◌≡◌, ℕ, ◌<◌, ◌≤◌, ◌+◌, ◌-◌, ◌^◌, false, [], ◌∷◌, ◌++◌, length, codes, IfOk, OnOk};
+ghost use Rattle.std.specs.Prelude.{◌≡◌, ℕ, ◌<◌, ◌≤◌, ◌+◌, ◌-◌, ◌^◌, false, [], ◌∷◌, ◌++◌, length, codes, string_bytes, IfOk, OnOk};
 ghost use Rattle.std.specs.List.{list_any};
-ghost use Rattle.std.specs.Str.{bytes_eq, IsUtf8};
+ghost use Rattle.std.specs.Str.{bytes_eq};
 ghost use Rattle.world_gen.specs.Numbers as spec;
 
 use itoa::Buffer;
@@ -67,7 +67,7 @@ pub(crate) fn names_of(alloc: Global, nodes: u32, pods: u32) -> Result<Names, No
 {
     let mut names = controller_names(alloc)?;
     add_all(alloc, &mut names, b'n', nodes)?;
-    add_new(&mut names, b"r1")?;
+    add_new(&mut names, "r1")?;
     add_all(alloc, &mut names, b'z', zones(nodes))?;
     add_pods(alloc, &mut names, pods)?;
     Ok(names)
@@ -79,9 +79,9 @@ fn controller_names(alloc: Global) -> Result<Names, NoMemory>
     ensures { IfOk result (λ names. names ≡ spec.controller_names) }
 {
     let mut names = Names::new(alloc)?;
-    names.number(b"c0")?;
-    names.number(b"c1")?;
-    names.number(b"c2")?;
+    names.number("c0")?;
+    names.number("c1")?;
+    names.number("c2")?;
     Ok(names)
 }
 
@@ -93,16 +93,15 @@ fn add_pods(alloc: Global, names: &mut Names, pods: u32) -> Result<(), NoMemory>
     ensures { OnOk result (names.new ≡ names.old ++ spec.pod_names pods) }
 {
     if pods > 0 {
-        add_new(names, b"default")?;
+        add_new(names, "default")?;
         add_all(alloc, names, b'p', pods)?;
     }
     Ok(())
 }
 
 /// Adds a text that is new.
-fn add_new(names: &mut Names, text: &[u8]) -> Result<(), NoMemory>
+fn add_new(names: &mut Names, text: &str) -> Result<(), NoMemory>
     requires few { length names.old < 2 ^ 32 - 1 }
-    requires text { IsUtf8 text.now }
     requires fresh { list_any (bytes_eq text.now) names.old ≡ false }
     ensures { OnOk result (names.new ≡ names.old ++ text.now ∷ []) }
 {
@@ -119,19 +118,19 @@ fn add_all(alloc: Global, names: &mut Names, letter: u8, count: u32) -> Result<(
 {
     for i in 0..count {
         let text = short_name(alloc, letter, i)?;
-        add_new(names, &text)?;
+        add_new(names, text.as_str())?;
     }
     Ok(())
 }
 
 /// A letter and then a number in decimal.
-fn short_name(alloc: Global, letter: u8, i: u32) -> Result<Vec<u8>, NoMemory>
+fn short_name(alloc: Global, letter: u8, i: u32) -> Result<String, NoMemory>
     requires { letter < 128 }
-    ensures text { IfOk result (λ text. text.items ≡ spec.short_name letter i) }
-    ensures utf8 { IfOk result (λ text. IsUtf8 text.items) }
+    ensures { IfOk result (λ text. string_bytes text ≡ spec.short_name letter i) }
 {
     let mut buffer = Buffer::new();
-    let mut text = Vec::from_slice(alloc, &[letter])?;
-    text.extend_from_slice(buffer.format(i).as_bytes())?;
+    let mut text = String::new(alloc);
+    text.push(char::from(letter))?;
+    text.push_str(buffer.format(i))?;
     Ok(text)
 }

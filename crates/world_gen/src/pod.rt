@@ -6,7 +6,9 @@ ghost use Rattle.world_gen.specs.Generated as spec;
 use crate::draw::draw;
 use crate::names::{node_number, pod_number, space_number};
 use kube_base::{NOT_READY, NoMemory, UNREACHABLE};
-use kube_objects::{Effect, Items, Key, Kind, Object, Operator, Pod, Toleration, Tolerations};
+use kube_objects::{
+    Effect, Items, Key, Kind, Object, Operator, Pod, Toleration, TolerationList, Tolerations,
+};
 use rand_pcg::Lcg64Xsh32;
 use std::alloc::Global;
 
@@ -59,9 +61,10 @@ fn pod_item(alloc: Global, nodes: u32, j: u32, placing: Placing) -> Result<(Key,
     requires node { placing.node < nodes }
     ensures { IfOk result (λ item. item ≡ spec.pod_item nodes j placing) }
 {
-    let mut tolerations = Tolerations::new(alloc);
-    tolerations.push(toleration(NOT_READY, placing.seconds))?;
-    tolerations.push(toleration(UNREACHABLE, placing.seconds))?;
+    let mut list = TolerationList::new(alloc);
+    list.push(toleration(NOT_READY, placing.seconds))?;
+    list.push(toleration(UNREACHABLE, placing.seconds))?;
+    let tolerations = Tolerations::of(list)?;
     let key = Key {
         kind: Kind::Pod,
         space: space_number(nodes),

@@ -67,6 +67,6 @@ stands-forgets doc p h c t down s anew = record {
   pauses = s.pauses;
   up_first = s.up_first;
   role = s.role;
-  term = record { settings = (anew (identity p 0) [] refl refl).settings; each = λ i up. absurd (none_is i (sym (down-is doc p c.incarnation h c.role down s.role) ∙ up)) };
+  term = record { settings = (anew (identity p 0) [] refl refl).parts.settings; each = λ i up. absurd (none_is i (sym (down-is doc p c.incarnation h c.role down s.role) ∙ up)) };
   waking = s.waking;
 }

@@ -144,7 +144,7 @@ ticks-unheard q (e ∷ h) u = ap (λ b. added b (ticks q h)) (by_fact e.actor e.
 pub owns-started : (doc : Doc) (k step p : ℕ) (h : List Entry) (t : Term) → IsUnheard (identity p (starts p h + 1)) h
     → ((q : Identity) (g : List Entry) → ticks q g ≡ 0 → leads q g ≡ false → TermStands doc q g t) → OwnsTerm doc p (start k step p h) t
 owns-started doc k step p h t u anew = record {
-  settings = (anew q [] refl refl).settings;
+  settings = (anew q [] refl refl).parts.settings;
   each = λ i up. subst (λ n. IsTermOf doc (identity p n) (start k step p h) t) (some_is (starts p h + 1) i (sym (alive-start k step q h) ∙ up)) (record { term = anew q (start k step p h) none (leads-unheard q h u); begun = begun_new q (start k step p h) none });
 }
   where
@@ -160,7 +160,7 @@ pub owns-led : (doc : Doc) (k p i : ℕ) (version : Version) (h : List Entry) (o
     → (TermStands doc (identity p i) h old → TermStands doc (identity p i) (entry k 3 (identity p i) (Leads version) ∷ h) new)
     → OwnsTerm doc p (entry k 3 (identity p i) (Leads version) ∷ h) new
 owns-led doc k p i version h old new up s led = record {
-  settings = (led was.term).settings;
+  settings = (led was.term).parts.settings;
   each = λ j now. subst (λ n. IsTermOf doc (identity p n) (e ∷ h) new) (some_is i j (sym up ∙ now)) (record { term = led was.term; begun = begun_beside (identity p i) h e refl was.begun });
 }
   where
@@ -177,7 +177,7 @@ alive-tick doc k p q h = walk_tick doc k q (λ g. alive p g ≡ alive p h) (λ t
 
 pub owns-ticked : (doc : Doc) (k p i : ℕ) (h : List Entry) (old new : Term) → alive p h ≡ Some i → OwnsTerm doc p h old → TermStands doc (identity p i) (tick doc k (identity p i) h) new → OwnsTerm doc p (tick doc k (identity p i) h) new
 owns-ticked doc k p i h old new up s stands = record {
-  settings = stands.settings;
+  settings = stands.parts.settings;
   each = λ j now. subst (λ n. IsTermOf doc (identity p n) (tick doc k q h) new) (some_is i j (sym up ∙ sym (alive-tick doc k p q h) ∙ now)) (record { term = stands; begun = begun_tick doc k q h (s.each i up).begun });
 }
   where

@@ -49,15 +49,6 @@ pub fn times_for(
     Ok((clock, pauses))
 }
 
-/// Milliseconds in units of 10^-12 s.
-#[tactic(auto, unfolding(kube_objects::specs::Document::of_millis))]
-pub fn picoseconds(millis: u32) -> u64
-    ensures value { result ≡ of_millis millis }
-    ensures plain { result ≡ millis * 1000000000 }
-{
-    u64::from(millis) * 1_000_000_000
-}
-
 // Milliseconds in microseconds.
 fn microseconds(millis: i64) -> i64
     requires least { negsuc 31535999999 ≤ℤ millis }
@@ -99,7 +90,7 @@ fn rate_of(what: &What, me: ProcId) -> Option<u32>
     }
 }
 
-/// The first beat up to its end at which a clock reads this. None where there is none, or nothing is asked for.
+/// The first beat up to its end at which a clock reads this. None if there is none, or nothing is asked for.
 pub fn first_beat(clock: &Clock, at: Option<Local>) -> Option<Beat>
     ensures { IsBeatOf clock.now result at }
 {

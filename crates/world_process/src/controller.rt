@@ -28,7 +28,7 @@ ghost use Rattle.world_process.specs.Plain.{IsPlain, IsFew};
 ghost use Rattle.world_process.specs.Processes.{leads_as};
 ghost use Rattle.world_process.specs.declared.controller.Controller.{Controller};
 
-use crate::clocks::{picoseconds, times_for};
+use crate::clocks::times_for;
 use crate::moves::{
     Received, Stopped, Turn, asks, begins_release, ends, ends_with, leads, stays, stop_with,
     turn_with,
@@ -36,7 +36,7 @@ use crate::moves::{
 use crate::settings::tick_settings;
 use crate::waits::Waits;
 use crate::waking::Waking;
-use controller_core::Term;
+use controller_core::{Term, picoseconds};
 use kube_base::{Beat, Local, NoMemory, ProcId, Wall};
 use kube_objects::{Event, NumberList, Proc, Reply, Settings};
 use leader_elector::{
@@ -48,7 +48,7 @@ use skew_clock::Clock;
 use std::alloc::Global;
 use std::mem;
 
-/// What a controller is. Where it is down it may have a reading at which it starts again; it is up until the release of its Lease is over.
+/// What a controller is. If it is down it may have a reading at which it starts again; it is up until the release of its Lease is over.
 #[derive(Drop)]
 pub enum Role {
     Down(Option<Local>),
@@ -58,7 +58,7 @@ pub enum Role {
 }
 
 impl Role {
-    /// The leadership at a beat, in a term that isn't over or in a release that acts; None where there is none.
+    /// The leadership at a beat, in a term that isn't over or in a release that acts; None if there is none.
     pub fn acting(&self, clock: &Clock, beat: Beat) -> Option<Acting<'_>>
         requires { beat.0 ≤ clock.now.end }
         ensures leads { (doc : Doc) (k p i : ℕ) (h : List Entry) → RoleStands doc p i h self.now → ClockStands doc p clock.now
@@ -157,7 +157,7 @@ impl Controller {
         self.term.renew();
     }
 
-    /// Goes down where it is up, and its call is forgotten, with what its term had seen; a restart that waits is cancelled. Tells
+    /// Goes down if it is up, and its call is forgotten, with what its term had seen; a restart that waits is cancelled. Tells
     /// whether it was up.
     pub fn crash(&mut self) -> bool
         ensures same { SameController self.old self.new }
@@ -171,7 +171,7 @@ impl Controller {
         up
     }
 
-    /// Starts where it is down; a restart that waits is cancelled. Tells whether it was down.
+    /// Starts if it is down; a restart that waits is cancelled. Tells whether it was down.
     pub fn start_if_down(&mut self, beat: Beat) -> bool
         requires { beat.0 ≤ self.old.clock.end }
         ensures same { SameController self.old self.new }
@@ -187,8 +187,8 @@ impl Controller {
         true
     }
 
-    /// Goes down in order where it is up, without a restart: a leader by a release, which goes on where it runs. A restart that waits is
-    /// cancelled. Where it is paused it stays as it is.
+    /// Goes down in order if it is up, without a restart: a leader by a release, which goes on if it runs. A restart that waits is
+    /// cancelled. If it is paused it stays as it is.
     pub fn stop(&mut self, beat: Beat) -> Stopped
         requires { beat.0 ≤ self.old.clock.end }
         ensures same { SameController self.old self.new }
@@ -260,7 +260,7 @@ impl Controller {
         turn
     }
 
-    /// The least reading at which its turn, a tick aside, adds an entry to the history. None where there is none.
+    /// The least reading at which its turn, a tick aside, adds an entry to the history. None if there is none.
     pub fn wake(&self) -> Option<Local>
         ensures { (doc : Doc) (p : ℕ) (h : List Entry) → ControllerStands doc p h self.now → reading_of result ≡ elector_reading doc p h }
     {
@@ -272,7 +272,7 @@ impl Controller {
         }
     }
 
-    /// The leadership that it has at a beat, in a term that isn't over or in a release that acts; None where it has none.
+    /// The leadership that it has at a beat, in a term that isn't over or in a release that acts; None if it has none.
     pub fn leadership(&self, beat: Beat) -> Option<Acting<'_>>
         requires { beat.0 ≤ self.now.clock.end }
         ensures leads { (doc : Doc) (k p : ℕ) (h : List Entry) → ControllerStands doc p h self.now → beat.0 ≡ k
@@ -285,7 +285,7 @@ impl Controller {
         self.role.acting(&self.clock, beat)
     }
 
-    /// Starts again, where it is down and its clock has reached its restart.
+    /// Starts again, if it is down and its clock has reached its restart.
     fn restart(&mut self, beat: Beat) -> bool
         requires { beat.0 ≤ self.old.clock.end }
         ensures same { SameController self.old self.new }

@@ -18,17 +18,18 @@ ghost use Rattle.world_process.specs.Clocked.{AreEventsFrom, IsMadeOf};
 ghost use Rattle.world_process.specs.Kubelets.{KubeletStands, SameKubelet, Crashed, Begun, Turned, Replied};
 ghost use Rattle.world_process.specs.Plain.{IsPlain, IsFew};
 
-use crate::clocks::{picoseconds, times_for};
+use crate::clocks::times_for;
 use crate::moves::{Received, Turn, effect_with, stays, turn_with};
 use crate::round_timing::RoundTiming;
 use crate::waking::Waking;
+use controller_core::picoseconds;
 use kube_base::{Beat, Local, NoMemory, ProcId};
 use kube_objects::{Event, Proc, ReadyStatus, Reply, Settings};
 use pause_times::Pauses;
 use skew_clock::Clock;
 use std::alloc::Global;
 
-/// A kubelet with its clock. The incarnation counts its starts; where it is up its rounds are those of one incarnation.
+/// A kubelet with its clock. The incarnation counts its starts; if it is up its rounds are those of one incarnation.
 #[derive(Drop)]
 pub struct Kubelet {
     pub me: ProcId,
@@ -99,7 +100,7 @@ impl Kubelet {
         ));
     }
 
-    /// Goes down where it is up, and its call is forgotten. Tells whether it was up.
+    /// Goes down if it is up, and its call is forgotten. Tells whether it was up.
     pub fn crash(&mut self) -> bool
         ensures same { SameKubelet self.old self.new }
         ensures stands { (doc : Doc) (k : ℕ) (id : ProcId) (h : List Entry) → KubeletStands doc id.0 h self.old
@@ -110,7 +111,7 @@ impl Kubelet {
         up
     }
 
-    /// Starts where it is down. Tells whether it was down.
+    /// Starts if it is down. Tells whether it was down.
     pub fn start_if_down(&mut self, beat: Beat) -> bool
         requires { beat.0 ≤ self.old.clock.end }
         ensures same { SameKubelet self.old self.new }
@@ -160,7 +161,7 @@ impl Kubelet {
         }
     }
 
-    /// The least reading at which its turn adds an entry to the history. None where there is none.
+    /// The least reading at which its turn adds an entry to the history. None if there is none.
     pub fn wake(&self) -> Option<Local>
         ensures { (doc : Doc) (p : ℕ) (h : List Entry) → KubeletStands doc p h self.now → reading_of result ≡ kubelet_reading doc p h }
     {

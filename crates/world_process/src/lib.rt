@@ -13,7 +13,7 @@ mod ticking;
 mod waits;
 mod waking;
 
-pub use clocks::{first_beat, picoseconds};
+pub use clocks::first_beat;
 pub use controller::{Controller, Role};
 pub use in_force::InForce;
 pub use kubelet::Kubelet;

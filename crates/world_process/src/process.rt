@@ -135,7 +135,7 @@ impl Process {
         }
     }
 
-    /// Goes down where it is up. Tells whether it was up.
+    /// Goes down if it is up. Tells whether it was up.
     pub fn crash(&mut self) -> bool
         ensures same { SameProcess self.old self.new }
         ensures waking { waking_of self.new ≡ waking_of self.old }
@@ -148,7 +148,7 @@ impl Process {
         }
     }
 
-    /// Starts where it is down. Tells whether it was down.
+    /// Starts if it is down. Tells whether it was down.
     pub fn start_if_down(&mut self, beat: Beat) -> bool
         requires { beat.0 ≤ (clock_of self.old).end }
         ensures same { SameProcess self.old self.new }
@@ -163,7 +163,7 @@ impl Process {
         }
     }
 
-    /// A controller goes down in order where it is up and not paused. No lawful document stops a kubelet.
+    /// A controller goes down in order if it is up and not paused. No lawful document stops a kubelet.
     pub fn stop(&mut self, beat: Beat) -> Stopped
         requires { beat.0 ≤ (clock_of self.old).end }
         ensures same { SameProcess self.old self.new }
@@ -195,7 +195,7 @@ impl Process {
         }
     }
 
-    /// A controller's tick, where it acts as the leader: in a term that isn't over, and not in a pause. It is told whether its watch
+    /// A controller's tick, if it acts as the leader: in a term that isn't over, and not in a pause. It is told whether its watch
     /// is on and whether its requests pass. What is printed of the tick is added to the deeds. A kubelet has none.
     pub fn tick(
         &mut self,
@@ -232,8 +232,8 @@ impl Process {
         }
     }
 
-    /// The reading from which on a tick of a controller's term has a sync, where it leads, one is due and the term takes time to settle.
-    /// None where there is none.
+    /// The reading from which on a tick of a controller's term has a sync, if it leads, one is due and the term takes time to settle.
+    /// None if there is none.
     pub fn sync_wake(&self, store: &Store, watch: bool) -> Option<Local>
         ensures { (doc : Doc) (q : Identity) (h : List Entry) → ProcessStands doc q.process h self.now → StoreStands h store.now
             → watch ≡ watches doc q.process h → IsUpAs doc q h → leads q h ≡ true → reading_of result ≡ sync_at doc q h }
@@ -244,7 +244,7 @@ impl Process {
         }
     }
 
-    /// The least reading at which a tick of a controller's term has a pass, or a queued taint of those who wait now. None where there
+    /// The least reading at which a tick of a controller's term has a pass, or a queued taint of those who wait now. None if there
     /// is none.
     pub fn term_wake(&self) -> Option<Local>
         ensures { (doc : Doc) (q : Identity) (h : List Entry) → ProcessStands doc q.process h self.now → IsUpAs doc q h
@@ -256,7 +256,7 @@ impl Process {
         }
     }
 
-    /// The least due of the pods that a controller's term sees, the stale ones aside, in microseconds since 1970. None where there is none.
+    /// The least due of the pods that a controller's term sees, the stale ones aside, in microseconds since 1970. None if there is none.
     pub fn least_due(&self) -> Option<u128>
         ensures { (doc : Doc) (q : Identity) (h : List Entry) (w : ℕ) → ProcessStands doc q.process h self.now → IsUpAs doc q h
             → is_early w result ≡ is_early w (term_time doc q h) }
@@ -267,7 +267,7 @@ impl Process {
         }
     }
 
-    /// The reading from which on a tick of a controller's term may delete a pod that is due. None where none may any more.
+    /// The reading from which on a tick of a controller's term may delete a pod that is due. None if none may any more.
     pub fn delete_wake(&self) -> Option<Local>
         ensures { (doc : Doc) (k : ℕ) (q : Identity) (h : List Entry) → ProcessStands doc q.process h self.now → IsUpAs doc q h
             → AreInBeats h → AreUpTo k h
@@ -289,7 +289,7 @@ impl Process {
         }
     }
 
-    /// The least reading at which its turn, its tick aside, adds an entry to the history. None where there is none.
+    /// The least reading at which its turn, its tick aside, adds an entry to the history. None if there is none.
     pub fn wake(&self) -> Option<Local>
         ensures { (doc : Doc) (p : ℕ) (h : List Entry) → ProcessStands doc p h self.now → reading_of result ≡ own_reading doc p h }
     {
@@ -300,7 +300,7 @@ impl Process {
     }
 
     /// The first beat up to the end at which its clock reads `wake`: its turn, its tick aside, adds an entry to the history exactly
-    /// from this beat on. None where there is none.
+    /// from this beat on. None if there is none.
     pub fn turn_beat(&self) -> Option<Beat>
         ensures first { (doc : Doc) (p : ℕ) (h : List Entry) (at : Option Local) → ProcessStands doc p h self.now
             → reading_of at ≡ own_reading doc p h → IsBeatOf (clock_of self.now) result at }
@@ -343,7 +343,7 @@ impl Process {
         }
     }
 
-    /// The leadership that it has at a beat, in a term that isn't over or in a release that acts; None where it has none, as a kubelet never
+    /// The leadership that it has at a beat, in a term that isn't over or in a release that acts; None if it has none, as a kubelet never
     /// has.
     pub fn leadership(&self, beat: Beat) -> Option<Acting<'_>>
         requires { beat.0 ≤ (clock_of self.now).end }

@@ -24,7 +24,7 @@ use term_state::View;
 use zone_state::Policies;
 
 impl Controller {
-    /// Its tick, where it acts as the leader: in a term that isn't over or in a release, and not in a pause. It is told whether its watch is on and
+    /// Its tick, if it acts as the leader: in a term that isn't over or in a release, and not in a pause. It is told whether its watch is on and
     /// whether its requests pass. What is printed of the tick is added to the deeds.
     pub fn tick(
         &mut self,
@@ -81,7 +81,7 @@ impl Controller {
         self.term.at_once(store, watch)
     }
 
-    /// The reading from which on a tick of its term has a sync, where it leads, one is due and the term takes time to settle. None where
+    /// The reading from which on a tick of its term has a sync, if it leads, one is due and the term takes time to settle. None if
     /// there is none.
     pub fn sync_wake(&self, store: &Store, watch: bool) -> Option<Local>
         ensures { (doc : Doc) (q : Identity) (h : List Entry) → ControllerStands doc q.process h self.now → StoreStands h store.now
@@ -90,8 +90,8 @@ impl Controller {
         self.term.sync_wake(store, watch)
     }
 
-    /// The least reading at which a tick of its term has a pass, or a queued taint of those who wait now; where it is no u64, the greatest
-    /// one. None where there is none.
+    /// The least reading at which a tick of its term has a pass, or a queued taint of those who wait now; if it is no u64, the greatest
+    /// one. None if there is none.
     pub fn term_wake(&self) -> Option<Local>
         ensures { (doc : Doc) (q : Identity) (h : List Entry) → ControllerStands doc q.process h self.now → IsUpAs doc q h
             → reading_of result ≡ option_map kept (synced_reading doc q h) }
@@ -99,7 +99,7 @@ impl Controller {
         self.term.wake()
     }
 
-    /// The least due of the pods that its term sees, the stale ones aside, in microseconds since 1970. None where there is none.
+    /// The least due of the pods that its term sees, the stale ones aside, in microseconds since 1970. None if there is none.
     pub fn least_due(&self) -> Option<u128>
         ensures { (doc : Doc) (q : Identity) (h : List Entry) (w : ℕ) → ControllerStands doc q.process h self.now → IsUpAs doc q h
             → is_early w result ≡ is_early w (term_time doc q h) }
@@ -107,7 +107,7 @@ impl Controller {
         self.term.least_due()
     }
 
-    /// The reading from which on a tick of its term may delete a pod that is due; none where none may any more.
+    /// The reading from which on a tick of its term may delete a pod that is due; none if none may any more.
     pub fn delete_wake(&self) -> Option<Local>
         ensures { (doc : Doc) (k : ℕ) (q : Identity) (h : List Entry) → ControllerStands doc q.process h self.now → IsUpAs doc q h
             → AreInBeats h → AreUpTo k h → is_early (local doc q.process k) (reading_of result) ≡ is_early (local doc q.process k) (room_at doc q h) }

@@ -25,8 +25,8 @@ impl Waking {
         }
     }
 
-    /// The first beat up to its end at which a clock reads this. None where there is none, or nothing is waited for. The kept beat
-    /// is the answer where it was found for the same reading.
+    /// The first beat up to its end at which a clock reads this. None if there is none, or nothing is waited for. The kept beat
+    /// is the answer if it was found for the same reading.
     pub fn beat_of(&self, clock: &Clock, at: Option<Local>) -> Option<Beat>
         ensures { IsBeatOf clock.now self.now.until self.now.below → IsBeatOf clock.now result at }
     {

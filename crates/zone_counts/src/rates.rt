@@ -12,7 +12,7 @@ use kube_objects::{TickSettings, ZoneState};
 use zone_state::{Policies, ZoneView, state_of};
 
 impl ZoneCount {
-    /// The state of the zone, where a zone counts as disrupted from so many of a hundred nodes on that aren't ready.
+    /// The state of the zone, if a zone counts as disrupted from so many of a hundred nodes on that aren't ready.
     pub fn state(&self, percent: u32) -> ZoneState
         ensures { (doc : Doc) (nodes : List Node) (place : Place) → self.now ≡ zone_count nodes place
             → percent ≡ doc.settings.unhealthy_percent → result ≡ modes.state_in doc nodes place }

@@ -13,9 +13,9 @@ pub type FullRate = fn(ZoneView) -> u32;
 
 /// The functions that give the rates of disrupted zones, kept beside the fact that they answer as the policies say.
 ///
-/// On every view whose secondary rate is at most its primary one, `partial` answers the secondary rate where the zone
+/// On every view whose secondary rate is at most its primary one, `partial` returns the secondary rate if the zone
 /// is larger than the threshold and 0 otherwise under Standard, the secondary rate under Gentle, 0 under Halt; `full`
-/// answers the primary rate under Standard, the secondary rate under Gentle, 0 under Halt.
+/// returns the primary rate under Standard, the secondary rate under Gentle, 0 under Halt.
 ///
 /// A program makes them and hands them in: one that has this library in it may bring functions of its own, as long as they answer so.
 /// `partial` and `full` of this crate do.
@@ -40,7 +40,7 @@ impl Policies {
         Policies { partial, full }
     }
 
-    /// The rate of a zone: 0 where every zone is Full, else the primary rate in Normal, and the stored function's
+    /// The rate of a zone: 0 if every zone is Full, else the primary rate in Normal, and the stored function's
     /// answer in Partial and Full. It is at most the primary rate.
     pub fn rate(&self, state: ZoneState, all_full: bool, view: ZoneView) -> u32
         requires { view.secondary ≤ view.primary }

@@ -4,8 +4,8 @@ ghost use Rattle.kube_objects.specs.Zones.{state_of};
 
 use kube_objects::ZoneState;
 
-/// The state of a zone of so many ready and so many other nodes: Full where none is ready and at least one isn't, else
-/// Partial where more than two aren't ready and they are at least `percent` of a hundred of all, else Normal.
+/// The state of a zone of so many ready and so many other nodes: Full if none is ready and at least one isn't, else
+/// Partial if more than two aren't ready and they are at least `percent` of a hundred of all, else Normal.
 pub fn state_of(ready: u32, not_ready: u32, percent: u32) -> ZoneState
     ensures { result ≡ state_of ready not_ready percent }
 {

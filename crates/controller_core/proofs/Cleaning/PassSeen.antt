@@ -14,7 +14,7 @@ use Rattle.kube_objects.specs.Tick.{add, is_same_mode, marks, mode_as, pass, set
 use Rattle.kube_objects.specs.Tokens.{is_rated, rated}
 use Rattle.tick_laws.proofs.Frames.{kept_node, mode_change, pass_change, same_node, zone_change}
 use Rattle.tick_laws.proofs.Marking.{marks_keep, seen_too}
-use Rattle.tick_laws.proofs.Phases.{every}
+use Rattle.history_laws.proofs.Ticks.{every}
 
 module _ (doc : Doc) (k : ℕ) (q : Identity) (h : List Entry) where
   abbrev Leaves : List Entry → Type 0

@@ -23,6 +23,7 @@ use Rattle.kube_objects.specs.Tick.{add, dues, evict, evict_within, evicted, for
 use Rattle.kube_objects.specs.Wire.{loses_requests}
 use Rattle.kube_objects.proofs.KeyOrder.{key_itself, same_key}
 use Rattle.history_laws.proofs.Plainly.{false_is, true_is}
+use Rattle.history_laws.proofs.Ticks.{pods_of_dues}
 use Rattle.evict_queue.specs.Order.{IsNotAfter, timed_cmp}
 use Rattle.object_store.proofs.Keeps.{store-beside}
 use Rattle.object_store.specs.declared.store.Store.{Store}
@@ -31,7 +32,7 @@ use Rattle.tick_laws.specs.Judged.{due_by, is_by_now, term_due}
 use Rattle.tick_laws.specs.Room.{AreInBeats, AreUpTo}
 use Rattle.tick_laws.specs.Steps.{tick_cost}
 use Rattle.tick_laws.specs.Walks.{Among, after, is_after}
-use Rattle.tick_laws.proofs.Evicting.{due_among, due_seen, due_sighted, evict_idle, evict_others, pod_kinds, pods_of_dues, term_is_pod}
+use Rattle.tick_laws.proofs.Evicting.{due_among, due_seen, due_sighted, evict_idle, evict_others, pod_kinds, term_is_pod}
 use Rattle.tick_laws.proofs.Frames.{delete_change}
 use Rattle.tick_laws.proofs.Named.{pod_keys_ascend}
 use Rattle.tick_laws.proofs.Phases.{evicted_keeps}

@@ -50,8 +50,8 @@ module _ (q : Identity) (x : Passed) (name : ℕ) (h : List Entry) (there : has 
       by_seen (Some y) was is = let z = marked y was in false_is (ap has (none ∙ z.1.0))
 
 -- one that is stale isn't tried
-pub stale_is : (doc : Doc) (k : ℕ) (q : Identity) (x : Passed) (name : ℕ) (h : List Entry) → is_stale q (node_key name) h ≡ true → h ≡ judge doc k q x name h
-stale_is doc k q x name h stale = sym (ap (λ b. judge_seen doc k q name x b (seen_node q name x.before) (seen_node q name h) h) stale)
+pub stale_is : (doc : Doc) (k : ℕ) (q : Identity) (x : Passed) (name : ℕ) (h : List Entry) → is_stale q (node_key name) h ≡ true → judge doc k q x name h ≡ h
+stale_is doc k q x name h stale = ap (λ b. judge_seen doc k q name x b (seen_node q name x.before) (seen_node q name h) h) stale
 
 module _ (doc : Doc) (q : Identity) (x : Passed) (name : ℕ) (h : List Entry) (look : Look) (rule : QueueRule) (given : Version) (node : Node) (v : Verdict) (s : WasSeen q x name node)
     (l : IsLook doc q x.before name look) (ruled : rule ≡ doc.settings.rules.queue) (is : IsVerdict look rule node v) where

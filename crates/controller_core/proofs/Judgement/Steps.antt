@@ -13,11 +13,11 @@ use Rattle.kube_objects.specs.Seen.{seen_node}
 use Rattle.kube_objects.specs.Stored.{node_key}
 use Rattle.kube_objects.specs.Tick.{add, crossed, is_stripped, judge, judge_as, judge_seen, new_taint, untainted}
 use Rattle.kube_objects.specs.Tries.{try_node}
-use Rattle.history_laws.proofs.Ticks.{judge_step}
+use Rattle.history_laws.proofs.Ticks.{judge_step, is_heading}
 use Rattle.tick_laws.specs.Changes.{IsChange, IsCleaningOn, noted_by, refused_by}
 use Rattle.tick_laws.specs.Ticked.{IsTicked}
 use Rattle.tick_laws.proofs.Frames.{cleaning_change, given_node, kept_node, noted_node, swap_is, untaint_is}
-use Rattle.tick_laws.proofs.Phases.{counts_kept, is_heading, is_passing, queue_kept, stripped_kept}
+use Rattle.tick_laws.proofs.Phases.{counts_kept, is_passing, queue_kept, stripped_kept}
 use Rattle.tick_laws.proofs.Ticked.{ticked_more, ticked_same}
 
 -- ---- one try

@@ -27,6 +27,7 @@ use Rattle.kube_objects.specs.Tokens.{is_rated, rated}
 use Rattle.kube_objects.specs.Tries.{try_node}
 use Rattle.kube_objects.proofs.Passes.{and_last, heads_last, passes_grow, passes_pass}
 use Rattle.history_laws.proofs.Plainly.{some_is}
+use Rattle.history_laws.proofs.Ticks.{every}
 use Rattle.controller_core.specs.Looking.{AreLooks, FoundStands, HeldStand, IsAsMarked, are_looked_ahead}
 use Rattle.controller_core.specs.declared.pass.found.Found.{Found}
 use Rattle.controller_core.specs.Verdicts.{judged_so}
@@ -34,7 +35,6 @@ use Rattle.controller_core.proofs.Passing.Passed.{moded}
 use Rattle.tick_laws.specs.Changes.{IsChange, noted_by}
 use Rattle.tick_laws.proofs.Frames.{kept_node, mode_change, noted_node, pass_change, same_node, zone_change}
 use Rattle.tick_laws.proofs.Marking.{mark_change, marks_keep}
-use Rattle.tick_laws.proofs.Phases.{every}
 use Rattle.watch_cache.proofs.Frames.{upper}
 use Rattle.watch_cache.proofs.Ticks.{same_self}
 use Rattle.watch_cache.specs.Told.{AreNamed}

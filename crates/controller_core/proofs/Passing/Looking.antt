@@ -14,9 +14,9 @@ use Rattle.kube_objects.specs.Document.{Doc}
 use Rattle.kube_objects.specs.Entry.{Entry, Identity, Mark, Pass}
 use Rattle.kube_objects.specs.Health.{is_silent, is_unknown, lease_of, mark_of, marked, ready_heartbeat, with_mark}
 use Rattle.kube_objects.specs.Newest.{has, when}
-use Rattle.kube_objects.specs.Answers.{as_kind, lease_in}
-use Rattle.kube_objects.specs.Seen.{seen, seen_lease, seen_node}
-use Rattle.kube_objects.specs.Stored.{Held, node_lease}
+use Rattle.kube_objects.specs.Answers.{lease_in}
+use Rattle.kube_objects.specs.Seen.{seen_lease, seen_node}
+use Rattle.kube_objects.specs.Stored.{node_lease}
 use Rattle.kube_objects.specs.Tick.{add, for_each, mark_as, mark_seen, mark, marks}
 use Rattle.kube_objects.specs.Tries.{try_node}
 use Rattle.history.specs.Printed.{reason_in}
@@ -45,9 +45,8 @@ use Rattle.controller_core.proofs.Passing.Marks.{mark_view, mark_write}
 use Rattle.controller_core.proofs.Passing.Working.{pods_begun}
 use Rattle.tick_laws.specs.Walks.{Above, Ascends}
 use Rattle.tick_laws.proofs.Frames.{kept_node, pass_change}
-use Rattle.tick_laws.proofs.Marking.{mark_others, marks_of_seen, names_ascend}
-use Rattle.tick_laws.specs.Judged.{shown}
-use Rattle.watch_cache.specs.Kept.{kept, of_kind}
+use Rattle.tick_laws.proofs.Marking.{lease_shown, mark_others, marks_of_seen, names_ascend}
+use Rattle.watch_cache.specs.Kept.{of_kind}
 use Rattle.watch_cache.specs.Told.{AreNamed}
 
 -- ---- the verdict is the mark
@@ -85,15 +84,7 @@ pub look_is : (doc : Doc) (k : ℕ) (q : Identity) (before : List Deed) (h now :
 look_is doc k q before h now looked c x s t name given node leased at grace p new sees same lease reading graces =
     record { version = given; shown = sym (sees ∙ same); lease = sym (lease ∙ p.leases name); reading = reading; graces = graces; alike = p.alike name new }
 
--- a node that isn't among the looked ones and one more is another one, and wasn't among those
-pub or_left : (a b : Bool) → (a || b) ≡ false → a ≡ false
-or_left true b none = absurd (true_is none)
-or_left false b none = refl
-
-pub or_right : (a b : Bool) → (a || b) ≡ false → b ≡ false
-or_right true b none = absurd (true_is none)
-or_right false b none = none
-
+-- one more is among the looked ones
 pub looked_itself : (n : ℕ) (looked : ℕ → Bool) → and_looked n looked n ≡ true
 looked_itself n looked = ap (λ b. b || looked n) (let itself : (n == n) ≡ true = grind (arith, nat_tests) in itself)
 
@@ -159,13 +150,6 @@ pub record Looking (doc : Doc) (k : ℕ) (q : Identity) (before : List Deed) (h 
 
 passed_seen : (q : Identity) (k : ℕ) (h : List Entry) (n : ℕ) → seen_node q n (add k q Pass h) ≡ seen_node q n h
 passed_seen q k h n = kept_node q h (add k q Pass h) None (pass_change q k h) n
-
-lease_shown : (q : Identity) (name : ℕ) (h : List Entry) → of_kind lease_in (shown q (node_lease name) h) ≡ seen_lease q name h
-lease_shown q name h = by_held (seen q (node_lease name) h)
-  where
-    by_held : (o : Option Held) → of_kind lease_in (kept o) ≡ as_kind lease_in o
-    by_held None = refl
-    by_held (Some x) = refl
 
 pub passed_lease : (q : Identity) (k : ℕ) (h : List Entry) (n : ℕ) → lease_of (seen_lease q n (add k q Pass h)) ≡ lease_of (seen_lease q n h)
 passed_lease q k h n = ap lease_of (sym (lease_shown q n (add k q Pass h)) ∙ ap (of_kind lease_in) ((pass_change q k h).shown (node_lease n)) ∙ lease_shown q n h)

@@ -40,7 +40,8 @@ use Rattle.term_state.specs.declared.told.Told.{Told}
 use Rattle.term_state.specs.declared.view.View.{View}
 use Rattle.tick_laws.specs.Steps.{tick_cost}
 use Rattle.tick_laws.proofs.Frames.{pass_change, zone_change}
-use Rattle.tick_laws.proofs.Phases.{every, is_passing, mode_step, pass_rest, zone_step}
+use Rattle.history_laws.proofs.Ticks.{every}
+use Rattle.tick_laws.proofs.Phases.{is_passing, mode_step, pass_rest, zone_step}
 use Rattle.tick_laws.proofs.Steps.{cost_grows}
 use Rattle.tick_laws.proofs.Marking.{KeepsPlaces, marks_keep, seen_too}
 use Rattle.tick_laws.proofs.Zoning.{base_passed, nodes_moded, nodes_passed, nodes_placed, rated_passed, size_kept}

@@ -1,6 +1,7 @@
 -- The limits of zones through a pass.
 use Rattle.std.proofs.Common.{◌≡◌, ◌∙◌, ℕ, ◌==◌, ◌&&◌, ◌-◌, not, Bool, true, false, cond, List, Option, Some, None, IfSome, refl, sym, ap, subst}
 use Rattle.std.specs.Prelude.{if◌then◌else◌}
+use Rattle.std.proofs.lemmas.Bool.{eqb-true}
 use Rattle.kube_objects.specs.declared.rules.BucketRule.{BucketRule}
 use Rattle.kube_objects.specs.declared.rules.BucketRule.TheVariants as buckets
 use Rattle.kube_objects.specs.declared.node.ZoneState.{ZoneState}
@@ -16,7 +17,6 @@ use Rattle.rate_bucket.specs.Filling.{Filling, empty_at, filling, has_token}
 use Rattle.taint_zones.specs.declared.limit.Limit.{Limit}
 use Rattle.taint_zones.specs.Limits.{LimitStands, new_bucket, with_rate}
 use Rattle.taint_zones.proofs.Tokening.{token_at}
-use Rattle.watch_cache.proofs.Same.{same_number}
 use Rattle.tick_laws.proofs.Orders.{place_itself}
 use Rattle.tick_laws.proofs.Zoning.{rated_zoned, base_zoned, full_zoned}
 
@@ -122,7 +122,7 @@ module _ (doc : Doc) (k : ℕ) (q : Identity) (h : List Entry) (place : Zone) (s
     entered : (b : Bool) → (old.bucket.rate == rate) ≡ b → LimitStands doc q zoned place (Some limit)
     entered true is = record {
       rated = sym rated_here;
-      rate = ap (λ (x : Filling). x.rate) (same_bucket rule is) ∙ same_number old.bucket.rate rate is;
+      rate = ap (λ (x : Filling). x.rate) (same_bucket rule is) ∙ eqb-true old.bucket.rate rate is;
       base = ap (λ (x : Filling). x.base) (same_bucket rule is) ∙ s.base ∙ ap (local doc q.process) (sym (base_here true (has_rate_is true is)));
       full = ap (λ (x : Filling). x.full) (same_bucket rule is) ∙ s.full ∙ sym (full_same doc.settings.rules.bucket is);
     }
@@ -137,7 +137,7 @@ module _ (doc : Doc) (k : ℕ) (q : Identity) (h : List Entry) (place : Zone) (s
     by_test true is =
         let state_is : old.state ≡ state = same_state old.state state (and_left _ _ is) in
         let rate_same : (old.rate == rate) ≡ true = and_right (is_same_state old.state state) (old.rate == rate) is in
-        let rate_is : old.rate ≡ rate = same_number old.rate rate rate_same in
+        let rate_is : old.rate ≡ rate = eqb-true old.rate rate rate_same in
         let equal : (old.bucket.rate == rate) ≡ true = ap (λ n. n == rate) s.rate ∙ rate_same in
         record {
           rated = ap (λ x. Some (x, rate)) (sym state_is) ∙ ap (λ n. Some (old.state, n)) (sym rate_is) ∙ s.rated;

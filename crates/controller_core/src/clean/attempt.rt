@@ -1,56 +1,39 @@
-// Untainting or swapping one node.
-ghost use Rattle.std.specs.Prelude.{◌≡◌, ℕ, true, false, List, OnOk, IfOk};
+// The try to untaint or swap one node.
+ghost use Rattle.std.specs.Prelude.{◌≡◌, ℕ, true, false, List, IfOk};
 ghost use Rattle.kube_objects.specs.Clocks.{wall};
 ghost use Rattle.kube_objects.specs.Document.{Doc};
 ghost use Rattle.kube_objects.specs.Entry.{Entry, Identity};
+ghost use Rattle.kube_objects.specs.Seen.{is_synced};
 ghost use Rattle.kube_objects.specs.Tick as tick;
-ghost use Rattle.kube_objects.specs.declared.deed.Deed.{Deed};
 ghost use Rattle.node_taints.specs.Wanting.{wants_of};
 ghost use Rattle.tick_laws.specs.Changes.{cleaned_node};
 ghost use Rattle.tick_laws.specs.Judged.{is_dirty};
 ghost use Rattle.controller_core.specs.Cleaning.{write_for};
-ghost use Rattle.controller_core.specs.Costs.{HaveCost};
-ghost use Rattle.term_state.specs.MidTick.{IsView, MidTick};
-ghost use Rattle.term_state.specs.Sights.{spent};
+ghost use Rattle.controller_core.specs.Trying.{IsTryOf};
+ghost use Rattle.term_state.specs.ClusterStands.{ClusterStands};
 
-use kube_base::{NoMemory, Steps, Wall, whole_second};
+use kube_base::{NoMemory, Wall, whole_second};
 use kube_objects::Node;
 use node_taints::{Wants, new_taint, want_of, with_swap, without_condition};
-use object_store::Store;
-use term_state::{Cluster, NodeWrite, Told, View, try_write};
+use term_state::{Cluster, NodeTry, NodeWrite};
 
-/// Untaints or swaps one node that is to be.
-pub(crate) fn clean_one<L>(
-    cluster: &mut Cluster,
-    store: &mut Store,
-    view: &View,
-    told: &mut Told,
-    steps: &mut Steps<L>,
-    name: u32,
-) -> Result<(), NoMemory>
-    ensures { (doc : Doc) (k : ℕ) (q : Identity) (before : List Deed) (h : List Entry)
-        → MidTick doc q k before h cluster.old store.old told.old → IsView doc k q h view.entry.now → is_dirty q name h ≡ true
-        → tick.is_stripped doc.settings.rules.first_sight k q name h ≡ false
-        → OnOk result (MidTick doc q k before (tick.clean doc k q name h) cluster.new store.new told.new
-        × HaveCost q k h (tick.clean doc k q name h) (spent cluster.old steps.old) (spent cluster.new steps.new)) }
+/// The try to untaint or swap one node that is to be.
+pub(crate) fn clean_of(cluster: &Cluster, name: u32, now: Wall) -> Result<Option<NodeTry>, NoMemory>
+    ensures { (doc : Doc) (k : ℕ) (q : Identity) (h : List Entry) → ClusterStands q h cluster.now → is_synced q h ≡ true
+        → now.0 ≡ wall doc q.process k → is_dirty q name h ≡ true → tick.is_stripped doc.settings.rules.first_sight k q name h ≡ false
+        → IfOk result (λ tried. IsTryOf k q h (tick.clean doc k q name h) tried) }
 {
     let Some((given, node)) = cluster.node(name) else {
-        return Ok(());
+        return Ok(None);
     };
     let wants = want_of(cluster.mode(), node);
-    let written = node_to_write(wants, node, view.wall)?;
-    try_write(
-        cluster,
-        store,
-        view,
-        told,
-        steps,
+    let written = node_to_write(wants, node, now)?;
+    Ok(Some(NodeTry {
         name,
         given,
         written,
-        write_for(wants),
-    )?;
-    Ok(())
+        write: write_for(wants),
+    }))
 }
 
 // The node that is written: without condition taints, or with the wanted one in the place of the other.

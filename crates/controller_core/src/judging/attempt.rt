@@ -6,29 +6,25 @@ ghost use Rattle.kube_objects.specs.Entry.{Entry, Identity};
 ghost use Rattle.kube_objects.specs.Judgement as model;
 ghost use Rattle.kube_objects.specs.Judgement.{Passed, has_turned_on};
 ghost use Rattle.kube_objects.specs.Newest.{has};
-ghost use Rattle.kube_objects.specs.Seen.{seen_node};
-ghost use Rattle.kube_objects.specs.Tainting as tainting;
+ghost use Rattle.kube_objects.specs.Seen.{is_synced, seen_node};
 ghost use Rattle.kube_objects.specs.Tick as tick;
-ghost use Rattle.kube_objects.specs.declared.deed.Deed.{Deed};
 ghost use Rattle.node_taints.specs.Wanting.{wants_of};
 ghost use Rattle.taint_zones.specs.Places.{zone_eq};
 ghost use Rattle.taint_zones.specs.Pushing.{counted_at, pushed_at};
-ghost use Rattle.term_state.specs.MidTick.{IsView, MidTick};
-ghost use Rattle.term_state.specs.Sights.{spent};
-ghost use Rattle.controller_core.specs.Costs.{HaveCost};
-ghost use Rattle.controller_core.specs.Judging.{IsTryOf};
+ghost use Rattle.term_state.specs.ClusterStands.{ClusterStands};
 ghost use Rattle.controller_core.specs.Looking.{IsAsMarked, IsLook};
 ghost use Rattle.controller_core.specs.Pushing.{JudgingStand, is_left};
+ghost use Rattle.controller_core.specs.Trying.{IsTryOf};
 ghost use Rattle.controller_core.specs.Verdicts.{counts_after, said};
 
 use crate::judging::verdict::{Verdict, is_again, verdict_of};
 use crate::pass::found::Look;
-use kube_base::{NoMemory, Steps, Version, Wall, whole_second};
+use crate::trying::untaint_of;
+use kube_base::{NoMemory, Version, Wall, whole_second};
 use kube_objects::{Node, QueueRule};
-use node_taints::{Wants, has_condition, new_taint, with_only, with_swap, without_condition};
-use object_store::Store;
+use node_taints::{Wants, new_taint, with_only, with_swap};
 use taint_zones::{Place, ZonePushes};
-use term_state::{Cluster, NodeWrite, Told, View, try_write};
+use term_state::{Cluster, NodeTry, NodeWrite};
 
 fn clear_where(pushes: &mut ZonePushes, place: Place, name: u32, clears: bool)
     ensures names { (zone : Place) → pushed_at pushes.new zone
@@ -85,14 +81,6 @@ fn queue(
     Ok(())
 }
 
-// A try that judgement asks for.
-#[derive(Drop)]
-struct Judged {
-    given: Version,
-    written: Node,
-    write: NodeWrite,
-}
-
 // The node with the taint that it wants in the place of the other one; a new one has it anew.
 fn crossed(fresh: bool, node: &Node, wanted: u32, now: Wall) -> Result<Node, NoMemory>
     ensures { (doc : Doc) (k : ℕ) (q : Identity) → now.0 ≡ wall doc q.process k
@@ -107,20 +95,22 @@ fn crossed(fresh: bool, node: &Node, wanted: u32, now: Wall) -> Result<Node, NoM
 
 // The swap of a node that has the opposite of what it wants.
 fn swap_of(
+    name: u32,
     wants: Wants,
     fresh: bool,
     given: Version,
     node: &Node,
     now: Wall,
-) -> Result<Option<Judged>, NoMemory>
-    ensures { (doc : Doc) (k : ℕ) (q : Identity) (name : ℕ) (h : List Entry) → now.0 ≡ wall doc q.process k
-        → IfOk result (λ tried. IsTryOf k q name h (tick.add_crossed doc k q name given node.now fresh (wants_of wants) h) tried) }
+) -> Result<Option<NodeTry>, NoMemory>
+    ensures { (doc : Doc) (k : ℕ) (q : Identity) (h : List Entry) → now.0 ≡ wall doc q.process k → has (seen_node q name h) ≡ true
+        → IfOk result (λ tried. IsTryOf k q h (tick.add_crossed doc k q name given node.now fresh (wants_of wants) h) tried) }
 {
     let Wants::Wanted(wanted) = wants else {
         return Ok(None);
     };
     let written = crossed(fresh, node, wanted, now)?;
-    Ok(Some(Judged {
+    Ok(Some(NodeTry {
+        name,
         given,
         written,
         write: NodeWrite::Swap(wanted),
@@ -134,67 +124,46 @@ fn loses_taints(verdict: &Verdict, turned: bool) -> bool
     verdict.cleared || turned
 }
 
-// The untaint of a node that is to lose its condition taints, where it has one.
-fn untaint_of(untaints: bool, given: Version, node: &Node) -> Result<Option<Judged>, NoMemory>
-    ensures { (k : ℕ) (q : Identity) (name : ℕ) (h : List Entry) → IfOk result (λ tried. IsTryOf k q name h
-        (if tainting.has_condition node.now && untaints then tick.add_untaint k q name given node.now h else h) tried) }
-{
-    if !has_condition(node) || !untaints {
-        return Ok(None);
-    }
-    let written = without_condition(node)?;
-    Ok(Some(Judged {
-        given,
-        written,
-        write: NodeWrite::Untaint,
-    }))
-}
-
 // The try of a node with this verdict.
 fn write_of(
+    name: u32,
     verdict: &Verdict,
     fresh: bool,
     turned: bool,
     given: Version,
     node: &Node,
     now: Wall,
-) -> Result<Option<Judged>, NoMemory>
-    ensures { (doc : Doc) (k : ℕ) (q : Identity) (name : ℕ) (x : Passed) (h : List Entry) → now.0 ≡ wall doc q.process k
+) -> Result<Option<NodeTry>, NoMemory>
+    ensures { (doc : Doc) (k : ℕ) (q : Identity) (x : Passed) (h : List Entry) → now.0 ≡ wall doc q.process k → has (seen_node q name h) ≡ true
         → fresh ≡ model.is_new doc q name x.before → turned ≡ has_turned_on q x
         → verdict.now.crossed ≡ model.is_crossed (wants_of verdict.now.wants) node.now
         → verdict.now.cleared ≡ (fresh || model.is_healthy (wants_of verdict.now.wants))
-        → IfOk result (λ tried. IsTryOf k q name h (tick.judge_as doc k q name x given node.now (wants_of verdict.now.wants) h) tried) }
+        → IfOk result (λ tried. IsTryOf k q h (tick.judge_as doc k q name x given node.now (wants_of verdict.now.wants) h) tried) }
 {
     if verdict.crossed {
-        return swap_of(verdict.wants, fresh, given, node, now);
+        return swap_of(name, verdict.wants, fresh, given, node, now);
     }
-    untaint_of(loses_taints(verdict, turned), given, node)
+    untaint_of(name, loses_taints(verdict, turned), given, node)
 }
 
-/// Judges one node as a pass found it: what its zone's queue has of it, and one try to swap or untaint it, where it isn't stale.
-pub(crate) fn judge_one<L>(
+/// Judges one node as a pass found it: what its zone's queue has of it, and the try to swap or untaint it, if it isn't stale.
+pub(crate) fn judge_one(
     name: u32,
     look: Look,
     turned: bool,
     rule: QueueRule,
     pushes: &mut ZonePushes,
-    cluster: &mut Cluster,
-    store: &mut Store,
-    view: &View,
-    told: &mut Told,
-    steps: &mut Steps<L>,
-) -> Result<(), NoMemory>
-    ensures { (doc : Doc) (k : ℕ) (q : Identity) (before : List Deed) (h : List Entry) (x : Passed) (xs : List Passed) (rest : List ℕ)
-        → MidTick doc q k before h cluster.old store.old told.old → IsView doc k q h view.entry.now
+    cluster: &Cluster,
+    now: Wall,
+) -> Result<Option<NodeTry>, NoMemory>
+    ensures { (doc : Doc) (k : ℕ) (q : Identity) (h : List Entry) (x : Passed) (xs : List Passed) (rest : List ℕ)
+        → ClusterStands q h cluster.now → is_synced q h ≡ true → now.0 ≡ wall doc q.process k
         → has (seen_node q name x.before) ≡ true → IsLook doc q x.before name look → IsAsMarked q x name h → turned ≡ has_turned_on q x
-        → rule ≡ doc.settings.rules.queue → is_left rest name ≡ false
-        → JudgingStand doc q x xs (name ∷ rest) pushes.old
-        → OnOk result (MidTick doc q k before (tick.judge doc k q x name h) cluster.new store.new told.new
-        × JudgingStand doc q x xs rest pushes.new
-        × HaveCost q k h (tick.judge doc k q x name h) (spent cluster.old steps.old) (spent cluster.new steps.new)) }
+        → rule ≡ doc.settings.rules.queue → is_left rest name ≡ false → JudgingStand doc q x xs (name ∷ rest) pushes.old
+        → IfOk result (λ tried. IsTryOf k q h (tick.judge doc k q x name h) tried × JudgingStand doc q x xs rest pushes.new) }
 {
     let Some((given, node)) = cluster.node(name) else {
-        return Ok(());
+        return Ok(None);
     };
     let verdict = verdict_of(look, rule, node);
     let place = Place {
@@ -203,21 +172,7 @@ pub(crate) fn judge_one<L>(
     };
     queue(pushes, place, name, &verdict, turned, rule)?;
     if cluster.is_stale(name) {
-        return Ok(());
+        return Ok(None);
     }
-    let Some(tried) = write_of(&verdict, look.fresh, turned, given, node, view.wall)? else {
-        return Ok(());
-    };
-    try_write(
-        cluster,
-        store,
-        view,
-        told,
-        steps,
-        name,
-        tried.given,
-        tried.written,
-        tried.write,
-    )?;
-    Ok(())
+    write_of(name, &verdict, look.fresh, turned, given, node, now)
 }

@@ -10,7 +10,7 @@ use kube_base::UNREACHABLE;
 use kube_objects::{Node, QueueRule};
 use node_taints::{Wants, has_opposite, has_taint};
 
-/// What a pass says of a node in its zone: whether it is cleared first, whether it is to stand in the queue, whether it is pushed also where it
+/// What a pass says of a node in its zone: whether it is cleared first, whether it is to stand in the queue, whether it is pushed also if it
 /// counts as pushed; and what it wants, and whether it has the opposite of that.
 #[derive(Clone, Copy, Debug, PartialEq, Eq)]
 pub(crate) struct Verdict {

@@ -1,5 +1,5 @@
 // When a tick has a pass.
-ghost use Rattle.std.specs.Prelude.{◌≡◌, ◌≤◌, ℕ, List};
+ghost use Rattle.std.specs.Prelude.{◌≡◌, ◌*◌, ◌≤◌, ℕ, List};
 ghost use Rattle.kube_base.specs.Bounds.{most_local};
 ghost use Rattle.kube_objects.specs.Clocks.{local};
 ghost use Rattle.kube_objects.specs.Document.{Doc, of_millis};
@@ -12,8 +12,9 @@ use kube_base::Local;
 
 /// Milliseconds as a span of readings, in units of 10^-12 s.
 #[tactic(auto, unfolding(kube_objects::specs::Document::of_millis))]
-pub(crate) fn of_millis(millis: u32) -> u64
-    ensures { result ≡ of_millis millis }
+pub fn picoseconds(millis: u32) -> u64
+    ensures value { result ≡ of_millis millis }
+    ensures plain { result ≡ millis * 1000000000 }
 {
     u64::from(millis) * 1_000_000_000
 }

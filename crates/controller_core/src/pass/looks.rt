@@ -28,7 +28,7 @@ use kube_base::{KUBE_NODE_LEASE, NoMemory, Steps, whole_second};
 use kube_objects::{Answer, Key, Kind, Lease, NumberList};
 use node_health::{Grace, Health, Verdict};
 use object_store::Store;
-use term_state::{Cluster, NodeWrite, Told, View, try_write};
+use term_state::{Cluster, NodeTry, NodeWrite, Told, View, try_write};
 
 fn node_lease(name: u32) -> Key
     ensures { result ≡ stored_words.node_lease name }
@@ -91,17 +91,13 @@ fn look<L>(
         Verdict::MarkUnknown(reason) => {
             let ready = is_ready(node);
             let written = with_mark(node, whole_second(view.wall))?;
-            let answer = try_write(
-                cluster,
-                store,
-                view,
-                told,
-                steps,
+            let tried = NodeTry {
                 name,
                 given,
                 written,
-                NodeWrite::Mark(reason),
-            )?;
+                write: NodeWrite::Mark(reason),
+            };
+            let answer = try_write(cluster, store, view, told, steps, tried)?;
             note_accepted(health, name, lease, answer);
             writes.note_mark(name, ready, answer, cluster, steps)
         }

@@ -31,7 +31,7 @@ fn hear_at_end(on: bool, names: &NumberList, health: &mut Health, now: Local)
     }
 }
 
-/// The mode begins or ends, where it is to. At its end each known node counts as heard of.
+/// The mode begins or ends, if it is to. At its end each known node counts as heard of.
 pub(crate) fn set_mode(
     zones: &[ZoneCount],
     percent: u32,

@@ -8,12 +8,12 @@ ghost use Rattle.term_state.specs.ClusterStands.{ClusterStands};
 ghost use Rattle.tick_laws.specs.Steps.{pods_on};
 ghost use Rattle.controller_core.specs.Working.{kept};
 
-use crate::pass::due::of_millis;
+use crate::pass::due::picoseconds;
 use kube_base::{Local, NoMemory, Steps};
 use kube_objects::{Answer, TickSettings};
 use term_state::Cluster;
 
-/// What a term keeps of its last pass: its reading, and how long after it the next one is due, where that is less than the
+/// What a term keeps of its last pass: its reading, and how long after it the next one is due, if that is less than the
 /// greatest u64.
 #[derive(Clone, Copy)]
 pub(crate) struct LastPass {
@@ -21,7 +21,7 @@ pub(crate) struct LastPass {
     pub(crate) period: u64,
 }
 
-/// How many pods a pass sets not ready so far. Where that takes no time they aren't counted.
+/// How many pods a pass sets not ready so far. If that takes no time they aren't counted.
 #[derive(Drop)]
 pub(crate) struct PodWrites {
     pub(crate) takes: bool,
@@ -63,7 +63,7 @@ impl PodWrites {
         Ok(())
     }
 
-    /// What a mark of a node adds: the pods on it, where it was accepted and the node was ready before. Each of them counts a step.
+    /// What a mark of a node adds: the pods on it, if it was accepted and the node was ready before. Each of them counts a step.
     pub(crate) fn note_mark<L>(
         &mut self,
         name: u32,
@@ -92,6 +92,6 @@ pub(crate) fn period_after(settings: &TickSettings, pods: u64) -> u64
         + work_of settings.now.ready_millis settings.now.ready_burst all) }
 {
     let over = pods.saturating_sub(u64::from(settings.ready_burst));
-    let work = over.saturating_mul(of_millis(settings.ready_millis));
-    of_millis(settings.monitor_period_millis).saturating_add(work)
+    let work = over.saturating_mul(picoseconds(settings.ready_millis));
+    picoseconds(settings.monitor_period_millis).saturating_add(work)
 }

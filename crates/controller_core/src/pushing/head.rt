@@ -23,9 +23,9 @@ use kube_objects::{Answer, Node};
 use node_taints::{Wants, new_taint, ready_wants, with_restamp};
 use object_store::Store;
 use taint_zones::{Place, Zones};
-use term_state::{Cluster, NodeWrite, Told, View, try_write};
+use term_state::{Cluster, NodeTry, NodeWrite, Told, View, try_write};
 
-/// The first push of a zone has its turn, where the zone's token is there.
+/// The first push of a zone has its turn, if the zone's token is there.
 pub(crate) fn push_first<L>(
     zones: &mut Zones,
     cluster: &mut Cluster,
@@ -80,17 +80,13 @@ fn turn<L>(
     let Some(wanting) = wanting_node(cluster, name, view.wall)? else {
         return Ok(true);
     };
-    let answer = try_write(
-        cluster,
-        store,
-        view,
-        told,
-        steps,
+    let tried = NodeTry {
         name,
-        wanting.given,
-        wanting.written,
-        NodeWrite::Taint(wanting.wanted),
-    )?;
+        given: wanting.given,
+        written: wanting.written,
+        write: NodeWrite::Taint(wanting.wanted),
+    };
+    let answer = try_write(cluster, store, view, told, steps, tried)?;
     Ok(is_written(answer))
 }
 

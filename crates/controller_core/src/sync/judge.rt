@@ -78,7 +78,7 @@ fn judge<L>(
     }
 }
 
-/// What follows from the changes from a position on is exact again. The pods on a node are judged with it where it is among
+/// What follows from the changes from a position on is exact again. The pods on a node are judged with it if it is among
 /// those to judge.
 pub(crate) fn judge_changes<L>(
     cluster: &mut Cluster,

@@ -5,31 +5,29 @@ ghost use Rattle.kube_objects.specs.Document.{Doc};
 ghost use Rattle.kube_objects.specs.Entry.{Entry, Identity};
 ghost use Rattle.kube_objects.specs.Entry as entry_words;
 ghost use Rattle.kube_objects.specs.Clocks.{wall};
-ghost use Rattle.kube_objects.specs.Newest.{has};
 ghost use Rattle.kube_objects.specs.Seen.{is_synced, seen_node};
 ghost use Rattle.kube_objects.specs.Tainting.{waits};
 ghost use Rattle.kube_objects.specs.Tick as tick;
-ghost use Rattle.kube_objects.specs.Tries as tries;
 ghost use Rattle.kube_objects.specs.declared.deed.Deed.{Deed};
 ghost use Rattle.kube_objects.specs.declared.node.Node.{Node};
 ghost use Rattle.kube_base.specs.declared.numbers.Version.{Version};
 ghost use Rattle.taint_zones.specs.Places.{entry_place};
 ghost use Rattle.taint_zones.specs.Waiting.{since};
 ghost use Rattle.term_state.specs.ClusterStands.{ClusterStands};
-ghost use Rattle.term_state.specs.MidTick.{IsView, MidTick};
+ghost use Rattle.term_state.specs.MidTick.{IsView};
 ghost use Rattle.term_state.specs.Sights.{spent};
 ghost use Rattle.controller_core.specs.Costs.{HaveCost};
 ghost use Rattle.controller_core.specs.Heading.{Heading};
-ghost use Rattle.controller_core.specs.Attempts.{headed, lacking_of, requeued};
+ghost use Rattle.controller_core.specs.Attempts.{lacking_of, requeued};
 
 use kube_base::{Beat, NoMemory, Steps, Version, Wall, whole_second};
 use kube_objects::{Answer, Node};
 use node_taints::{lacks, new_taint, with_taint};
 use object_store::Store;
 use taint_zones::{Place, Queues, Zones};
-use term_state::{Cluster, NodeWrite, Told, View, try_write};
+use term_state::{Cluster, NodeTry, NodeWrite, Told, View, try_write};
 
-/// The first of a zone's queue gets the taint that it wants, where the zone's token is there.
+/// The first of a zone's queue gets the taint that it wants, if the zone's token is there.
 pub(crate) fn taint_first<L>(
     zones: &mut Zones,
     cluster: &mut Cluster,
@@ -54,17 +52,15 @@ pub(crate) fn taint_first<L>(
     let Some(lacking) = lack_of(cluster, name, view.wall)? else {
         return Ok(());
     };
-    attempt(
-        &mut zones.queues,
-        cluster,
-        store,
-        view,
-        told,
-        steps,
-        place,
+    let tried = NodeTry {
         name,
-        lacking,
-    )
+        given: lacking.given,
+        written: lacking.written,
+        write: NodeWrite::Taint(lacking.wanted),
+    };
+    let answer = try_write(cluster, store, view, told, steps, tried)?;
+    requeue(&mut zones.queues, place, name, view.beat, answer);
+    Ok(())
 }
 
 // A node that wants a taint: its version, the taint's key, and the node with the taint.
@@ -93,41 +89,6 @@ fn lack_of(cluster: &Cluster, name: u32, now: Wall) -> Result<Option<Lacking>, N
         wanted,
         written,
     }))
-}
-
-// One try to write it.
-fn attempt<L>(
-    queues: &mut Queues,
-    cluster: &mut Cluster,
-    store: &mut Store,
-    view: &View,
-    told: &mut Told,
-    steps: &mut Steps<L>,
-    place: Place,
-    name: u32,
-    lacking: Lacking,
-) -> Result<(), NoMemory>
-    ensures { (doc : Doc) (k : ℕ) (q : Identity) (before : List Deed) (h : List Entry)
-        → MidTick doc q k before h cluster.old store.old told.old → IsView doc k q h view.entry.now → has (seen_node q name h) ≡ true
-        → OnOk result (MidTick doc q k before (headed k q (entry_place place) name lacking h) cluster.new store.new told.new
-        × HaveCost q k h (headed k q (entry_place place) name lacking h) (spent cluster.old steps.old) (spent cluster.new steps.new)
-        × ((zone : Place) (other : ℕ) → since queues.new zone other
-        ≡ (if name == other then requeued (tries.try_node q name lacking.given h) place zone k (since queues.old zone name)
-        else since queues.old zone other))) }
-{
-    let answer = try_write(
-        cluster,
-        store,
-        view,
-        told,
-        steps,
-        name,
-        lacking.given,
-        lacking.written,
-        NodeWrite::Taint(lacking.wanted),
-    )?;
-    requeue(queues, place, name, view.beat, answer);
-    Ok(())
 }
 
 // A node that was written waits no longer, and another goes to the back of the queue.

@@ -3,35 +3,28 @@ ghost use Rattle.std.specs.Prelude.{◌≡◌, ◌++◌, IfOk, OnOk, map, option
 ghost use Rattle.kube_base.specs.Times.{time_of};
 ghost use Rattle.lens_json.specs.Members.{data_of, named};
 ghost use Rattle.lens_json.specs.Parts.{members_in};
-ghost use Rattle.script_reader.specs.Documents.{doc_of};
-ghost use Rattle.script_reader.specs.Lawful.{AreLawful};
 ghost use Rattle.trace_lines.specs.Reads.{seen};
-ghost use Rattle.lens_lateness.specs.Clocks.{AreClocks};
 ghost use Rattle.lens_lateness.specs.Figures as spec;
 
 use crate::clocks::{own_time, true_time};
+use crate::timing::Timing;
 use kube_base::{NoMemory, read_time};
 use lens_json::{Member, Object, Value};
 use lens_summary::eviction_in;
-use script_reader::Document;
-use skew_clock::Clock;
 use std::alloc::Global;
 use trace_lines::Line;
 
 /// An object for each eviction of some lines, in their order.
 pub(crate) fn late_objects<'a>(
     alloc: Global,
-    document: &Document,
-    clocks: &[Clock],
+    timing: &Timing<'_>,
     lines: &[Line<&'a [u8]>],
 ) -> Result<Vec<Object<'a>>, NoMemory>
-    requires settings { AreLawful document.now.settings }
-    requires clocks { AreClocks (doc_of document.now) clocks.now }
-    ensures { IfOk result (λ objects. map members_in objects.items ≡ spec.late_objects document.now (map seen lines.now)) }
+    ensures { IfOk result (λ objects. map members_in objects.items ≡ spec.late_objects timing.now.document.now (map seen lines.now)) }
 {
     let mut objects = Vec::new(alloc);
     for line in lines {
-        add_late(&mut objects, alloc, document, clocks, line)?;
+        add_late(&mut objects, alloc, timing, line)?;
     }
     Ok(objects)
 }
@@ -40,19 +33,18 @@ pub(crate) fn late_objects<'a>(
 fn add_late<'a>(
     objects: &mut Vec<Object<'a>>,
     alloc: Global,
-    document: &Document,
-    clocks: &[Clock],
+    timing: &Timing<'_>,
     line: &Line<&'a [u8]>,
 ) -> Result<(), NoMemory>
-    requires settings { AreLawful document.now.settings }
-    requires clocks { AreClocks (doc_of document.now) clocks.now }
     ensures { OnOk result (map members_in objects.new.items
-        ≡ map members_in objects.old.items ++ option_to_list (spec.late_by document.now (seen line.now))) }
+        ≡ map members_in objects.old.items ++ option_to_list (spec.late_by timing.now.document.now (seen line.now))) }
 {
     let Some((pod, due)) = eviction_in(&line.says) else {
         return Ok(());
     };
-    let by_clock = lateness(own_time(document, clocks, line.actor, line.beat), due);
+    let document = timing.document;
+    let own = own_time(document, timing.clocks, line.actor, line.beat);
+    let by_clock = lateness(own, due);
     let in_true_time = lateness(Some(true_time(document, line.beat)), due);
     let members = late_members(alloc, line, pod, due, by_clock, in_true_time)?;
     objects.push(Object { members })?;

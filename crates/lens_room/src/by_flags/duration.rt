@@ -13,7 +13,7 @@ pub enum Stage {
     Whole,
     /// In the digits of an amount.
     Digits,
-    /// Behind the `m` of an amount: minutes, where no `s` follows.
+    /// Behind the `m` of an amount: minutes, if no `s` follows.
     Minutes,
 }
 
@@ -121,7 +121,7 @@ fn with_digit(millis: u64, number: u64, byte: u8) -> Option<Reading>
     })
 }
 
-/// The milliseconds of all that was read, where it is whole.
+/// The milliseconds of all that was read, if it is whole.
 fn total(reading: Reading) -> Option<u64>
     requires { reading.millis ≤ 86400000 }
     ensures millis { result ≡ spec.total reading.stage reading.millis reading.number }

@@ -11,7 +11,7 @@ pub struct Flags {
     pub lease_seconds: u32,
     pub renew_millis: u32,
     pub retry_millis: u32,
-    /// The call timeout; where none is given, it is the renew deadline.
+    /// The call timeout; if none is given, it is the renew deadline.
     pub timeout_millis: Option<u32>,
     /// How far a clock's rate may be off, in parts per million.
     pub skew_ppm: u32,

@@ -1,14 +1,14 @@
 // The lines on settings, and on words that give none.
-ghost use Rattle.std.specs.Prelude.{◌≡◌, ◌++◌, OnOk, map, string_bytes};
-ghost use Rattle.lens_room.specs.FlagLaws.{holds};
+ghost use Rattle.std.specs.Prelude.{◌≡◌, ◌++◌, OnOk};
 ghost use Rattle.lens_room.specs.Ranges.{AreInRange};
 ghost use Rattle.lens_room.specs.Flags as flags;
 ghost use Rattle.lens_room.specs.FlagReplies as spec;
 
 use crate::by_flags::flag::Flag;
 use crate::by_flags::flags::Flags;
-use crate::by_flags::margin::{flags_margin, greatest_skew};
-use crate::by_flags::setting::Setting;
+use crate::by_flags::margin::{flags_margin, greatest_skew, is_safe};
+use crate::by_flags::misuse::Misuse;
+use crate::by_flags::words::add_misread;
 use crate::by_flags::wrong::Wrong;
 use crate::lines::{add_line, verdict_line};
 use kube_base::NoMemory;
@@ -18,14 +18,8 @@ use trace_writer::{add, add_number};
 
 /// Adds what settings come to.
 #[tactic(auto, unfolding(crate::specs::FlagReplies::settings_text))]
-pub(crate) fn add_settings(
-    text: &mut Vec<u8>,
-    alloc: Global,
-    flags: &Flags,
-    safe: bool,
-) -> Result<(), NoMemory>
-    requires ranges { AreInRange flags.now }
-    requires safe { safe ≡ holds flags.now }
+pub(crate) fn add_settings(text: &mut Vec<u8>, alloc: Global, flags: &Flags) -> Result<(), NoMemory>
+    requires { AreInRange flags.now }
     ensures { OnOk result (text.new.items ≡ text.old.items ++ spec.settings_text flags.now) }
 {
     let mut taken = Vec::new(alloc);
@@ -33,7 +27,7 @@ pub(crate) fn add_settings(
     add_line(text, &taken, flags_margin(flags))?;
     add_skew(text, greatest_skew(flags))?;
     add(text, late_line(flags.in_release))?;
-    add(text, verdict_line(safe))
+    add(text, verdict_line(is_safe(flags)))
 }
 
 /// Adds which call timeout, which skew and which releases were taken.
@@ -51,7 +45,7 @@ fn add_taken(text: &mut Vec<u8>, flags: &Flags) -> Result<(), NoMemory>
     add_release(text, flags.release, flags.in_release)
 }
 
-/// Adds releases, where they aren't those of stops alone.
+/// Adds releases, if they aren't those of stops alone.
 fn add_release(
     text: &mut Vec<u8>,
     release: ReleaseRule,
@@ -99,7 +93,7 @@ pub fn release_word(release: ReleaseRule) -> &'static [u8]
     }
 }
 
-/// The line that says why no lease is enough, where none is.
+/// The line that says why no lease is enough, if none is.
 pub fn late_line(acting: ReleaseActing) -> &'static [u8]
     ensures { result.now ≡ spec.late_text acting }
 {
@@ -110,7 +104,7 @@ pub fn late_line(acting: ReleaseActing) -> &'static [u8]
     }
 }
 
-/// Where a call timeout is the renew deadline, the words that say so.
+/// The words that say that a call timeout is the renew deadline, if it is.
 pub fn origin(timeout: Option<u32>) -> &'static [u8]
     ensures { result.now ≡ spec.origin_text timeout }
 {
@@ -138,87 +132,32 @@ fn add_ppm(text: &mut Vec<u8>, ppm: u64) -> Result<(), NoMemory>
     add(text, b"ppm\n")
 }
 
-/// Adds the line on the usage, and what is wrong with the words.
-#[tactic(auto, unfolding(crate::specs::FlagReplies::usage_text))]
-pub(crate) fn add_usage(text: &mut Vec<u8>, words: &[String], wrong: Wrong) -> Result<(), NoMemory>
-    ensures { OnOk result (text.new.items ≡ text.old.items ++ spec.usage_text (spec.wrong_text (map string_bytes words.now) wrong)) }
-{
-    add(
-        text,
-        b"usage: kube_lens margin [--lease 15s] [--renew 10s] [--retry 2s] [--timeout 10s] [--skew 0ppm] [--beat 100ms] [--release stop] [--in-release still] [--json]\n",
-    )?;
-    add_wrong(text, words, wrong)?;
-    add(text, b"\n")
-}
+impl Misuse for Wrong {
+    ghost usage_line = { spec.usage_line };
 
-/// Adds what is wrong with the words.
-pub fn add_wrong(text: &mut Vec<u8>, words: &[String], wrong: Wrong) -> Result<(), NoMemory>
-    ensures { OnOk result (text.new.items ≡ text.old.items ++ spec.wrong_text (map string_bytes words.now) wrong) }
-{
-    match wrong {
-        Wrong::Unknown(place) => add_unknown(text, word_at(words, place)),
-        Wrong::Alone(setting) => {
-            add(text, setting_name(setting))?;
-            add(text, b" stands without a value")
+    ghost wrong_text = { spec.wrong_text };
+
+    fn usage() -> &'static [u8] {
+        b"usage: kube_lens margin [--lease 15s] [--renew 10s] [--retry 2s] [--timeout 10s] [--skew 0ppm] [--beat 100ms] [--release stop] [--in-release still] [--json]\n"
+    }
+
+    fn add_to(self, text: &mut Vec<u8>, words: &[String]) -> Result<(), NoMemory> {
+        match self {
+            Wrong::Words(misread) => add_misread(text, words, misread),
+            Wrong::LongRenew => add(text, b"the renew deadline must be shorter than the lease"),
+            Wrong::LongRetry => add(
+                text,
+                b"the retry period must be shorter than five sixths of the renew deadline",
+            ),
+            Wrong::LongTimeout => add(
+                text,
+                b"a call timeout is at most 10m: give one by --timeout, or a shorter renew deadline",
+            ),
+            Wrong::NoRelease => add(
+                text,
+                b"--in-release acts goes with --release own, checked or reread",
+            ),
         }
-        Wrong::Value(setting, place) => {
-            add(text, setting_name(setting))?;
-            add(text, setting_values(setting))?;
-            add(text, word_at(words, place))
-        }
-        Wrong::LongRenew => add(text, b"the renew deadline must be shorter than the lease"),
-        Wrong::LongRetry => add(
-            text,
-            b"the retry period must be shorter than five sixths of the renew deadline",
-        ),
-        Wrong::LongTimeout => add(
-            text,
-            b"a call timeout is at most 10m: give one by --timeout, or a shorter renew deadline",
-        ),
-        Wrong::NoRelease => add(
-            text,
-            b"--in-release acts goes with --release own, checked or reread",
-        ),
-    }
-}
-
-#[tactic(auto, unfolding(crate::specs::FlagReplies::unknown_text))]
-fn add_unknown(text: &mut Vec<u8>, word: &[u8]) -> Result<(), NoMemory>
-    ensures { OnOk result (text.new.items ≡ text.old.items ++ spec.unknown_text word.now) }
-{
-    add(text, b"no such flag: ")?;
-    add(text, word)
-}
-
-/// The word at a place, and nothing where none is.
-pub fn word_at(words: &[String], place: usize) -> &[u8]
-    ensures { result.now ≡ spec.word_at (map string_bytes words.now) place }
-{
-    match words.get(place) {
-        Some(word) => word.as_str().as_bytes(),
-        None => b"",
-    }
-}
-
-/// A setting's own name.
-fn setting_name(setting: Setting) -> &'static [u8]
-    ensures { result.now ≡ spec.setting_text setting }
-{
-    match setting {
-        Setting::Number(flag) => name_of(flag),
-        Setting::Release => b"--release",
-        Setting::InRelease => b"--in-release",
-    }
-}
-
-/// What a setting takes, up to the word that it doesn't.
-fn setting_values(setting: Setting) -> &'static [u8]
-    ensures { result.now ≡ spec.takes_text setting }
-{
-    match setting {
-        Setting::Number(flag) => values_of(flag),
-        Setting::Release => b" takes stop, own, checked or reread, not ",
-        Setting::InRelease => b" takes still or acts, not ",
     }
 }
 

@@ -84,7 +84,7 @@ pub fn greatest_skew(flags: &Flags) -> Option<u64>
     )
 }
 
-/// There is none where somebody acts until it has an answer.
+/// There is none if somebody acts until it has an answer.
 fn skew_where(still: bool, lease: u64, acting: u64) -> Option<u64>
     requires lease { lease ≤ 86400000 }
     requires acting { acting ≤ 345600000 }

@@ -4,12 +4,11 @@ ghost use Rattle.lens_json.specs.Members.{data_of, named, text};
 ghost use Rattle.lens_room.specs.MarginJson.{number_if};
 ghost use Rattle.lens_room.specs.Flags as words;
 ghost use Rattle.lens_room.specs.FlagJson as spec;
-ghost use Rattle.lens_room.specs.FlagLaws.{holds};
 ghost use Rattle.lens_room.specs.Ranges.{AreInRange};
 
 use crate::by_flags::flags::Flags;
 use crate::by_flags::lines::{acting_word, release_word};
-use crate::by_flags::margin::{flags_margin, greatest_skew};
+use crate::by_flags::margin::{flags_margin, greatest_skew, is_safe};
 use crate::margin_json::{member, seconds, slack, stall};
 use kube_base::NoMemory;
 use kube_objects::{ReleaseActing, ReleaseRule};
@@ -20,19 +19,13 @@ use trace_writer::add;
 
 /// Adds what settings come to as one JSON object.
 #[tactic(auto, unfolding(crate::specs::FlagJson::settings_json))]
-pub(crate) fn add_json(
-    text: &mut Vec<u8>,
-    alloc: Global,
-    flags: &Flags,
-    safe: bool,
-) -> Result<(), NoMemory>
-    requires ranges { AreInRange flags.now }
-    requires safe { safe ≡ holds flags.now }
+pub(crate) fn add_json(text: &mut Vec<u8>, alloc: Global, flags: &Flags) -> Result<(), NoMemory>
+    requires { AreInRange flags.now }
     ensures { OnOk result (text.new.items ≡ text.old.items ++ spec.settings_json flags.now) }
 {
     let margin = flags_margin(flags);
     let skew = greatest_skew(flags);
-    let members = members(alloc, flags, margin, skew, safe)?;
+    let members = members(alloc, flags, margin, skew, is_safe(flags))?;
     add_object(text, &members)?;
     add(text, b"\n")
 }

@@ -6,21 +6,21 @@ ghost use Rattle.run_edge.specs.Outcome.{Ends, Unread, reply_of};
 ghost use Rattle.lens_room.specs.declared.by_flags.flags.Flags.{Flags};
 ghost use Rattle.lens_room.specs.Described.{described};
 ghost use Rattle.lens_room.specs.Flags.{behind, flags_of};
-ghost use Rattle.lens_room.specs.FlagLaws.{NumbersAreOfThePremise, holds};
+ghost use Rattle.lens_room.specs.FlagLaws.{NumbersAreOfThePremise};
 ghost use Rattle.lens_room.specs.FlagReplies.{answer_to};
 ghost use Rattle.lens_room.specs.FlagReplies as spec;
 ghost use Rattle.lens_room.specs.Ranges.{AreInRange};
 
 use crate::by_flags::flags::Flags;
 use crate::by_flags::given::read_flags;
-use crate::by_flags::lines::{add_settings, add_usage};
+use crate::by_flags::lines::add_settings;
 use crate::by_flags::margin::is_safe;
 use crate::by_flags::object::add_json;
-use crate::by_flags::wrong::Wrong;
+use crate::by_flags::words::{misused, tell_answer};
 use crate::margins::verdict_by;
 use byte_edge::Sink;
 use kube_base::NoMemory;
-use run_edge::{Answer, Status, Verdict, tell};
+use run_edge::{Answer, Status, Verdict};
 use std::alloc::Global;
 
 /// Writes the margin of the settings that the words behind the first one give, the greatest skew that they bear, and whether they are long
@@ -40,10 +40,7 @@ pub fn run<K: Sink>(alloc: Global, words: &Vec<String>, sink: &mut K) -> Status
     // The numbers told are those of that premise: the least and the greatest that there are.
     ensures numbers { NumbersAreOfThePremise }
 {
-    match answer(alloc, behind(words)) {
-        Ok(answer) => tell(sink, answer.verdict, &answer.text),
-        Err(NoMemory) => Status::OutOfMemory,
-    }
+    tell_answer(sink, answer(alloc, behind(words)))
 }
 
 /// The words behind the first one.
@@ -69,35 +66,22 @@ fn told(alloc: Global, flags: &Flags) -> Result<Answer, NoMemory>
     requires { AreInRange flags.now }
     ensures { IfOk result (λ answer. reply_of answer ≡ spec.told flags.now) }
 {
-    let safe = is_safe(flags);
     let mut text = Vec::new(alloc);
-    add_told(&mut text, alloc, flags, safe)?;
+    add_told(&mut text, alloc, flags)?;
     Ok(Answer {
-        verdict: verdict_by(safe),
+        verdict: verdict_by(is_safe(flags)),
         text,
     })
 }
 
 /// Adds what settings come to, in the form that is wanted.
-fn add_told(text: &mut Vec<u8>, alloc: Global, flags: &Flags, safe: bool) -> Result<(), NoMemory>
-    requires ranges { AreInRange flags.now }
-    requires safe { safe ≡ holds flags.now }
+fn add_told(text: &mut Vec<u8>, alloc: Global, flags: &Flags) -> Result<(), NoMemory>
+    requires { AreInRange flags.now }
     ensures { OnOk result (text.new.items ≡ text.old.items ++ spec.told_text flags.now) }
 {
     if flags.as_json {
-        add_json(text, alloc, flags, safe)
+        add_json(text, alloc, flags)
     } else {
-        add_settings(text, alloc, flags, safe)
+        add_settings(text, alloc, flags)
     }
-}
-
-fn misused(alloc: Global, words: &[String], wrong: Wrong) -> Result<Answer, NoMemory>
-    ensures { IfOk result (λ answer. reply_of answer ≡ spec.misused (map string_bytes words.now) wrong) }
-{
-    let mut text = Vec::new(alloc);
-    add_usage(&mut text, words, wrong)?;
-    Ok(Answer {
-        verdict: Verdict::Usage,
-        text,
-    })
 }

@@ -6,6 +6,8 @@ ghost use Rattle.lens_room.specs.Ranges.{AreInRange};
 
 use crate::by_flags::flag::{Flag, flag_by, is, value_of};
 use crate::by_flags::flags::Flags;
+use crate::by_flags::lines::{name_of, values_of};
+use crate::by_flags::taking::Named;
 use kube_objects::{ReleaseActing, ReleaseRule};
 
 /// A setting that words can give.
@@ -17,6 +19,30 @@ pub enum Setting {
     Release,
     /// Whether a leader whose deadline has come acts until its release has ended.
     InRelease,
+}
+
+impl Named for Setting {
+    ghost use Rattle.lens_room.specs.FlagReplies as replies;
+
+    ghost name_text = { replies.setting_text };
+
+    ghost takes_text = { replies.takes_text };
+
+    fn name(self) -> &'static [u8] {
+        match self {
+            Setting::Number(flag) => name_of(flag),
+            Setting::Release => b"--release",
+            Setting::InRelease => b"--in-release",
+        }
+    }
+
+    fn takes(self) -> &'static [u8] {
+        match self {
+            Setting::Number(flag) => values_of(flag),
+            Setting::Release => b" takes stop, own, checked or reread, not ",
+            Setting::InRelease => b" takes still or acts, not ",
+        }
+    }
 }
 
 /// The setting of this name.
@@ -41,7 +67,7 @@ fn release_setting(name: &[u8]) -> Option<Setting>
     }
 }
 
-/// The settings with what a text says of one of them, where it says it.
+/// The settings with what a text says of one of them, if it says it.
 pub(crate) fn set(flags: Flags, setting: Setting, text: &[u8]) -> Option<Flags>
     requires { AreInRange flags }
     ensures set { result ≡ spec.set flags setting text.now }

@@ -7,19 +7,19 @@ ghost use Rattle.lens_terms.specs.Terms.{shown};
 ghost use Rattle.trace_lines.specs.Reads.{seen};
 ghost use Rattle.lens_summary.specs.Figures as spec;
 
-use crate::figures::leaders::{header_members, span_members, terms_in};
+use crate::figures::leaders::{header_members, span_members};
 use crate::figures::lines::objects_in;
 use crate::figures::totals::totals_in;
 use crate::subject::Subject;
-use crate::summary::{overlap_line, premise_word};
+use crate::summary::overlap_line;
 use kube_base::NoMemory;
-use lens_json::{Object, Part, What, add_parts};
+use lens_json::{Object, Part, What};
 use lens_terms::{Stretch, Term, beats_of_two, leaderless, stretches_of, terms_of};
-use lens_trace::{Telling, answer_on};
+use lens_trace::leaders_json::{Lasting, terms_in};
+use lens_trace::lines::premise_word;
+use lens_trace::{Telling, Trace, answer_on, object_answer};
 use run_edge::{Answer, Verdict};
 use std::alloc::Global;
-use trace_lines::{Header, Line};
-use trace_writer::add;
 
 /// What stands in the tables of `summary` on the trace that these bytes are, as one JSON object; or its refusal.
 pub fn figures_of(alloc: Global, input: &[u8]) -> Result<Answer, NoMemory>
@@ -34,53 +34,41 @@ struct Figures;
 impl Telling for Figures {
     ghost told = { λ figures header ls. spec.figures header ls };
 
-    fn tell(
-        &self,
-        alloc: Global,
-        header: Header,
-        lines: &[Line<&[u8]>],
-    ) -> Result<Answer, NoMemory> {
-        tell(alloc, header, lines)
+    fn tell(&self, alloc: Global, trace: &Trace<'_>) -> Result<Answer, NoMemory> {
+        let parts = parts(alloc, trace)?;
+        object_answer(alloc, Verdict::Done, &parts)
     }
 }
 
-/// The object on some lines.
-fn tell(alloc: Global, header: Header, lines: &[Line<&[u8]>]) -> Result<Answer, NoMemory>
-    requires { header.end ≤ 604800000 }
-    ensures { IfOk result (λ answer. reply_of answer ≡ spec.figures header (map seen lines.now)) }
+/// The members of the object that `summary --json` prints of a trace. Times are in beats.
+pub fn parts<'a>(alloc: Global, trace: &Trace<'a>) -> Result<[Part<'a>; 7], NoMemory>
+    requires { trace.now.header.end ≤ 604800000 }
+    ensures { IfOk result (λ parts. map part_of parts ≡ spec.members_on trace.now.header (map seen trace.now.lines.now)) }
 {
-    let found = terms_of(alloc, lines)?;
-    let acting = stretches_of(alloc, header.end + 1, lines)?;
-    let parts = parts(alloc, header, &found, &acting, lines)?;
-    let mut text = Vec::new(alloc);
-    add_parts(&mut text, &parts)?;
-    add(&mut text, b"\n")?;
-    Ok(Answer {
-        verdict: Verdict::Done,
-        text,
-    })
+    let found = terms_of(alloc, trace.lines)?;
+    let acting = stretches_of(alloc, trace.header.end + 1, trace.lines)?;
+    parts_by(alloc, trace, &found, &acting)
 }
 
-/// The members of the object that `summary --json` answers on some lines, by the terms that were found in them and the stretches in which a
-/// leader acts. Times are in beats.
+/// The same, by the terms of the trace and the stretches in which a leader acts.
 #[tactic(auto, using(crate::proofs::StepLaws::leaderless_shown))]
-pub fn parts<'a>(
+fn parts_by<'a>(
     alloc: Global,
-    header: Header,
+    trace: &Trace<'a>,
     found: &[Term<&'a [u8]>],
     acting: &[Stretch<&'a [u8]>],
-    lines: &[Line<&'a [u8]>],
 ) -> Result<[Part<'a>; 7], NoMemory>
-    requires { header.end ≤ 604800000 }
+    requires { trace.now.header.end ≤ 604800000 }
     ensures { IfOk result (λ parts. map part_of parts
-        ≡ spec.figure_members header (header.end + 1) (map shown found.now) (map stretch_shown acting.now) (map seen lines.now)) }
+        ≡ spec.figure_members trace.now.header (trace.now.header.end + 1) (map shown found.now) (map stretch_shown acting.now) (map seen trace.now.lines.now)) }
 {
+    let Trace { header, lines } = *trace;
     let stop = header.end + 1;
     let spans = leaderless(alloc, stop, acting)?;
     let beats = beats_of_two(stop, acting);
     let premise = premise_word(header.premise);
     let trace = header_members(alloc, header, premise, overlap_line(acting), beats)?;
-    let terms = terms_in(alloc, stop, found)?;
+    let terms = terms_in(alloc, stop, Lasting::Told, found)?;
     let spread = span_members(alloc, &spans)?;
     let zones = objects_in(alloc, Subject::Zones, lines)?;
     let nodes = objects_in(alloc, Subject::Nodes, lines)?;

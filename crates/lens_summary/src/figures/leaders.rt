@@ -1,15 +1,12 @@
-// The trace itself, its terms, and the spans in which nobody acts.
+// The trace itself, and the spans in which nobody acts.
 ghost use Rattle.std.specs.Prelude.{◌≡◌, IfOk, map};
 ghost use Rattle.lens_json.specs.Members.{data_of, named};
-ghost use Rattle.lens_json.specs.Parts.{members_in};
-ghost use Rattle.lens_terms.specs.Terms.{shown};
 ghost use Rattle.lens_summary.specs.Figures as spec;
 
-use crate::leaders::ended;
 use crate::spread::{longest, total};
 use kube_base::NoMemory;
-use lens_json::{Member, Object, Value};
-use lens_terms::{Span, Term};
+use lens_json::{Member, Value};
+use lens_terms::Span;
 use std::alloc::Global;
 use trace_lines::Header;
 
@@ -49,41 +46,6 @@ fn line_value<'a>(line: Option<u64>) -> Value<'a>
         Some(line) => Value::Number(line),
         None => Value::Nothing,
     }
-}
-
-/// An object for each term.
-pub(crate) fn terms_in<'a>(
-    alloc: Global,
-    stop: u32,
-    found: &[Term<&'a [u8]>],
-) -> Result<Vec<Object<'a>>, NoMemory>
-    ensures { IfOk result (λ objects. map members_in objects.items ≡ map (spec.term_members stop) (map shown found.now)) }
-{
-    let mut objects = Vec::new(alloc);
-    for term in found {
-        let members = term_members(alloc, stop, term)?;
-        objects.push(Object { members })?;
-    }
-    Ok(objects)
-}
-
-fn term_members<'a>(
-    alloc: Global,
-    stop: u32,
-    term: &Term<&'a [u8]>,
-) -> Result<Vec<Member<'a>>, NoMemory>
-    ensures { IfOk result (λ members. map named members.items ≡ spec.term_members stop (shown term.now)) }
-{
-    let until = term.until(stop);
-    let lasted = until.saturating_sub(term.from);
-    let members = vec![in alloc;
-        Member::text(b"leader", term.actor),
-        Member::number(b"from", u64::from(term.from)),
-        Member::number(b"until", u64::from(until)),
-        Member::number(b"lasted", u64::from(lasted)),
-        Member::text(b"ended", ended(term.closing)),
-    ]?;
-    Ok(members)
 }
 
 /// The members on the spans in which nobody acts: how many, the longest, and all together.

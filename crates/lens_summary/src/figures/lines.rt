@@ -128,7 +128,7 @@ fn reason_member<'a>(reason: &'a [u8]) -> Member<'a>
     }
 }
 
-/// A reason, where there is one.
+/// A reason, if there is one.
 fn reason_value<'a>(reason: &'a [u8]) -> Value<'a>
     ensures { data_of result ≡ spec.reason reason.now }
 {

@@ -31,7 +31,7 @@ pub(crate) fn totals_in<'a>(
     Ok(objects)
 }
 
-/// Adds the object of a kind, where there are lines of it.
+/// Adds the object of a kind, if there are lines of it.
 #[tactic(auto, unfolding(crate::specs::FigureTotals::kind_objects))]
 fn add_kind<'a>(
     objects: &mut Vec<Object<'a>>,

@@ -7,22 +7,24 @@ ghost use Rattle.lens_terms.specs.Terms.{shown};
 ghost use Rattle.lens_terms.specs.Together.{overlap as overlap_of};
 ghost use Rattle.lens_trace.specs.LeadersJson as spec;
 
+use crate::leaders_json::lasting::Lasting;
 use kube_base::NoMemory;
 use lens_json::{Member, Object, Value, What};
-use lens_terms::{Closing, Ending, Span, Stretch, Term, crossing, overlap};
+use lens_terms::{Span, Stretch, Term, crossing, ended, overlap};
 use std::alloc::Global;
 
 /// An object for each term.
-pub(crate) fn terms_in<'a>(
+pub fn terms_in<'a>(
     alloc: Global,
     stop: u32,
+    lasting: Lasting,
     found: &[Term<&'a [u8]>],
 ) -> Result<Vec<Object<'a>>, NoMemory>
-    ensures { IfOk result (λ objects. map members_in objects.items ≡ map (spec.term_members stop) (map shown found.now)) }
+    ensures { IfOk result (λ objects. map members_in objects.items ≡ map (spec.term_members lasting stop) (map shown found.now)) }
 {
     let mut objects = Vec::new(alloc);
     for term in found {
-        let members = term_members(alloc, stop, term)?;
+        let members = term_members(alloc, stop, lasting, term)?;
         objects.push(Object { members })?;
     }
     Ok(objects)
@@ -31,35 +33,28 @@ pub(crate) fn terms_in<'a>(
 fn term_members<'a>(
     alloc: Global,
     stop: u32,
+    lasting: Lasting,
     term: &Term<&'a [u8]>,
 ) -> Result<Vec<Member<'a>>, NoMemory>
-    ensures { IfOk result (λ members. map named members.items ≡ spec.term_members stop (shown term.now)) }
+    ensures { IfOk result (λ members. map named members.items ≡ spec.term_members lasting stop (shown term.now)) }
 {
-    let members = vec![in alloc;
+    let until = term.until(stop);
+    let mut members = vec![in alloc;
         Member::text(b"leader", term.actor),
         Member::number(b"from", u64::from(term.from)),
-        Member::number(b"until", u64::from(term.until(stop))),
-        Member::text(b"ended", ended(term.closing)),
+        Member::number(b"until", u64::from(until)),
     ]?;
+    add_lasted(&mut members, lasting, until.saturating_sub(term.from))?;
+    add(&mut members, Member::text(b"ended", ended(term.closing)))?;
     Ok(members)
 }
 
-fn ended(closing: Option<Closing>) -> &'static [u8]
-    ensures { result.now ≡ spec.ended closing }
+fn add_lasted(members: &mut Vec<Member<'_>>, lasting: Lasting, beats: u32) -> Result<(), NoMemory>
+    ensures { OnOk result (map named members.new.items ≡ map named members.old.items ++ spec.lasted lasting beats) }
 {
-    match closing {
-        None => b"trace-end",
-        Some(closing) => ending_word(closing.how),
-    }
-}
-
-fn ending_word(ending: Ending) -> &'static [u8]
-    ensures { result.now ≡ spec.ending_word ending }
-{
-    match ending {
-        Ending::End => b"end",
-        Ending::Stop => b"stop",
-        Ending::Crash => b"crash",
+    match lasting {
+        Lasting::Told => add(members, Member::number(b"lasted", u64::from(beats))),
+        Lasting::Untold => Ok(()),
     }
 }
 

@@ -8,10 +8,10 @@ ghost use Rattle.lens_trace.specs.Lines as spec;
 use crate::answering::{Telling, answer_on};
 use crate::lines::header::add_header;
 use crate::lines::line::add_lines;
+use crate::trace::Trace;
 use kube_base::NoMemory;
 use run_edge::{Answer, Verdict};
 use std::alloc::Global;
-use trace_lines::{Header, Line};
 
 /// Each line of the trace that these bytes are as a JSON object on a line of its own; or its refusal.
 pub fn lines_in(alloc: Global, input: &[u8]) -> Result<Answer, NoMemory>
@@ -30,26 +30,13 @@ struct Lines;
 impl Telling for Lines {
     ghost told = { λ lines header ls. spec.objects header ls };
 
-    fn tell(
-        &self,
-        alloc: Global,
-        header: Header,
-        lines: &[Line<&[u8]>],
-    ) -> Result<Answer, NoMemory> {
-        tell(alloc, header, lines)
+    fn tell(&self, alloc: Global, trace: &Trace<'_>) -> Result<Answer, NoMemory> {
+        let mut text = Vec::new(alloc);
+        add_header(&mut text, alloc, trace.header)?;
+        add_lines(&mut text, alloc, trace.lines)?;
+        Ok(Answer {
+            verdict: Verdict::Done,
+            text,
+        })
     }
-}
-
-/// The objects of a trace.
-#[tactic(auto, unfolding(crate::specs::Lines::told))]
-fn tell(alloc: Global, header: Header, lines: &[Line<&[u8]>]) -> Result<Answer, NoMemory>
-    ensures { IfOk result (λ answer. reply_of answer ≡ spec.objects header (map seen lines.now)) }
-{
-    let mut text = Vec::new(alloc);
-    add_header(&mut text, alloc, header)?;
-    add_lines(&mut text, alloc, lines)?;
-    Ok(Answer {
-        verdict: Verdict::Done,
-        text,
-    })
 }

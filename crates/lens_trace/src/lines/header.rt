@@ -2,7 +2,7 @@
 ghost use Rattle.std.specs.Prelude.{◌≡◌, ◌++◌, OnOk, map};
 ghost use Rattle.lens_json.specs.Members.{named};
 ghost use Rattle.lens_trace.specs.Lines as spec;
-ghost use Rattle.lens_trace.specs.LineMembers.{header_members, premise_word};
+ghost use Rattle.lens_trace.specs.LineMembers as word;
 
 use crate::lines::members::{number, text};
 use kube_base::NoMemory;
@@ -24,17 +24,18 @@ pub(crate) fn add_header(json: &mut Vec<u8>, alloc: Global, header: Header) -> R
 
 /// Adds the members of the first line.
 fn gather(members: &mut Vec<Member<'_>>, header: Header) -> Result<(), NoMemory>
-    ensures { OnOk result (map named members.new.items ≡ map named members.old.items ++ header_members header) }
+    ensures { OnOk result (map named members.new.items ≡ map named members.old.items ++ word.header_members header) }
 {
     text(members, b"kind", b"trace")?;
     number(members, b"version", 1)?;
     number(members, b"beatMillis", u64::from(header.beat_millis))?;
     number(members, b"end", u64::from(header.end))?;
-    text(members, b"premise", premise(header.premise))
+    text(members, b"premise", premise_word(header.premise))
 }
 
-fn premise(premise: bool) -> &'static [u8]
-    ensures { result.now ≡ premise_word premise }
+/// The word for a premise.
+pub fn premise_word(premise: bool) -> &'static [u8]
+    ensures { result.now ≡ word.premise_word premise }
 {
     if premise { b"yes" } else { b"no" }
 }

@@ -7,7 +7,7 @@ ghost use Rattle.lens_trace.specs.Lines as spec;
 ghost use Rattle.lens_trace.specs.LineMembers.{line_members};
 
 use crate::lines::members::{number, text};
-use crate::lines::said::{add_said, kind};
+use crate::lines::said::{add_said, kind_word};
 use kube_base::NoMemory;
 use lens_json::{Member, add_object};
 use std::alloc::Global;
@@ -50,6 +50,6 @@ fn gather<'a>(members: &mut Vec<Member<'a>>, line: &Line<&'a [u8]>) -> Result<()
 {
     number(members, b"beat", u64::from(line.beat))?;
     text(members, b"actor", line.actor)?;
-    text(members, b"kind", kind(&line.says))?;
+    text(members, b"kind", kind_word(&line.says))?;
     add_said(members, &line.says)
 }

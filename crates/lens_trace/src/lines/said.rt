@@ -50,7 +50,7 @@ pub(crate) fn add_said<'a>(
 }
 
 /// The word behind the actor.
-pub(crate) fn kind(says: &Says<&[u8]>) -> &'static [u8]
+pub fn kind_word(says: &Says<&[u8]>) -> &'static [u8]
     ensures { result.now ≡ spec.kind_word (said says.now) }
 {
     match says {

@@ -55,7 +55,7 @@ fn spec(
     Ok(members.into_value_unless_empty())
 }
 
-/// The text of a holder, empty where there is none.
+/// The text of a holder, empty if there is none.
 fn holder(alloc: Global, names: &Names, known: &[u32], holder: Holder) -> Result<String, NoMemory>
     ensures { IfOk result (λ text. string_bytes text ≡ written.holder_text names.now known.now holder) }
 {

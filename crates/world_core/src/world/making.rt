@@ -12,6 +12,7 @@ ghost use Rattle.world_core.specs.Worlds.{at_of, end_of, names_of, GoOnTo, IsRea
 
 use crate::world::World;
 use beat_tree::BeatTree;
+use controller_core::picoseconds;
 use kube_base::{Beat, NoMemory, ProcId, Wall};
 use kube_objects::{Event, Items, Procs, Settings, WaitLists};
 use object_store::Store;
@@ -19,7 +20,7 @@ use pause_times::Stalls;
 use script_reader::Document;
 use std::alloc::Global;
 use wire_calls::Wire;
-use world_process::{Controller, InForce, Kubelet, Process, picoseconds, waits_at};
+use world_process::{Controller, InForce, Kubelet, Process, waits_at};
 
 impl World {
     /// The world of a document before beat 0, with the document's objects in its store.

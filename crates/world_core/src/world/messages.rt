@@ -74,7 +74,7 @@ impl World {
         self.deliver_replies(deeds)
     }
 
-    // It stays out of line, as the answering does.
+    // It stays out of line, so that a beat at which no reply comes makes no room for it.
     #[inline(never)]
     fn deliver_replies(&mut self, deeds: &mut Deeds) -> Result<(), NoMemory>
         requires running { IsRunning self.old }

@@ -16,7 +16,7 @@ use kube_base::{Beat, Local, ProcId};
 use world_process::first_beat;
 
 impl World {
-    /// The beat of the first event not yet done; None exactly where none is left.
+    /// The beat of the first event not yet done; None exactly if none is left.
     pub fn next_event(&self) -> Option<Beat>
         ensures { (doc : Doc) (k : ℕ) (h : List Entry) → WorldStands doc k h self.now → AreLawfulFrom doc 0 doc.events
             → IsNextEvent doc k (beat_of result) }
@@ -27,7 +27,7 @@ impl World {
         }
     }
 
-    /// The least beat of anything in flight that isn't past the end; None exactly where there is none.
+    /// The least beat of anything in flight that isn't past the end; None exactly if there is none.
     pub fn next_wire(&self) -> Option<Beat>
         ensures { (doc : Doc) (k : ℕ) (h : List Entry) → WorldStands doc k h self.now → end_of self.now ≡ end_beat doc
             → IsNextMessage doc k h (beat_of result) }
@@ -74,7 +74,7 @@ impl World {
         Wakes::with(false, process.wake(), None, None)
     }
 
-    /// The first beat up to the end at which a process's clock has the reading that is waited for; None where there is none.
+    /// The first beat up to the end at which a process's clock has the reading that is waited for; None if there is none.
     pub fn turn_beat(&self, who: ProcId, wakes: &Wakes) -> Option<Beat>
         requires ready { IsReady self.now }
         requires process { who.0 < count_of self.now }
@@ -89,7 +89,7 @@ impl World {
     }
 
     /// The first process from one on whose turn, its tick aside, would add something at a beat before another, were it not paused; None
-    /// exactly where there is none. Nobody is asked: each has the beat of its next turn noted.
+    /// exactly if there is none. Nobody is asked: each has the beat of its next turn noted.
     pub fn first_turn(&self, from: u32, before: Option<Beat>) -> Option<ProcId>
         requires { IsReady self.now }
         ensures range { IfSome result (λ who. (from ≤ who.0) × (who.0 < count_of self.now)) }
@@ -100,7 +100,7 @@ impl World {
         Some(ProcId(i as u32))
     }
 
-    /// A process before whose turn no other's comes, pauses and ticks aside; None exactly where none comes up to the end.
+    /// A process before whose turn no other's comes, pauses and ticks aside; None exactly if none comes up to the end.
     pub fn least_turn(&self) -> Option<ProcId>
         requires { IsReady self.now }
         ensures range { IfSome result (λ who. who.0 < count_of self.now) }
@@ -111,7 +111,7 @@ impl World {
         Some(ProcId(i as u32))
     }
 
-    /// The first beat from this one on at which a process isn't paused; the beat after the end, where there is none up to the end.
+    /// The first beat from this one on at which a process isn't paused; the beat after the end, if there is none up to the end.
     pub fn resume(&self, who: ProcId, beat: Beat) -> Beat
         requires ready { IsReady self.now }
         requires within { beat.0 ≤ end_of self.now }
@@ -123,7 +123,7 @@ impl World {
         Beat(resumes.0.min(self.end.0 + 1))
     }
 
-    /// The first beat from this one on at which the store goes; the beat after the end, where there is none up to the end.
+    /// The first beat from this one on at which the store goes; the beat after the end, if there is none up to the end.
     pub fn awake(&self, beat: Beat) -> Beat
         requires ready { IsReady self.now }
         ensures { (doc : Doc) (k : ℕ) (h : List Entry) → WorldStands doc k h self.now → end_of self.now ≡ end_beat doc

@@ -20,10 +20,11 @@ loop-next-preserved g c doc k q before h at_ticks kept r v =
     let n = c.in-Some.name in
     let next = subst (IsNextAfter (λ n. is_dirty q n i.0) i.1) c.in-Some.is i.3 in
     let dirty = next_dirty q i.0 i.1 n next in
-    let more = c.in_ok-clean_one.ensures doc k q before i.0 i.2.running i.2.view dirty (i.2.kept n (ap has (dirty_seen q n i.0 dirty).1)) in (
+    let one = c.in_ok-tried.ensures doc k q i.0 i.2.running.cluster i.2.running.synced i.2.view.time dirty (i.2.kept n (ap has (dirty_seen q n i.0 dirty).1)) in
+    let more = c.in_ok-write_if.ensures doc k q before i.0 (clean doc k q n i.0) i.2.running i.2.view one in (
       clean doc k q n i.0,
       Some n,
-      next_walk doc k q before h i.0 i.1 n c.loop-next.cluster c.clean_one.new.cluster c.loop-next.store c.clean_one.new.store c.args.view.now c.loop-next.told c.clean_one.new.told i.2 next more.0,
+      next_walk doc k q before h i.0 i.1 n c.loop-next.cluster c.write_if.new.cluster c.loop-next.store c.write_if.new.store c.args.view.now c.loop-next.told c.write_if.new.told i.2 next more.0,
       c.next_unclean-next-in-Some.ensures.dirty q (clean doc k q n i.0) more.0.cluster,
       omega (arith, i.4, more.1),
     )

@@ -1,5 +1,6 @@
 use Rattle.std.proofs.Common.{◌≡◌, ◌∙◌, ◌∷◌, [], ap, arith, length, subst, sym, vec_len}
 use Rattle.std.proofs.lemmas.Bool.{eqb-true}
+use Rattle.kube_objects.specs.Tick.{clean}
 use Rattle.term_state.specs.Sights.{spent}
 use Rattle.controller_core.proofs.Cleaning.CleanFound.{Cleaning, begin_found, end_found, fresh_first, looked, next_found, unlooked}
 use Rattle.controller_core.proofs.Judgement.Folds.{no_items, some_items}
@@ -21,22 +22,18 @@ loop-name-init g c = record {
 pub loop-name-preserved : goal.loop-name-preserved
 loop-name-preserved g c =
     let name = c.in-Some.name.now in
-    let others = c.in-Some.others.now in
-    let look = c.in-Some-split_first.look.now in
-    let more = c.in-Some-split_first.more.now in
-    let split : c.loop-name.rest.now ≡ name ∷ others = c.in-Some.ensures.cases.0 in
-    let parted : c.loop-name.looks.now ≡ look ∷ more = c.in-Some-split_first.ensures.cases.0 in
+    let split : c.loop-name.rest.now ≡ name ∷ c.in-Some.others.now = c.in-Some.ensures.cases.0 in
+    let parted : c.loop-name.looks.now ≡ c.in-Some-split_first.look.now ∷ c.in-Some-split_first.more.now = c.in-Some-split_first.ensures.cases.0 in
     let old = spent c.args.cluster.now c.args.steps.now in
     let mid = spent c.loop-name.cluster c.loop-name.steps in
-    let new = spent c.clean_by.new.cluster c.clean_by.new.steps in
+    let new = spent c.write_if.new.cluster c.write_if.new.steps in
     record {
       cleaning = λ doc k q before h x xs at_ticks r v is passing same looks unasked.
           let j = c.loop-name.invariant.cleaning doc k q before h x xs at_ticks r v is passing same looks unasked in
-          let one = c.in_ok-clean_by.ensures doc k q before j.now j.running j.view
-          (fresh_first doc k q before h x c.loop-name.rest.now others c.loop-name.looks.now more name look c.loop-name.cluster c.clean_by.new.cluster c.loop-name.store c.clean_by.new.store c.args.view.now
-          c.loop-name.told c.clean_by.new.told old mid new split parted j) in
-          next_found doc k q before h x c.loop-name.rest.now others c.loop-name.looks.now more name look c.loop-name.cluster c.clean_by.new.cluster c.loop-name.store c.clean_by.new.store c.args.view.now
-          c.loop-name.told c.clean_by.new.told old mid new split parted j one.0 one.1;
+          let one = c.in_ok-tried.ensures doc k q j.now j.running.cluster j.running.synced j.view.time
+          (fresh_first doc k q before h x _ _ _ _ name _ c.loop-name.cluster c.write_if.new.cluster c.loop-name.store c.write_if.new.store c.args.view.now c.loop-name.told c.write_if.new.told old mid new split parted j) in
+          let two = c.in_ok-write_if.ensures doc k q before j.now (clean doc k q name j.now) j.running j.view one in
+          next_found doc k q before h x _ _ _ _ name _ c.loop-name.cluster c.write_if.new.cluster c.loop-name.store c.write_if.new.store c.args.view.now c.loop-name.told c.write_if.new.told old mid new split parted j two.0 two.1;
     }
 
 pub returns : goal.returns

@@ -1,4 +1,5 @@
 use Rattle.std.proofs.Common.{◌≡◌, ◌∷◌, [], subst, sym}
+use Rattle.kube_objects.specs.Tick.{judge}
 use Rattle.term_state.specs.Sights.{spent}
 use Rattle.controller_core.specs.Pushing.{JudgingStand}
 use Rattle.controller_core.proofs.Judgement.Folds.{no_items}
@@ -24,16 +25,17 @@ loop-name-preserved g c =
     let parted : c.loop-name.looks.now ≡ look ∷ more = c.in-Some-split_first.ensures.cases.0 in
     let old = spent c.args.cluster.now c.args.steps.now in
     let mid = spent c.loop-name.cluster c.loop-name.steps in
-    let new = spent c.judge_one.new.cluster c.judge_one.new.steps in
+    let new = spent c.write_if.new.cluster c.write_if.new.steps in
     record {
       judging = λ doc k q before h x xs r v looks marked ruled stand.
           let j = c.loop-name.invariant.judging doc k q before h x xs r v looks marked ruled stand in
-          let first = first_is doc k q before h x xs c.loop-name.rest.now others c.loop-name.looks.now more name look c.loop-name.cluster c.judge_one.new.cluster c.loop-name.store c.judge_one.new.store c.args.view.now
-          c.loop-name.told c.judge_one.new.told c.loop-name.pushes c.judge_one.new.pushes old mid new split parted j in
-          let one = c.in_ok-judge_one.ensures doc k q before j.now x xs others j.running j.view first.seen first.is_look first.marked looks.turned ruled first.last
+          let first = first_is doc k q before h x xs c.loop-name.rest.now others c.loop-name.looks.now more name look c.loop-name.cluster c.write_if.new.cluster c.loop-name.store c.write_if.new.store c.args.view.now
+          c.loop-name.told c.write_if.new.told c.loop-name.pushes c.judge_one.new.pushes old mid new split parted j in
+          let one = c.in_ok-tried.ensures doc k q j.now x xs others j.running.cluster j.running.synced j.view.time first.seen first.is_look first.marked looks.turned ruled first.last
           (subst (λ ns. JudgingStand doc q x xs ns c.loop-name.pushes) split j.stand) in
-          next_walk doc k q before h x xs c.loop-name.rest.now others c.loop-name.looks.now more name look c.loop-name.cluster c.judge_one.new.cluster c.loop-name.store c.judge_one.new.store c.args.view.now
-          c.loop-name.told c.judge_one.new.told c.loop-name.pushes c.judge_one.new.pushes old mid new split j first one.0 one.1 one.2;
+          let two = c.in_ok-write_if.ensures doc k q before j.now (judge doc k q x name j.now) j.running j.view one.0 in
+          next_walk doc k q before h x xs c.loop-name.rest.now others c.loop-name.looks.now more name look c.loop-name.cluster c.write_if.new.cluster c.loop-name.store c.write_if.new.store c.args.view.now
+          c.loop-name.told c.write_if.new.told c.loop-name.pushes c.judge_one.new.pushes old mid new split j first two.0 one.1 two.1;
     }
 
 pub returns : goal.returns

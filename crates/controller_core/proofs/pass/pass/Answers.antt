@@ -6,7 +6,7 @@ use Rattle.kube_objects.specs.Health.{is_found, is_pass_due, is_pass_tick, pass_
 use Rattle.kube_objects.specs.Modes.{mode}
 use Rattle.kube_objects.specs.Tick.{add, marks, set_zones}
 use Rattle.node_health.specs.Kept.{is_listed}
-use Rattle.node_health.specs.Stands.{HealthStands, IsGraceOf}
+use Rattle.node_health.specs.Stands.{HealthStands}
 use Rattle.taint_zones.specs.Limits.{LimitsStand}
 use Rattle.controller_core.specs.Costs.{HaveCost}
 use Rattle.controller_core.specs.Looking.{FoundStands}
@@ -32,12 +32,9 @@ returns-clause-stands g c doc k q before h r health limits last view s few =
     let z = set_zones doc k q (moded doc k q h) in
     let names = c.in_ok-names.names in
     let are = c.in_ok-names.ensures.named q h no_node no_pod r.cluster r.synced in
-    let first = run_pass doc q k before h c.args.cluster.now c.args.store.now c.args.told.now r in
-    let graces : IsGraceOf doc (record { grace = c.of_millis.result; startup = c.of_millis-2.result }) =
-    record { grace = c.of_millis.ensures ∙ ap of_millis s.grace; startup = c.of_millis-2.ensures ∙ ap of_millis s.startup } in
-    let none = begin_writes doc k q h c.new-writes.result (c.new-writes.ensures.takes ∙ ap (λ n. not (n == 0)) s.ready_millis) c.new-writes.ensures.count in
-    let all = c.in_ok-look_all.ensures doc k q before h first health view graces are none in
-    let looked = all.0 in
+    let all = c.in_ok-look_all.ensures doc k q before h (run_pass doc q k before h c.args.cluster.now c.args.store.now c.args.told.now r) health view
+    (record { grace = c.picoseconds.ensures.value ∙ ap of_millis s.grace; startup = c.picoseconds-2.ensures.value ∙ ap of_millis s.startup }) are
+    (begin_writes doc k q h c.new-writes.result (c.new-writes.ensures.takes ∙ ap (λ n. not (n == 0)) s.ready_millis) c.new-writes.ensures.count) in
     let pods = passed_pods doc k q h due in
     let whole : HaveCost q k h z (spent c.args.cluster.now c.args.steps.now + pods_passed doc k q h) (spent c.set_mode.new.cluster c.look_all.new.steps) =
     omega (arith, all.2, cost_grows q k h Pass, rest_cost doc k q m, pods, begun_none doc k q h, c.in_ok-set_mode.ensures.touched) in
@@ -48,9 +45,9 @@ returns-clause-stands g c doc k q before h r health limits last view s few =
     ∙ ap (λ n. kept (of_millis doc.settings.monitor_period_millis + work_of doc.settings.rules.ready_millis n (pods_counted doc q h m))) s.ready_burst
     ∙ sym (ap kept (period_is doc k q h)) in
     let found : (n : ℕ) → is_found q n m ≡ is_listed names n = found_named q m names (marks_named doc k q h names are) in
-    let heard = c.forget_others.ensures.stands doc k q h m looked.health (found_named q h names are) looked.alike in
-    let counted = c.in_ok-counts.ensures q m looked.running.cluster looked.running.synced (marks_named doc k q h names are) (subst (λ (n : ℕ). n < 4294967296) (sym (marks_many doc k q h)) few) in
-    let both = c.in_ok-set_mode.ensures.stands doc k q before m c.look_all.new.store looked.running heard (marks_view doc k q p c.args.view.now (view_more doc k q h Pass c.args.view.now view)) found (c.deref.ensures.value ∙ counted) s.percent in
+    let heard = c.forget_others.ensures.stands doc k q h m all.0.health (found_named q h names are) all.0.alike in
+    let counted = c.in_ok-counts.ensures q m all.0.running.cluster all.0.running.synced (marks_named doc k q h names are) (subst (λ (n : ℕ). n < 4294967296) (sym (marks_many doc k q h)) few) in
+    let both = c.in_ok-set_mode.ensures.stands doc k q before m c.look_all.new.store all.0.running heard (marks_view doc k q p c.args.view.now (view_more doc k q h Pass c.args.view.now view)) found (c.deref.ensures.value ∙ counted) s.percent in
     let left = zones_leave doc k q (moded doc k q h) c.set_mode.new.cluster c.look_all.new.store c.set_mode.new.health (record { cluster = both.0.cluster; from = both.0.from; sights = both.0.sights; moved = both.0.moved; store = both.0.store; synced = both.0.synced; health = both.1 }) in
     let done = c.in_ok-set_zones.ensures.stands doc k q before (moded doc k q h) both.0.told (are_passed doc k q h c.args.zones.now limits)
     (c.deref-2.ensures.value ∙ counted ∙ ap zone_counts (sym (moded_nodes doc k q h)))
@@ -74,16 +71,13 @@ returns-clause-found g c doc k q before h r health last view s few held =
     let m = marks doc k q p in
     let names = c.in_ok-names.names in
     let are = c.in_ok-names.ensures.named q h no_node no_pod r.cluster r.synced in
-    let first = run_pass doc q k before h c.args.cluster.now c.args.store.now c.args.told.now r in
-    let graces : IsGraceOf doc (record { grace = c.of_millis.result; startup = c.of_millis-2.result }) =
-    record { grace = c.of_millis.ensures ∙ ap of_millis s.grace; startup = c.of_millis-2.ensures ∙ ap of_millis s.startup } in
-    let none = begin_writes doc k q h c.new-writes.result (c.new-writes.ensures.takes ∙ ap (λ n. not (n == 0)) s.ready_millis) c.new-writes.ensures.count in
-    let all = c.in_ok-look_all.ensures doc k q before h first health view graces are none in
-    let looked = all.0 in
+    let all = c.in_ok-look_all.ensures doc k q before h (run_pass doc q k before h c.args.cluster.now c.args.store.now c.args.told.now r) health view
+    (record { grace = c.picoseconds.ensures.value ∙ ap of_millis s.grace; startup = c.picoseconds-2.ensures.value ∙ ap of_millis s.startup }) are
+    (begin_writes doc k q h c.new-writes.result (c.new-writes.ensures.takes ∙ ap (λ n. not (n == 0)) s.ready_millis) c.new-writes.ensures.count) in
     let there : (n : ℕ) → is_found q n m ≡ is_listed names n = found_named q m names (marks_named doc k q h names are) in
-    let heard = c.forget_others.ensures.stands doc k q h m looked.health (found_named q h names are) looked.alike in
-    let counted = c.in_ok-counts.ensures q m looked.running.cluster looked.running.synced (marks_named doc k q h names are) (subst (λ (n : ℕ). n < 4294967296) (sym (marks_many doc k q h)) few) in
-    let both = c.in_ok-set_mode.ensures.stands doc k q before m c.look_all.new.store looked.running heard (marks_view doc k q p c.args.view.now (view_more doc k q h Pass c.args.view.now view)) there (c.deref.ensures.value ∙ counted) s.percent in
+    let heard = c.forget_others.ensures.stands doc k q h m all.0.health (found_named q h names are) all.0.alike in
+    let counted = c.in_ok-counts.ensures q m all.0.running.cluster all.0.running.synced (marks_named doc k q h names are) (subst (λ (n : ℕ). n < 4294967296) (sym (marks_many doc k q h)) few) in
+    let both = c.in_ok-set_mode.ensures.stands doc k q before m c.look_all.new.store all.0.running heard (marks_view doc k q p c.args.view.now (view_more doc k q h Pass c.args.view.now view)) there (c.deref.ensures.value ∙ counted) s.percent in
     let turned : c.turns_on.result ≡ (not (mode q h) && mode q (moded doc k q h)) =
     c.turns_on.ensures ∙ (λ i. not (c.mode-was.ensures q h no_node no_pod r.cluster i) && c.mode-on.ensures q (moded doc k q h) no_node no_pod both.0.cluster i) in (
       due,

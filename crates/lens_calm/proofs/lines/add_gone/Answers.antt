@@ -1,5 +1,5 @@
 use Rattle.std.proofs.Common.{◌≡◌, ◌++◌, codes, subst}
-use Rattle.lens_room.proofs.Added.{added, where-ok}
+use Rattle.trace_writer.proofs.Added.{added, where-ok}
 use Rattle.lens_calm.specs.Lines.{gone_line, seconds_text, tainted_if}
 use Rattle.lens_calm.proofs.lines.add_gone.Goals as goal
 

@@ -1,9 +1,10 @@
-use Rattle.std.proofs.Common.{List, ℕ, map, string_bytes}
+use Rattle.std.proofs.Common.{map, string_bytes}
 use Rattle.lens_room.specs.Flags.{behind}
-use Rattle.lens_calm.proofs.Endings.{ends-answered}
+use Rattle.lens_room.proofs.WordEndings.{ends-answered}
+use Rattle.lens_calm.specs.Answers.{answer_to}
 use Rattle.lens_calm.proofs.running.run.Goals as goal
 
-pub returns-in-Ok-clause-text : goal.returns-in-Ok-clause-text
-returns-in-Ok-clause-text g c left =
-    ends-answered (map string_bytes c.behind.result.now) (behind (map string_bytes c.args.words.now.items)) c.in-Ok.answer c.deref.result.now left
-    (g.K.Sink.taken c.args.sink.now) (g.K.Sink.taken c.tell.new.sink) c.tell.result c.behind.ensures c.in-Ok.ensures c.deref.ensures.value (c.tell.ensures.text left)
+pub returns-clause-text : goal.returns-clause-text
+returns-clause-text g c left =
+    ends-answered answer_to (map string_bytes c.behind.result.now) (behind (map string_bytes c.args.words.now.items)) c.answer.result left
+    (g.K.Sink.taken c.args.sink.now) (g.K.Sink.taken c.tell_answer.new.sink) c.tell_answer.result c.behind.ensures c.answer.ensures (c.tell_answer.ensures.text left)

@@ -7,4 +7,4 @@ use Rattle.lens_lateness.proofs.late.late_evictions.Given as goal
 -- those so far and those of the rest
 abbrev pub invariant-loop-line : goal.invariant-loop-line
 invariant-loop-line l =
-    map (texts_of l.document.settings.beat_millis) l.found.items ++ late l.document (map seen (drop l.line-index l.lines)) ≡ late l.document (map seen l.lines)
+    map (texts_of l.timing.document.now.settings.beat_millis) l.found.items ++ late l.timing.document.now (map seen (drop l.line-index l.lines)) ≡ late l.timing.document.now (map seen l.lines)

@@ -1,6 +1,6 @@
 use Rattle.std.proofs.Common.{◌≡◌, ◌++◌, codes, decimal, ap, ◌∙◌}
 use Rattle.lens_room.specs.Late.{place_text}
-use Rattle.lens_room.proofs.Added.{added, where-ok}
+use Rattle.trace_writer.proofs.Added.{added, where-ok}
 use Rattle.lens_room.proofs.late.add_place.Goals as goal
 
 pub returns : goal.returns

@@ -1,6 +1,6 @@
 use Rattle.std.proofs.Common.{◌++◌, codes, decimal}
 use Rattle.lens_room.specs.Lines.{bound_text}
-use Rattle.lens_room.proofs.Added.{added-both}
+use Rattle.trace_writer.proofs.Added.{added-both}
 use Rattle.lens_room.proofs.lines.add_bound.Goals as goal
 
 pub returns : goal.returns

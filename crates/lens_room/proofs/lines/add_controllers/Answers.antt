@@ -1,6 +1,6 @@
 use Rattle.std.proofs.Common.{add-one}
 use Rattle.lens_room.specs.Lines.{lines_below, line_at}
-use Rattle.lens_room.proofs.Added.{added}
+use Rattle.trace_writer.proofs.Added.{added}
 use Rattle.lens_room.proofs.lines.add_controllers.Goals as goal
 
 pub loop-controller-preserved : goal.loop-controller-preserved

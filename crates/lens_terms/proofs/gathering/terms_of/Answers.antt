@@ -1,4 +1,4 @@
-use Rattle.std.proofs.Common.{◌≡◌, ◌+◌, ◌-◌, ◌<◌, length, drop, map, reverse, refl, sym, subst, arith}
+use Rattle.std.proofs.Common.{◌≡◌, ◌+◌, ◌-◌, length, drop, map, reverse, refl, sym, subst, arith}
 use Rattle.std.proofs.Math.Seq.{drop-length}
 use Rattle.trace_lines.specs.Reads.{seen}
 use Rattle.lens_terms.specs.Gathered.{Stands}
@@ -19,13 +19,11 @@ pub lines-preserved : goal.lines-preserved
 lines-preserved c =
     let lines = c.args.lines.now in
     let place = c.lines.at - 1 in
-    let within : place < length lines = omega (arith, c.lines.invariant.within, c.lines-test.true) in
-    let next : place + 1 ≡ c.lines.at = omega (arith, c.lines-test.true) in
-    let before : Stands (place + 2 + 1) (map seen (drop c.lines.at lines)) c.lines.gathering =
-    subst (λ n. Stands n (map seen (drop c.lines.at lines)) c.lines.gathering) (omega (arith, c.lines-test.true)) c.lines.invariant.stands in
+    let behind = map seen (drop c.lines.at lines) in
+    let before : Stands (place + 2 + 1) behind c.lines.gathering = subst (λ n. Stands n behind c.lines.gathering) (omega (arith, c.lines-test.true)) c.lines.invariant.stands in
     record {
       within = omega (arith, c.lines.invariant.within);
-      stands = stands-before lines place c.lines.at (place + 2) c.take.new.self _ _ within next (c.in_ok-take.ensures (map seen (drop c.lines.at lines)) before) refl;
+      stands = stands-before lines c.lines.at (place + 2) c.take.new.self _ _ c.lines.invariant.within c.lines-test.true (c.in_ok-take.ensures behind before) refl;
     }
 
 pub returns : goal.returns

@@ -1,4 +1,4 @@
-use Rattle.std.proofs.Common.{◌≡◌, ◌+◌, ◌-◌, ◌<◌, length, drop, map, reverse, refl, sym, ap, ◌∙◌, arith}
+use Rattle.std.proofs.Common.{drop, map, reverse, refl, sym, ap, ◌∙◌, arith}
 use Rattle.std.proofs.Math.Seq.{drop-length}
 use Rattle.trace_lines.specs.Reads.{seen}
 use Rattle.lens_terms.specs.Acting.{interrupted}
@@ -19,13 +19,11 @@ lines-init c =
 pub lines-preserved : goal.lines-preserved
 lines-preserved c =
     let lines = c.args.lines.now in
-    let place = c.lines.at - 1 in
-    let within : place < length lines = omega (arith, c.lines.invariant.within, c.lines-test.true) in
-    let next : place + 1 ≡ c.lines.at = omega (arith, c.lines-test.true) in
-    let rest = map seen (drop c.lines.at lines) in
+    let known = c.lines.invariant.known in
+    let taken = c.in_ok-take.ensures (map seen (drop c.lines.at lines)) known in
     record {
       within = omega (arith, c.lines.invariant.within);
-      known = known-before c.args.stop lines place c.lines.at c.take.new.self _ _ within next refl (c.in_ok-take.ensures rest c.lines.invariant.known);
-      ends_are = ends-before c.args.stop lines place c.lines.at c.get.result c.lines.interruptions c.lines.found.items c.push.new.self.items _ _ within next refl
-          c.lines.invariant.known c.get.ensures c.lines.invariant.ends_are c.in_ok-push.ensures.items;
+      known = known-before c.args.stop lines c.lines.at c.take.new.self _ _ c.lines.invariant.within c.lines-test.true refl taken;
+      ends_are = ends-before c.args.stop lines c.lines.at c.get.result c.lines.interruptions c.lines.found.items c.push.new.self.items _ _ c.lines.invariant.within c.lines-test.true refl
+          known c.get.ensures c.lines.invariant.ends_are c.in_ok-push.ensures.items;
     }

@@ -1,5 +1,5 @@
 use Rattle.std.proofs.Common.{sym, ◌∙◌}
-use Rattle.pod_tools.proofs.Same.{same_tolerations}
+use Rattle.taint_match.proofs.Same.{same_tolerations}
 use Rattle.pod_tools.proofs.judged.are_equal.Goals as goal
 
 pub returns : goal.returns

@@ -1,6 +1,6 @@
 use Rattle.std.proofs.Common.{◌≡◌, ℕ, List, ◌++◌, codes, decimal}
 use Rattle.replay_top.specs.Generated.{sizes_text}
-use Rattle.replay_top.proofs.Added.{added-both, where-ok}
+use Rattle.trace_writer.proofs.Added.{added-both, where-ok}
 use Rattle.replay_top.proofs.generating.add_sizes.Goals as goal
 
 pub returns : goal.returns

@@ -1,25 +1,19 @@
-use Rattle.std.proofs.Common.{◌≡◌, ℕ, ◌≤◌, ◌+◌, ◌-◌, ◌*◌, ◌^◌}
-use Rattle.kube_objects.specs.Document.{Doc, end_beat}
-use Rattle.agenda_laws.specs.Standing.{standing_below}
+use Rattle.std.proofs.Common.{◌≡◌, ℕ, ◌+◌, ◌-◌, ◌*◌, ◌^◌}
+use Rattle.kube_objects.specs.Document.{Doc}
 use Rattle.history.specs.History.{history}
 use Rattle.history.specs.Printed.{printed}
-use Rattle.script_reader.specs.Lawful.{IsLawfulDoc}
-use Rattle.world_core.specs.Worlds.{at_of, end_of, IsReady, WorldStands}
+use Rattle.world_core.specs.Worlds.{at_of}
+use Rattle.world_runs.specs.Runs.{IsGoing, Runs}
 use Rattle.replay_top.specs.Counts.{AreAtMost, counts_of}
-use Rattle.replay_top.specs.Runs.{Runs}
 use Rattle.replay_top.proofs.generating.count_beats.Given as goal
 
 abbrev pub invariant-beats : goal.invariant-beats
 invariant-beats g l = record {
-  within : at_of l.world ≤ end_of l.world + 1;
-  ready : IsReady l.world;
-  last : end_of l.world ≡ end_of l.fn.world;
-  runs : (count : ℕ) × Runs l.world count;
+  going : IsGoing l.last.0 l.world;
   small : AreAtMost (at_of l.world * 2 ^ 64) l.counts;
-  stands : (doc : Doc) → IsLawfulDoc doc → WorldStands doc 0 (history doc 0) l.fn.world → end_of l.fn.world ≡ end_beat doc
-      → WorldStands doc (at_of l.world) (history doc (at_of l.world)) l.world × (l.steps ≤ l.fn.steps + standing_below doc (at_of l.world))
-      × (l.counts ≡ counts_of (printed (history doc (at_of l.world))));
+  runs : (doc : Doc) (first : ℕ) → Runs doc first l.fn.steps l.fn.world
+      → Runs doc first l.steps l.world × (l.counts ≡ counts_of (printed (history doc (at_of l.world))));
 }
 
 abbrev pub decreases-beats : goal.decreases-beats
-decreases-beats g l = end_of l.world + 1 - at_of l.world
+decreases-beats g l = l.last.0 + 1 - at_of l.world

@@ -29,8 +29,11 @@ returns-in-Ok-clause-text g c =
     let taken = g.K.Sink.taken in
     let past = c.if-document-last.false in
     ends-moved (unread (done c.deref.result.now) []) (unread (state_answer d last) []) (Some []) (Some []) (taken c.args.sink.now) (taken c.tell.new.sink) c.tell.result
-    (ap (λ reply. unread reply []) (state-within d last (omega (arith, past)) ∙ ap done (sym (c.deref.ensures.value ∙ c.in-Ok.ensures.text)))) refl
+    (ap (λ reply. unread reply []) (state-within d last (omega (arith, past)) ∙ ap done (sym (c.deref.ensures.value ∙ c.in-Ok.ensures.text.0)))) refl
     (ends-unread (done c.deref.result.now) [] (Some []) (taken c.args.sink.now) (taken c.tell.new.sink) c.tell.result refl (c.tell.ensures.text []))
+
+pub returns-in-Ok-clause-reads_back : goal.returns-in-Ok-clause-reads_back
+returns-in-Ok-clause-reads_back g c done = c.in-Ok.ensures.text.1
 
 pub returns-in-Err-clause-text : goal.returns-in-Err-clause-text
 returns-in-Err-clause-text g c = gave-nothing (g.K.Sink.taken c.args.sink.now) (state_answer c.args.document c.args.last.0).text

@@ -9,6 +9,6 @@ returns-in_err-events c =
     let team = c.in_ok-team.team in
     let fault = c.in_err-events.field-0.0 in
     failed fault c.from_residual-in_err-events.result (document_at d) c.from_residual-in_err-events.ensures.0 c.from_residual-in_err-events.ensures.1
-    (events-fail fault d c.in_ok-version.version c.in_ok-given.given ((team.named.procs, team.waits), c.controllers.new.names) (c.in_ok-kubelets.kubelets.procs, c.kubelets.new.names)
+    (events-fail fault d c.in_ok-version.version c.in_ok-given.given ((team.named.procs, team.waits), c.controllers_at.new.names) (c.in_ok-kubelets.kubelets.procs, c.kubelets_at.new.names)
     (c.in_ok-objects.objects, c.objects_at.new.names) c.in_ok-names.names c.known.result.now c.in_ok-names.ensures c.known.ensures.value c.in_ok-top_in.ensures c.in_ok-version.ensures c.in_ok-given.ensures c.in_ok-team.ensures.gives
     c.in_ok-kubelets.ensures.gives c.in_ok-objects.ensures c.in_err-events.ensures)

@@ -5,4 +5,4 @@ use Rattle.script_reader.proofs.table.all_known.Given as goal
 
 -- what is left decides
 abbrev pub invariant-loop-key : goal.invariant-loop-key
-invariant-loop-key l = all_known l.table (members_view l.members.entries) ≡ all_known l.table (members_view l.key-iterator)
+invariant-loop-key g l = let is_key = g.K.Keys.is_key l.table in all_known is_key (members_view l.members.entries) ≡ all_known is_key (members_view l.key-iterator)

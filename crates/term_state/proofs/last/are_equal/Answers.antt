@@ -1,5 +1,5 @@
 use Rattle.std.proofs.Common.{sym, ◌∙◌}
-use Rattle.term_state.proofs.Same.{same_tolerations}
+use Rattle.taint_match.proofs.Same.{same_tolerations}
 use Rattle.term_state.proofs.last.are_equal.Goals as goal
 
 pub returns : goal.returns

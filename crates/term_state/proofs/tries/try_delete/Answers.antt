@@ -11,7 +11,7 @@ returns-in-Ok-clause-stands c q k h tick st passing written =
     let e = entry k 4 q (Ticks tick) in
     let replied = answer_delete c.args.pod c.args.given (node_key c.args.node) c.args.node_given h in
     tried_stands h e c.delete_pod.new.self (c.args.pod, None) replied c.in-Ok.answer c.delete_pod.result
-    (subst (λ n. IsReply c.delete_pod.result (answer_delete c.args.pod c.args.given n c.args.node_given h)) c.node_key.ensures (c.delete_pod.ensures.answer h st))
+    (subst (λ n. IsReply c.delete_pod.result (answer_delete c.args.pod c.args.given n c.args.node_given h)) c.node.ensures (c.delete_pod.ensures.answer h st))
     (sym c.in-Ok.is ∙ c.answer.ensures)
     (written ∙ ap (try_write (c.args.pod, None)) (passed q replied h c.args.passes c.if-not-passes.false passing))
     (λ is. c.delete_pod.ensures.ok h e st is)

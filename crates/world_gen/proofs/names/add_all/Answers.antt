@@ -8,11 +8,11 @@ add_new-requires-clause-few c =
 
 pub add_new-requires-clause-fresh : goal.add_new-requires-clause-fresh
 add_new-requires-clause-fresh c =
-    add-new c.args.letter c.loop-i.i c.args.names.now c.loop-i.names c.deref.result.now (omega arith)
+    add-new c.args.letter c.loop-i.i c.args.names.now c.loop-i.names c.as_str.result.now (omega arith)
     (c.requires.fresh c.loop-i.i c.loop-i-test.true) c.loop-i.invariant
-    (c.deref.ensures.value ∙ c.in_ok-text.ensures.text)
+    (c.as_str.ensures.value ∙ c.in_ok-text.ensures)
 
 pub loop-i-preserved : goal.loop-i-preserved
 loop-i-preserved c =
-    add-step c.args.letter c.loop-i.i c.args.names.now c.loop-i.names c.add_new.new.names c.deref.result.now c.loop-i.invariant
-    (c.deref.ensures.value ∙ c.in_ok-text.ensures.text) c.in_ok-add_new.ensures
+    add-step c.args.letter c.loop-i.i c.args.names.now c.loop-i.names c.add_new.new.names c.as_str.result.now c.loop-i.invariant
+    (c.as_str.ensures.value ∙ c.in_ok-text.ensures) c.in_ok-add_new.ensures

@@ -4,6 +4,7 @@ use Rattle.node_health.specs.declared.verdict.Verdict.TheVariants.{Keep, MarkUnk
 use Rattle.node_health.specs.Kept.{verdict_of}
 use Rattle.node_health.specs.Kept.{kept as kept_of, rule_of}
 use Rattle.node_health.specs.Stands.{IsNoted, PassStands, and_looked}
+use Rattle.history_laws.proofs.Plainly.{or_left, or_right}
 use Rattle.node_health.proofs.Frames.{alike-mark-other, alike-then}
 use Rattle.kube_objects.specs.Entry.{Mark, Pass}
 use Rattle.kube_objects.specs.Health.{is_ready_node, lease_of, mark_of}
@@ -15,7 +16,7 @@ use Rattle.term_state.specs.ClusterStands.{no_node, no_pod}
 use Rattle.term_state.specs.Sights.{spent}
 use Rattle.controller_core.specs.Passing.{IsPassing}
 use Rattle.controller_core.specs.Working.{HavePassCost, WritesStand, kept}
-use Rattle.controller_core.proofs.Passing.Looking.{keep_none, look_is, looked_itself, mark_is, marks_by, noted_by, or_left, or_right, unseen}
+use Rattle.controller_core.proofs.Passing.Looking.{keep_none, look_is, looked_itself, mark_is, marks_by, noted_by, unseen}
 use Rattle.controller_core.proofs.Passing.Working.{note_cost, note_writes, on_ok_both, pods_with_mark}
 use Rattle.tick_laws.specs.Steps.{pods_on}
 use Rattle.tick_laws.proofs.Marking.{mark_keeps}
@@ -29,14 +30,12 @@ returns-in_default g c doc k q before h now looked p view graces writes new ther
 pub returns-in-Keep : goal.returns-in-Keep
 returns-in-Keep g c doc k q before h now looked p view graces writes new there same =
     let name = c.args.name in
-    let given = c.in-Some.given in
     let node = c.in-Some.node.now in
-    let at = c.args.view.now.now.0 in
-    let sees : Some (given, node) ≡ seen_node q name now = c.in-Some.ensures q now no_node no_pod p.running.cluster p.running.synced in
-    let seen = look_is doc k q before h now looked c.args.cluster.now c.args.health.now c.args.store.now c.args.told.now name given node c.lease_of-lease.result at c.args.grace.now p new sees same
+    let sees : Some (c.in-Some.given, node) ≡ seen_node q name now = c.in-Some.ensures q now no_node no_pod p.running.cluster p.running.synced in
+    let seen = look_is doc k q before h now looked c.args.cluster.now c.args.health.now c.args.store.now c.args.told.now name c.in-Some.given node c.lease_of-lease.result c.args.view.now.now.0 c.args.grace.now p new sees same
     (c.lease_of-lease.ensures q now p.running.cluster p.running.synced) view.reading graces in
     let keeps : Keep ≡ verdict_of (mark_of doc q k name node now) = sym c.in-Keep.is ∙ c.in_ok-look.ensures.marks doc k q h now looked p.health new seen in
-    let idle : mark doc k q name now ≡ now = mark_is doc k q name now (given, node) None (sym sees) (keep_none doc k q name node now keeps) in
+    let idle : mark doc k q name now ≡ now = mark_is doc k q name now (c.in-Some.given, node) None (sym sees) (keep_none doc k q name node now keeps) in
     subst (λ g. IsPassing doc k q before h g (and_looked name looked) c.args.cluster.now c.look.new.self c.args.store.now c.args.told.now × WritesStand doc q h g c.args.writes.now
     × HavePassCost doc q k h now g (spent c.args.cluster.now c.args.steps.now) (spent c.args.cluster.now c.args.steps.now)) (sym idle) (
       record { running = p.running; health = c.in_ok-look.ensures.stands doc k q h now looked p.health new seen; leases = p.leases; pods = p.pods; alike = λ n out. p.alike n (or_right (name == n) (looked n) out) },

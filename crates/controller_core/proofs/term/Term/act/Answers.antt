@@ -41,19 +41,21 @@ returns g c doc k q before h b v beats upto seen small =
     (λ five. (
       record {
         running = five.0;
-        allowance = five.1;
-        health = health-same doc q h3 (evicted doc k q h3) c.pass.new.health (evicted_says doc k q h3)
-            (health-same doc q h2 h3 c.pass.new.health (tainted_says doc k q h2) (health-same doc q h1 h2 c.pass.new.health (cleaned_says doc k q h1) one.1));
-        limits = limits_stand doc q h3 (evicted doc k q h3) c.clean_and_taint.new.zones (evicted_limits doc k q h3) two.0.limits;
-        queues = heads_after doc k q h3 c.clean_and_taint.new.zones two.0.queues;
-        held = held_stands q h1 (evicted doc k q h3) c.hold.new.held (λ n. (evicted_limits doc k q h3).known n ∙ tainted_known doc k q h2 n ∙ (cleaned_limits doc k q h1).known n) held;
-        last = last_stands doc q h1 (evicted doc k q h3) c.pass.new.last ((evicted_limits doc k q h3).passed ∙ tainted_passed doc k q h2 ∙ (cleaned_limits doc k q h1).passed)
-            ((evicted_limits doc k q h3).period doc ∙ tainted_period doc k q h2 ∙ (cleaned_limits doc k q h1).period doc) one.3;
-        range = c.in_ok-found.ensures.range b.range;
-        settles = settles_ticked doc q k h3 (evicted doc k q h3) self.settles (evicted_ticked doc k q h3)
-            (settles_ticked doc q k h2 h3 self.settles (tainted_ticked doc k q h2)
-            (settles_ticked doc q k h1 h2 self.settles (cleaned_ticked doc k q h1) (settles_ticked doc q k h h1 self.settles (pass_ticked doc k q h) b.settles)));
-        settings = b.settings;
+        parts = record {
+          allowance = five.1;
+          health = health-same doc q h3 (evicted doc k q h3) c.pass.new.health (evicted_says doc k q h3)
+              (health-same doc q h2 h3 c.pass.new.health (tainted_says doc k q h2) (health-same doc q h1 h2 c.pass.new.health (cleaned_says doc k q h1) one.1));
+          limits = limits_stand doc q h3 (evicted doc k q h3) c.clean_and_taint.new.zones (evicted_limits doc k q h3) two.0.limits;
+          queues = heads_after doc k q h3 c.clean_and_taint.new.zones two.0.queues;
+          held = held_stands q h1 (evicted doc k q h3) c.hold.new.held (λ n. (evicted_limits doc k q h3).known n ∙ tainted_known doc k q h2 n ∙ (cleaned_limits doc k q h1).known n) held;
+          last = last_stands doc q h1 (evicted doc k q h3) c.pass.new.last ((evicted_limits doc k q h3).passed ∙ tainted_passed doc k q h2 ∙ (cleaned_limits doc k q h1).passed)
+              ((evicted_limits doc k q h3).period doc ∙ tainted_period doc k q h2 ∙ (cleaned_limits doc k q h1).period doc) one.3;
+          range = c.in_ok-found.ensures.range b.range;
+          settles = settles_ticked doc q k h3 (evicted doc k q h3) self.settles (evicted_ticked doc k q h3)
+              (settles_ticked doc q k h2 h3 self.settles (tainted_ticked doc k q h2)
+              (settles_ticked doc q k h1 h2 self.settles (cleaned_ticked doc k q h1) (settles_ticked doc q k h h1 self.settles (pass_ticked doc k q h) b.settles)));
+          settings = b.settings;
+        };
       },
       omega (arith, one.4, two.1, five.2),
     ))

@@ -37,8 +37,8 @@ went_same doc k q before h g t s o is w = subst (λ f. Went doc k q before f t s
 
 pub returns-then-not-is_synced : goal.returns-then-not-is_synced
 returns-then-not-is_synced g c doc k q before h s st told v beats upto led start unpassed small =
-    let one = c.in_ok-sync.ensures.stands doc k q h (s.settles led) s.cluster st s.reached v s.from in
-    let seen = c.in_ok-sync.ensures.sights doc k q h (s.settles led) s.cluster st s.reached v start s.from s.sights in
+    let one = c.in_ok-sync.ensures.stands doc k q h (s.parts.settles led) s.cluster st s.reached v s.from in
+    let seen = c.in_ok-sync.ensures.sights doc k q h (s.parts.settles led) s.cluster st s.reached v start s.from s.sights in
     let none : touched_len c.args.self.now.cluster ≡ 0 = untouched_len c.args.self.now.cluster (settled_none doc.settings.rules.evict_from doc q h no_pod c.args.self.now.cluster s.sights) in
     let unsynced : is_synced q (sync doc k q h) ≡ false = sym (c.is_synced.ensures q (sync doc k q h) one.0) ∙ c.if-not-is_synced.true in
     let same = unsynced_none doc k q h unsynced in
@@ -49,16 +49,18 @@ returns-then-not-is_synced g c doc k q before h s st told v beats upto led start
               cluster = subst (λ f. ClusterStands q f c.sync.new.cluster) same one.0;
               from = seen.0;
               sights = seen.2 unsynced;
-              allowance = s.allowance;
               reached = s.reached;
-              health = s.health;
-              limits = s.limits;
-              queues = s.queues;
-              held = s.held;
-              last = s.last;
-              range = s.range;
-              settles = s.settles;
-              settings = s.settings;
+              parts = record {
+                allowance = s.parts.allowance;
+                health = s.parts.health;
+                limits = s.parts.limits;
+                queues = s.parts.queues;
+                held = s.parts.held;
+                last = s.parts.last;
+                range = s.parts.range;
+                settles = s.parts.settles;
+                settings = s.parts.settings;
+              };
             };
             store = st;
             told = told;
@@ -69,8 +71,8 @@ returns-then-not-is_synced g c doc k q before h s st told v beats upto led start
 pub returns : goal.returns
 returns g c doc k q before h s st told v beats upto led start unpassed small =
     let f = sync doc k q h in
-    let one = c.in_ok-sync.ensures.stands doc k q h (s.settles led) s.cluster st s.reached v s.from in
-    let seen = c.in_ok-sync.ensures.sights doc k q h (s.settles led) s.cluster st s.reached v start s.from s.sights in
+    let one = c.in_ok-sync.ensures.stands doc k q h (s.parts.settles led) s.cluster st s.reached v s.from in
+    let seen = c.in_ok-sync.ensures.sights doc k q h (s.parts.settles led) s.cluster st s.reached v start s.from s.sights in
     let none : touched_len c.args.self.now.cluster ≡ 0 = untouched_len c.args.self.now.cluster (settled_none doc.settings.rules.evict_from doc q h no_pod c.args.self.now.cluster s.sights) in
     let order = synced_beats doc k q h (beats, upto) in
     let synced : is_synced q f ≡ true = sym (c.is_synced.ensures q f one.0) ∙ c.if-not-is_synced.false in
@@ -84,16 +86,8 @@ returns g c doc k q before h s st told v beats upto led start unpassed small =
           cluster = two.0.running.dues.cluster;
           from = two.0.running.dues.from;
           sights = two.0.running.dues.settled;
-          allowance = two.0.allowance;
           reached = subst (AreReached q) whole (reached_after_tick doc k q h s.reached);
-          health = two.0.health;
-          limits = two.0.limits;
-          queues = two.0.queues;
-          held = two.0.held;
-          last = two.0.last;
-          range = two.0.range;
-          settles = two.0.settles;
-          settings = two.0.settings;
+          parts = two.0.parts;
         };
         store = two.0.running.store;
         told = two.0.running.told;
@@ -105,20 +99,20 @@ returns g c doc k q before h s st told v beats upto led start unpassed small =
         cluster = one.0;
         from = seen.0;
         sights = seen.1;
-        moved = c.in_ok-sync.ensures.moved doc k q h (s.settles led) s.cluster st s.reached v moved beneath;
+        moved = c.in_ok-sync.ensures.moved doc k q h (s.parts.settles led) s.cluster st s.reached v moved beneath;
         store = c.in_ok-sync.ensures.store doc k q h st;
         told = told_synced doc k q before h c.args.told.now told;
         synced = synced;
       };
-      allowance = allowance_synced doc k q c.args.self.now.allowance h s.allowance;
-      health = health-same doc q h f c.args.self.now.health (sync_says doc k q h) s.health;
-      limits = limits_stand doc q h f c.args.self.now.zones (sync_limits doc k q h) s.limits;
-      queues = heads_begun doc k q h f c.args.self.now.zones (sync_limits doc k q h) (beneath ∙ start) s.queues;
-      held = held_stands q h f c.args.self.now.held (sync_limits doc k q h).known s.held;
+      allowance = allowance_synced doc k q c.args.self.now.allowance h s.parts.allowance;
+      health = health-same doc q h f c.args.self.now.health (sync_says doc k q h) s.parts.health;
+      limits = limits_stand doc q h f c.args.self.now.zones (sync_limits doc k q h) s.parts.limits;
+      queues = heads_begun doc k q h f c.args.self.now.zones (sync_limits doc k q h) (beneath ∙ start) s.parts.queues;
+      held = held_stands q h f c.args.self.now.held (sync_limits doc k q h).known s.parts.held;
       passed = ap (is_of_beat k) (sync_limits doc k q h).passed ∙ unpassed;
       heads = sync_heads doc k q h (no_heads_start q k h start);
-      last = last_stands doc q h f c.args.self.now.last (sync_limits doc k q h).passed ((sync_limits doc k q h).period doc) s.last;
-      range = s.range;
-      settles = settles_ticked doc q k h f c.args.self.now.settles (sync_ticked doc k q h) s.settles;
-      settings = s.settings;
+      last = last_stands doc q h f c.args.self.now.last (sync_limits doc k q h).passed ((sync_limits doc k q h).period doc) s.parts.last;
+      range = s.parts.range;
+      settles = settles_ticked doc q k h f c.args.self.now.settles (sync_ticked doc k q h) s.parts.settles;
+      settings = s.parts.settings;
     }) (view_ticked doc k q h f c.args.view.now (sync_ticked doc k q h) v) order.0 order.1 (sync_sights doc k q h start) small)

@@ -15,4 +15,4 @@ wakes_local a (Some x) there least none = wakes_by a (Some x.0) there least none
 pub returns : goal.returns
 returns c doc q h s beats k upto =
     wakes_local c.args.self.now.allowance c.ready_at.result c.ready_at.ensures.there c.ready_at.ensures.least c.ready_at.ensures.none (local doc q.process k)
-    ∙ ap not (room_or_free doc k q h c.args.self.now.allowance s.allowance beats upto)
+    ∙ ap not (room_or_free doc k q h c.args.self.now.allowance s.parts.allowance beats upto)

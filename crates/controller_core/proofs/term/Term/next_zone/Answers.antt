@@ -10,8 +10,8 @@ returns-in-Pass-clause-later c = pushed_later c.args.self.now.zones.pushes c.arg
 
 pub returns-in-Tick-clause-next : goal.returns-in-Tick-clause-next
 returns-in-Tick-clause-next c doc q h s =
-    next_waiting doc q h c.args.self.now.zones c.args.after c.next_zone.result (sym c.in-Tick.is ∙ s.settings.judge) s.queues c.next_zone.ensures
+    next_waiting doc q h c.args.self.now.zones c.args.after c.next_zone.result (sym c.in-Tick.is ∙ s.parts.settings.judge) s.parts.queues c.next_zone.ensures
 
 pub returns-in-Pass-clause-next : goal.returns-in-Pass-clause-next
 returns-in-Pass-clause-next c doc q h s =
-    next_pushed doc q h c.args.self.now.zones c.args.after c.next_zone-in-Pass.result (sym c.in-Pass.is ∙ s.settings.judge) s.queues c.next_zone-in-Pass.ensures
+    next_pushed doc q h c.args.self.now.zones c.args.after c.next_zone-in-Pass.result (sym c.in-Pass.is ∙ s.parts.settings.judge) s.parts.queues c.next_zone-in-Pass.ensures

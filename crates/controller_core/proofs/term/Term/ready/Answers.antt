@@ -12,14 +12,14 @@ returns-in_default-clause-none c doc q h s at r =
 pub returns-in-None-clause-none : goal.returns-in-None-clause-none
 returns-in-None-clause-none c doc q h s at r =
     let none : limit_at c.args.self.now.zones (entry_place c.args.place) ≡ None = search rules in
-    absurd (no_limit_none doc q h (entry_place c.args.place) at (subst (LimitStands doc q h (entry_place c.args.place)) none (s.limits (entry_place c.args.place))) r.there)
+    absurd (no_limit_none doc q h (entry_place c.args.place) at (subst (LimitStands doc q h (entry_place c.args.place)) none (s.parts.limits (entry_place c.args.place))) r.there)
 
 pub returns-in-Some-get-clause-reading : goal.returns-in-Some-get-clause-reading
 returns-in-Some-get-clause-reading c doc q h s =
     let place = entry_place c.args.place in
     let limit = c.in-Some-get.limit.now in
     let found : limit_at c.args.self.now.zones place ≡ Some limit = search rules in
-    let stands = subst (LimitStands doc q h place) found (s.limits place) in
+    let stands = subst (LimitStands doc q h place) found (s.parts.limits place) in
     bucket_reading doc q h place limit c.ready_at.result stands (c.in-Some.ensures.some doc q h s) c.ready_at.ensures.there c.ready_at.ensures.least
 
 pub returns-in-Some-get-clause-none : goal.returns-in-Some-get-clause-none
@@ -27,4 +27,4 @@ returns-in-Some-get-clause-none c doc q h s =
     let place = entry_place c.args.place in
     let limit = c.in-Some-get.limit.now in
     let found : limit_at c.args.self.now.zones place ≡ Some limit = search rules in
-    bucket_none doc q h place limit c.ready_at.result (subst (LimitStands doc q h place) found (s.limits place)) c.ready_at.ensures.never
+    bucket_none doc q h place limit c.ready_at.result (subst (LimitStands doc q h place) found (s.parts.limits place)) c.ready_at.ensures.never

@@ -9,4 +9,4 @@ returns-then-not-syncs c doc q h s st is led =
 
 pub returns : goal.returns
 returns c doc q h s st is led =
-    s.settles led ∙ ap (λ b. only_if b (settles_at doc q h)) (sym c.if-not-syncs.false ∙ c.syncs.ensures doc q h s.cluster st is)
+    s.parts.settles led ∙ ap (λ b. only_if b (settles_at doc q h)) (sym c.if-not-syncs.false ∙ c.syncs.ensures doc q h s.cluster st is)

@@ -21,16 +21,18 @@ returns g c doc k q h s st v acts beats upto led start unpassed small =
           cluster = c.forget_moved.ensures.stands q (tick doc k q h) no_node no_pod w.term.cluster;
           from = c.forget_moved.ensures.retained.from ∙ w.term.from;
           sights = settled_kept doc.settings.rules.evict_from doc q (tick doc k q h) no_pod _ _ w.term.from c.forget_moved.ensures.retained c.forget_moved.ensures.touched w.term.sights;
-          allowance = w.term.allowance;
           reached = w.term.reached;
-          health = w.term.health;
-          limits = w.term.limits;
-          queues = w.term.queues;
-          held = w.term.held;
-          last = w.term.last;
-          range = w.term.range;
-          settles = w.term.settles;
-          settings = w.term.settings;
+          parts = record {
+            allowance = w.term.parts.allowance;
+            health = w.term.parts.health;
+            limits = w.term.parts.limits;
+            queues = w.term.parts.queues;
+            held = w.term.parts.held;
+            last = w.term.parts.last;
+            range = w.term.parts.range;
+            settles = w.term.parts.settles;
+            settings = w.term.parts.settings;
+          };
         };
         store = w.store;
         told = ap (λ xs. printed h ++ xs) c.into_deeds.ensures ∙ w.told.told;

@@ -10,15 +10,15 @@ use Rattle.controller_core.proofs.term.Term.wake.Goals as goal
 
 pub returns-in_err-last-clause-none : goal.returns-in_err-last-clause-none
 returns-in_err-last-clause-none c doc q h s =
-    if_none_always (last_pass q h ≡ None) c.from_residual.result (none_last doc q h (subst (LastStands doc q h) c.in_err-last.was s.last))
+    if_none_always (last_pass q h ≡ None) c.from_residual.result (none_last doc q h (subst (LastStands doc q h) c.in_err-last.was s.parts.last))
 
 pub returns-clause-some : goal.returns-clause-some
-returns-clause-some c doc q h s none = not_none doc q h c.in_ok-last.last (subst (LastStands doc q h) c.in_ok-last.was s.last) none
+returns-clause-some c doc q h s none = not_none doc q h c.in_ok-last.last (subst (LastStands doc q h) c.in_ok-last.was s.parts.last) none
 
 pub returns-clause-early : goal.returns-clause-early
 returns-clause-early c doc k q h s fits early =
     let last = c.in_ok-last.last in
-    let stands = subst (LastStands doc q h) c.in_ok-last.was s.last in
+    let stands = subst (LastStands doc q h) c.in_ok-last.was s.parts.last in
     let later : local doc q.process k < last.at.0 + last.period = omega (arith, early, fits, c.first_ready.ensures.least, c.saturating_add.ensures) in (
       due_from doc k q h last stands ∙ kept_due last.at.0 (pass_period doc q h) last.period (local doc q.process k) stands.period fits
           ∙ not_yet (last.at.0 + last.period) (local doc q.process k) later,
@@ -31,7 +31,7 @@ returns-clause-early c doc k q h s fits early =
 pub returns-clause-there : goal.returns-clause-there
 returns-clause-there c doc k q h s fits le =
     let last = c.in_ok-last.last in
-    let stands = subst (LastStands doc q h) c.in_ok-last.was s.last in
+    let stands = subst (LastStands doc q h) c.in_ok-last.was s.parts.last in
     either (c.first_ready.ensures.there doc q h s)
     (λ given. inl (due_from doc k q h last stands ∙ kept_due last.at.0 (pass_period doc q h) last.period (local doc q.process k) stands.period fits
     ∙ le_true (last.at.0 + last.period) (local doc q.process k) (omega (arith, ap (λ at. at.0) given, le, fits, c.saturating_add.ensures))))
@@ -40,7 +40,7 @@ returns-clause-there c doc k q h s fits le =
 pub returns-clause-reading : goal.returns-clause-reading
 returns-clause-reading c doc q h s =
     let last = c.in_ok-last.last in
-    let stands = subst (LastStands doc q h) c.in_ok-last.was s.last in
+    let stands = subst (LastStands doc q h) c.in_ok-last.was s.parts.last in
     let exact = pass_period doc q h in
     let pass : pass_reading doc q h ≡ Some (last.at.0 + exact) = pass_is doc q h last stands in
     let given = kept_sum last.at.0 exact last.period c.saturating_add.result stands.period (omega (arith, c.saturating_add.ensures)) in

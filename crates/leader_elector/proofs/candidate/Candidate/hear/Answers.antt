@@ -3,15 +3,15 @@ use Rattle.std.specs.Prelude.{if◌then◌else◌}
 use Rattle.std.proofs.Common.{◌≡◌, ◌∙◌, ◌∷◌, None, true, false, sym, ap, subst, refl}
 use Rattle.kube_base.specs.declared.numbers.Local.{Local}
 use Rattle.kube_objects.specs.Elector.{Fails, Succeeds, leads}
-use Rattle.kube_objects.specs.Entry.{Delivers, Leads, Plain, Sends, entry}
+use Rattle.kube_objects.specs.Entry.{Delivers, Leads, Plain, entry}
 use Rattle.kube_objects.specs.Turns.{react, with_reply}
-use Rattle.kube_objects.specs.Wire.{next_call, send}
+use Rattle.kube_objects.specs.Wire.{send}
 use Rattle.kube_objects.proofs.OwnCalls.{call_in-with_reply}
 use Rattle.leader_elector.specs.Calls.{TakesReply}
 use Rattle.leader_elector.specs.Moves.{Asked, Received, reacted}
 use Rattle.leader_elector.specs.Plain.{moment_of}
 use Rattle.leader_elector.specs.Stands.{ElectorStands, follow_of}
-use Rattle.leader_elector.proofs.Own.{settled-own}
+use Rattle.leader_elector.proofs.Own.{asked-settled, settled-own}
 use Rattle.leader_elector.proofs.candidate.Candidate.hear.Goals as goal
 
 pub returns-in_default-clause-counts : goal.returns-in_default-clause-counts
@@ -37,17 +37,7 @@ returns-in-Asks-clause-counts c doc q h k call s waits_are now wall room is =
     let t = c.in-Some.ensures.counts doc q h k call s.elector s.leads waits_are now wall is in
     let asks : reacted doc k q call c.args.reply.now h ≡ send doc k 3 q Plain c.in-Asks.request g = ap (λ f. react doc k q (leads q h) f g) (sym t.0 ∙ ap follow_of c.in-Asks.is) in
     let a : Asked doc k 3 q g (reacted doc k q call c.args.reply.now h) (λ x. ElectorStands doc q x c.ask.new.self) c.ask.result = c.ask.ensures.history doc q g _ k 3 t.1 now room asks in
-    record {
-      kind = a.kind;
-      sent = a.sent;
-      number = a.number;
-      stands = λ arrives. record {
-        elector = a.stands arrives;
-        settled = settled-own q g k 3 (Sends (next_call q k a.kind c.ask.result.request g) arrives) (λ n. refl);
-        leads = s.leads;
-        unreleased = s.unreleased;
-      };
-    }
+    asked-settled a (λ sent arrives stands settled. record { elector = stands; settled = settled; leads = s.leads; unreleased = s.unreleased })
 
 pub returns-in-Succeeds-clause-counts : goal.returns-in-Succeeds-clause-counts
 returns-in-Succeeds-clause-counts c doc q h k call s waits_are now wall room is =

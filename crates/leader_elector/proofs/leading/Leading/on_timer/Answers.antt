@@ -1,17 +1,15 @@
-use Rattle.std.proofs.Common.{◌≡◌, ◌∙◌, ◌+◌, ◌<◌, ◌^◌, Some, nat_lt, sym, ap, subst, refl, true, false}
+use Rattle.std.proofs.Common.{◌≡◌, ◌∙◌, ◌+◌, ◌<◌, ◌^◌, Some, nat_lt, sym, ap, subst, true, false}
 use Rattle.std.specs.Prelude.{if◌then◌else◌}
 use Rattle.kube_objects.specs.Clocks.{local}
 use Rattle.kube_objects.specs.Elector.{deadline, leads}
-use Rattle.kube_objects.specs.Entry.{Sends}
 use Rattle.kube_objects.specs.Process.{begun, call_in}
 use Rattle.kube_objects.specs.Turns.{end_as, end_term, try, expired}
-use Rattle.kube_objects.specs.Wire.{next_call}
 use Rattle.kube_objects.proofs.OwnCalls.{begun-expiry}
 use Rattle.leader_elector.specs.Moves.{Asked}
 use Rattle.leader_elector.specs.Stands.{ElectorStands}
 use Rattle.leader_elector.proofs.Beginning.{before, reached}
 use Rattle.leader_elector.proofs.Expiry.{deadline-expiry, leads-expiry, unreleased-expiry}
-use Rattle.leader_elector.proofs.Own.{settled-own}
+use Rattle.leader_elector.proofs.Own.{asked-settled}
 use Rattle.leader_elector.proofs.leading.Leading.on_timer.Goals as goal
 
 pub returns-then-now-self-clause-turns : goal.returns-then-now-self-clause-turns
@@ -32,18 +30,13 @@ returns-in-Some-clause-turns c doc q h k s now wall room =
     let a : Asked doc k 4 q e (try doc k q e) (λ x. ElectorStands doc q x c.attempt.new.self) c.in-Some.ask =
     c.in-Some.ensures.history doc q e k (c.expire-expired.ensures.stands doc q h k s.elector s.leads tt now) led (c.expire-expired.ensures.fast doc q h k s.elector s.settled now) now wall room_now in (
       ap (λ x. end_term doc k q x e) at ∙ ap (λ b. (if b then e else end_as doc.settings.rules.release doc k q e)) early,
-      record {
-        kind = a.kind;
-        sent = a.sent;
-        number = a.number;
-        stands = λ arrives. record {
-          elector = a.stands arrives;
-          settled = settled-own q e k 4 (Sends (next_call q k a.kind c.in-Some.ask.request e) arrives) (λ n. refl);
-          leads = led;
-          deadline = sym at;
-          unreleased = unreleased-expiry doc k q h (call_in q h) s.unreleased;
-        };
-      },
+      asked-settled a (λ sent arrives stands settled. record {
+        elector = stands;
+        settled = settled;
+        leads = led;
+        deadline = sym at;
+        unreleased = unreleased-expiry doc k q h (call_in q h) s.unreleased;
+      }),
     )
 
 pub returns-in-None-clause-turns : goal.returns-in-None-clause-turns

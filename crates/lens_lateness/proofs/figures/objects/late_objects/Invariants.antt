@@ -6,4 +6,4 @@ use Rattle.lens_lateness.proofs.figures.objects.late_objects.Given as goal
 
 -- the objects so far and those of the rest
 abbrev pub invariant-loop-line : goal.invariant-loop-line
-invariant-loop-line l = map members_in l.objects.items ++ late_objects l.document (map seen (drop l.line-index l.lines)) ≡ late_objects l.document (map seen l.lines)
+invariant-loop-line l = map members_in l.objects.items ++ late_objects l.timing.document.now (map seen (drop l.line-index l.lines)) ≡ late_objects l.timing.document.now (map seen l.lines)

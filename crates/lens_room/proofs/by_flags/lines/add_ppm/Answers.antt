@@ -1,5 +1,5 @@
 use Rattle.std.proofs.Common.{◌≡◌, ◌++◌, codes, decimal}
-use Rattle.lens_room.proofs.Added.{added, where-ok}
+use Rattle.trace_writer.proofs.Added.{added, where-ok}
 use Rattle.lens_room.specs.FlagReplies.{ppm_text}
 use Rattle.lens_room.proofs.by_flags.lines.add_ppm.Goals as goal
 

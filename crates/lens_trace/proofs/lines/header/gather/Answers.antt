@@ -24,5 +24,5 @@ returns c =
     = gathered old three four (kind ∷ version ∷ millis ∷ []) (end ∷ []) to_three (c.in_ok-number-3.ensures ∙ ap (λ n. three ++ nat (codes "end") n ∷ []) c.from-2.ensures) in
     on_ok_weaker c.text-2.result
     (λ then. gathered old four (map named c.text-2.new.members.items) (kind ∷ version ∷ millis ∷ end ∷ []) (premise ∷ []) to_four
-    (then ∙ ap (λ t. four ++ text (codes "premise") t ∷ []) c.premise.ensures))
+    (then ∙ ap (λ t. four ++ text (codes "premise") t ∷ []) c.premise_word.ensures))
     c.text-2.ensures

@@ -1,8 +1,8 @@
-use Rattle.std.proofs.Common.{◌≡◌, ◌==◌, ℕ, true, [], ◌∷◌, ◌++◌, Some, None, cond, is_some, unwrap_or, ap, sym, ◌∙◌, refl, subst, rules}
+use Rattle.std.proofs.Common.{◌≡◌, true, [], ◌∷◌, ◌++◌, Some, None, is_some, ap, sym, ◌∙◌, subst, rules}
 use Rattle.taint_queue.specs.Placed.{beat_at, place, HasItsNode, IsKept}
 use Rattle.taint_queue.specs.Slots.{slots}
 use Rattle.taint_queue.specs.declared.waiting.Waiting.{Waiting}
-use Rattle.taint_queue.proofs.Places.{added_beat, added_kept, added_known, beat_stays, no_beat, no_place, placed_so, same_kept, same_known, some_place, unchanged_places, undone}
+use Rattle.taint_queue.proofs.Places.{beat_stays, entered, no_place, placed_so, same_kept, same_known, some_place, unchanged_places, undone}
 use Rattle.taint_queue.proofs.queue.Queue.want.Goals as goal
 
 pub returns-then-contains_key-clause-ok : goal.returns-then-contains_key-clause-ok
@@ -43,30 +43,20 @@ invariant_of-self-then-is_err c =
 pub invariant_of-self-else-is_err : goal.invariant_of-self-else-is_err
 invariant_of-self-else-is_err c =
     let q = c.args.self.now in
-    let P = place q.places in
-    let Q = place c.insert.new.self in
-    let node = c.args.node in
     let xs = slots q.tree in
-    let w : Waiting = record { at = c.args.at; node = node } in
-    let absent : P node ≡ None = no_place (P node) (sym c.contains_key.ensures ∙ c.if-contains_key.false) in
-    let add = subst (λ n. (k : ℕ) → Q k ≡ cond (node == k) (Some n) (P k)) c.len-slot.ensures (placed_so q.places c.insert.new.self node (Some c.len-slot.result) c.in_ok-insert.ensures.updates) in
+    let w : Waiting = record { at = c.args.at; node = c.args.node } in
     let longer : xs ++ w ∷ [] ≡ slots c.push.new.self = search rules in
+    let e = entered q.places c.insert.new.self xs w c.len-slot.result q.has_its_node q.is_kept (sym c.contains_key.ensures ∙ c.if-contains_key.false) c.len-slot.ensures c.in_ok-insert.ensures.updates in
     record {
-      has_its_node = subst (HasItsNode Q) longer (added_known P Q xs node w q.has_its_node q.is_kept absent refl add);
-      is_kept = subst (IsKept Q) longer (added_kept P Q xs node w q.has_its_node q.is_kept absent refl add);
+      has_its_node = subst (HasItsNode (place c.insert.new.self)) longer e.known;
+      is_kept = subst (IsKept (place c.insert.new.self)) longer e.kept;
     }
 
 pub returns-clause-ok : goal.returns-clause-ok
 returns-clause-ok c = λ other.
     let q = c.args.self.now in
-    let P = place q.places in
-    let Q = place c.insert.new.self in
-    let node = c.args.node in
     let xs = slots q.tree in
-    let w : Waiting = record { at = c.args.at; node = node } in
-    let absent : P node ≡ None = no_place (P node) (sym c.contains_key.ensures ∙ c.if-contains_key.false) in
-    let add = subst (λ n. (k : ℕ) → Q k ≡ cond (node == k) (Some n) (P k)) c.len-slot.ensures (placed_so q.places c.insert.new.self node (Some c.len-slot.result) c.in_ok-insert.ensures.updates) in
+    let w : Waiting = record { at = c.args.at; node = c.args.node } in
     let longer : slots c.push.new.self ≡ xs ++ w ∷ [] = search rules in
-    ap (λ ys. beat_at Q ys other) longer
-    ∙ added_beat P Q xs node w q.has_its_node q.is_kept absent refl add other
-    ∙ ap (λ o. cond (node == other) (Some (unwrap_or o c.args.at)) (beat_at P xs other)) (sym (no_beat P xs node absent))
+    let e = entered q.places c.insert.new.self xs w c.len-slot.result q.has_its_node q.is_kept (sym c.contains_key.ensures ∙ c.if-contains_key.false) c.len-slot.ensures c.in_ok-insert.ensures.updates in
+    ap (λ ys. beat_at (place c.insert.new.self) ys other) longer ∙ e.beat other

@@ -53,14 +53,14 @@ returns-then-has_new_taints-clause-counted g c q h g' s synced d =
 pub returns-then-has_new_taints-clause-uncounted : goal.returns-then-has_new_taints-clause-uncounted
 returns-then-has_new_taints-clause-uncounted g c q h s same =
     let key = node_key c.args.name in
-    let kept = ap (λ k. taints_in (kept_in c.args.self.now.cache k)) c.node_key.ensures ∙ ap taints_in (s.cache.objects key) in
+    let kept = ap (λ k. taints_in (kept_in c.args.self.now.cache k)) c.node.ensures ∙ ap taints_in (s.cache.objects key) in
     absurd (c.has_other_taints-has_new_taints.ensures.other c.if-has_new_taints.true (kept ∙ same ∙ sym c.as_slice-taints.ensures))
 
 -- they are as they were
 pub returns-clause-stands : goal.returns-clause-stands
 returns-clause-stands g c q h g' s synced d =
     let name = c.args.name in
-    let same = ap (λ k. taints_in (kept_in c.args.self.now.cache k)) (sym c.node_key.ensures) ∙ c.has_other_taints-has_new_taints.ensures.same c.if-has_new_taints.false ∙ c.as_slice-taints.ensures in
+    let same = ap (λ k. taints_in (kept_in c.args.self.now.cache k)) (sym c.node.ensures) ∙ c.has_other_taints-has_new_taints.ensures.same c.if-has_new_taints.false ∙ c.as_slice-taints.ensures in
     on_ok_weaker c.judge_node_alone.result
     (widen q g' (but_node name (λ n. name == n)) no_node no_pod no_pod c.judge_node_alone.new.self (λ n is. and_not (name == n)) (λ p is. is))
     (c.judge_node_alone.ensures.stands q g' (λ n. name == n) no_pod (c.in_ok-write_node.ensures.alone q h g' s d same) (d.synced ∙ synced))
@@ -76,7 +76,7 @@ pub returns-clause-sights : goal.returns-clause-sights
 returns-clause-sights g c doc q k h g' s synced d beneath there sighted =
     let old = c.args.self.now in
     let written = c.write_node.new.self in
-    let same = ap (λ k. taints_in (kept_in c.args.self.now.cache k)) (sym c.node_key.ensures) ∙ c.has_other_taints-has_new_taints.ensures.same c.if-has_new_taints.false ∙ c.as_slice-taints.ensures in
+    let same = ap (λ k. taints_in (kept_in c.args.self.now.cache k)) (sym c.node.ensures) ∙ c.has_other_taints-has_new_taints.ensures.same c.if-has_new_taints.false ∙ c.as_slice-taints.ensures in
     ok_always c.judge_node_alone.result _
     (sighted_still old.evict_from doc k q h g' old c.judge_node_alone.new.self refl beneath
     (retained_more old written c.judge_node_alone.new.self c.in_ok-write_node.ensures.retained c.judge_node_alone.ensures.retained)

@@ -13,7 +13,7 @@ returns-clause-stands c q h g s d =
     refused_judged q h g c.args.name (with_cache old cache) c.remove.new.self d
     (refused_aside q h g c.args.name old cache d s (record {
       kept = c.in_ok-set_stale.ensures.kept;
-      stale = λ key. c.in_ok-set_stale.ensures.stale key ∙ ap (λ n. key_eq n key || stale_in old.cache key) c.node_key.ensures;
+      stale = λ key. c.in_ok-set_stale.ensures.stale key ∙ ap (λ n. key_eq n key || stale_in old.cache key) c.node.ensures;
       synced = c.in_ok-set_stale.ensures.synced;
       position = c.in_ok-set_stale.ensures.position;
     }))

@@ -11,7 +11,7 @@ returns-clause-stands c q h g s d =
     let old = c.args.self.now in
     on_ok_weaker c.note_own.result
     (λ kept. noted_aside q h g c.args.name c.args.version c.args.written d old c.note_own.new.self s (record {
-      kept = λ key. kept key ∙ ap (λ n. cond (key_eq n key) (Some (c.args.version, object.Node c.args.written)) (kept_in old.cache key)) c.node_key.ensures;
+      kept = λ key. kept key ∙ ap (λ n. cond (key_eq n key) (Some (c.args.version, object.Node c.args.written)) (kept_in old.cache key)) c.node.ensures;
       stale = c.note_own.ensures.stale;
       synced = c.note_own.ensures.synced;
       position = c.note_own.ensures.position;
@@ -23,7 +23,7 @@ returns-clause-alone c q h g s d same =
     let old = c.args.self.now in
     on_ok_weaker c.note_own.result
     (λ kept. noted_alone q h g c.args.name c.args.version c.args.written d old c.note_own.new.self s (record {
-      kept = λ key. kept key ∙ ap (λ n. cond (key_eq n key) (Some (c.args.version, object.Node c.args.written)) (kept_in old.cache key)) c.node_key.ensures;
+      kept = λ key. kept key ∙ ap (λ n. cond (key_eq n key) (Some (c.args.version, object.Node c.args.written)) (kept_in old.cache key)) c.node.ensures;
       stale = c.note_own.ensures.stale;
       synced = c.note_own.ensures.synced;
       position = c.note_own.ensures.position;

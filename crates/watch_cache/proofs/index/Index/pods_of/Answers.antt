@@ -9,7 +9,8 @@ pub loop-pod-init : goal.loop-pod-init
 loop-pod-init g c =
     let n = c.args.node in
     let pods = c.args.self.now.pods.keys in
-    let between : c.range-pod-items.result ≡ filter (is_from (key_ord.cmp-value).it first_key n) pods = c.range-pod-items.ensures.between tt in
+    let between : c.range-pod-items.result ≡ filter (is_from (key_ord.cmp-value).it first_key n) pods =
+    c.range-pod-items.ensures.between tt ∙ ap (λ k. filter (is_from (key_ord.cmp-value).it k n) pods) c.node.ensures in
     let given : c.into_iter-pod-iterator.result ≡ c.range-pod-items.result = search rules in
     record {
       listed = ap (λ ks. ks ++ front_of n c.into_iter-pod-iterator.result) c.new-keys.ensures ∙ ap (front_of n) (given ∙ between ∙ ranged_is n pods);

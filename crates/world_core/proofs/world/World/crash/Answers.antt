@@ -10,28 +10,19 @@ use Rattle.world_process.specs.Processes.{incarnation_of}
 use Rattle.world_process.proofs.Processes.{process-me}
 use Rattle.world_core.proofs.Around.{around-world}
 use Rattle.world_core.proofs.Moving.{read-at, actor-is, on-ok, room-for}
-use Rattle.world_core.proofs.Noting.{crashed-kept, kept-after}
-use Rattle.world_core.proofs.MidBeat.{keeps-moved, one_process_moved}
-use Rattle.world_core.proofs.Turns.{same-twice}
+use Rattle.world_core.proofs.Noting.{crashed-kept, keeps-noted}
+use Rattle.world_core.proofs.MidBeat.{one_process_moved}
 use Rattle.world_core.proofs.Scripts.{around-crash, running-moved}
 use Rattle.world_core.proofs.world.World.crash.Goals as goal
 
 pub note-requires : goal.note-requires
-note-requires c =
-    let index : c.args.who.0 < vec_len c.args.self.now.processes = omega (arith, c.if-i-len.false, c.len.ensures) in
-    room-for c.args.self.now c.args.who.0 c.requires.running.ready index
+note-requires c = room-for c.args.self.now c.args.who.0 c.requires.running.ready (omega (arith, c.if-i-len.false, c.len.ensures))
 
 pub returns-clause-kept : goal.returns-clause-kept
 returns-clause-kept c =
-    let w = c.args.self.now in
-    let i = c.args.who.0 in
-    let x = c.index_mut-process.result.now in
-    let y = c.crash-crashed.new.self in
-    let z = c.note.new.process in
-    let index : i < vec_len w.processes = omega (arith, c.if-i-len.false, c.len.ensures) in
-    let was = read-at w i x index c.index_mut-process.ensures.value in
-    on-ok c.tell.result _ _ (λ told. keeps-moved i x z w _ c.requires.running.ready (one_process_moved was refl) refl (same-twice x y z c.crash-crashed.ensures.same c.note.ensures.same)
-    (kept-after x y z (c.requires.running.ready.kept i x was) c.crash-crashed.ensures.same c.crash-crashed.ensures.waking c.note.ensures.kept) (record { room = c.note.ensures.room; leaves = c.note.ensures.leaves })) c.tell.ensures
+    let was = read-at c.args.self.now c.args.who.0 c.index_mut-process.result.now (omega (arith, c.if-i-len.false, c.len.ensures)) c.index_mut-process.ensures.value in
+    on-ok c.tell.result _ _ (λ told. keeps-noted c.crash-crashed.ensures.same c.crash-crashed.ensures.waking c.note.ensures.same c.note.ensures.kept
+    (record { room = c.note.ensures.room; leaves = c.note.ensures.leaves }) c.requires.running.ready (one_process_moved was refl) refl) c.tell.ensures
 
 pub returns-clause-stands : goal.returns-clause-stands
 returns-clause-stands c =

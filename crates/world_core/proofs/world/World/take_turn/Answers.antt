@@ -9,9 +9,9 @@ use Rattle.world_process.specs.Plain.{IsFew}
 use Rattle.world_process.specs.Processes.{me_of}
 use Rattle.world_process.proofs.Processes.{process-me}
 use Rattle.world_core.proofs.Moving.{read-at, within-processes, actor-is, on-ok, sends-as, room-for}
-use Rattle.world_core.proofs.Noting.{kept-after}
-use Rattle.world_core.proofs.MidBeat.{keeps-moved, running-turned, one_process_moved}
-use Rattle.world_core.proofs.Turns.{awake-is, running-awake, running-paused, same-twice, turned-kept}
+use Rattle.world_core.proofs.Noting.{keeps-noted}
+use Rattle.world_core.proofs.MidBeat.{running-turned, one_process_moved}
+use Rattle.world_core.proofs.Turns.{awake-is, running-awake, running-paused, turned-kept}
 use Rattle.world_core.proofs.world.World.take_turn.Goals as goal
 
 pub note-requires : goal.note-requires
@@ -19,12 +19,9 @@ note-requires c = room-for c.args.self.now c.args.i c.requires.running.ready c.r
 
 pub returns-clause-kept : goal.returns-clause-kept
 returns-clause-kept c =
-    let w = c.args.self.now in
-    let x = c.index_mut-process.result.now in
-    let y = c.turn-turn.new.self in
-    let z = c.note.new.process in
-    let was = read-at w c.args.i x c.requires.index c.index_mut-process.ensures.value in
-    on-ok c.send_asked.result _ _ (λ sent. keeps-moved c.args.i x z w _ c.requires.running.ready (one_process_moved was refl) refl (same-twice x y z c.turn-turn.ensures.same c.note.ensures.same) (kept-after x y z (c.requires.running.ready.kept c.args.i x was) c.turn-turn.ensures.same c.turn-turn.ensures.waking c.note.ensures.kept) (record { room = c.note.ensures.room; leaves = c.note.ensures.leaves })) c.send_asked.ensures.sends
+    let was = read-at c.args.self.now c.args.i c.index_mut-process.result.now c.requires.index c.index_mut-process.ensures.value in
+    on-ok c.send_asked.result _ _ (λ sent. keeps-noted c.turn-turn.ensures.same c.turn-turn.ensures.waking c.note.ensures.same c.note.ensures.kept
+    (record { room = c.note.ensures.room; leaves = c.note.ensures.leaves }) c.requires.running.ready (one_process_moved was refl) refl) c.send_asked.ensures.sends
 
 pub returns-then-is_paused-clause-stands : goal.returns-then-is_paused-clause-stands
 returns-then-is_paused-clause-stands c doc k before arriving coming h r few =

@@ -5,11 +5,10 @@ use Rattle.kube_objects.specs.Stalls.{is_stalled}
 use Rattle.kube_objects.specs.Wire.{loses_requests}
 use Rattle.world_process.specs.Processes.{leads_now}
 use Rattle.world_process.proofs.Processes.{process-me}
-use Rattle.world_core.proofs.MidBeat.{keeps-moved, one_process_moved}
+use Rattle.world_core.proofs.MidBeat.{one_process_moved}
 use Rattle.world_core.proofs.Moving.{read-at, room-for, within-end, within-processes}
-use Rattle.world_core.proofs.Noting.{kept-after}
+use Rattle.world_core.proofs.Noting.{keeps-noted}
 use Rattle.world_core.proofs.Ticking.{can-tick, keeps-stored, running-stalled, running-ticked, running-unticked}
-use Rattle.world_core.proofs.Turns.{same-twice}
 use Rattle.world_core.proofs.world.World.tick.Goals as goal
 
 pub returns-then-is_none-clause-stands : goal.returns-then-is_none-clause-stands
@@ -39,13 +38,9 @@ note-requires g c = room-for c.args.self.now c.args.i c.requires.running.ready c
 pub returns-clause-kept : goal.returns-clause-kept
 returns-clause-kept g c =
     let w = c.args.self.now in
-    let i = c.args.i in
-    let x = c.index_mut-process.result.now in
-    let y = c.tick.new.self in
-    let z = c.note.new.process in
-    let was = read-at w i x c.requires.index c.index_mut-process.ensures.value in
-    keeps-stored w _ c.tick.new.store (λ ready. keeps-moved i x z _ _ ready (one_process_moved was refl) refl (same-twice x y z c.tick.ensures.same c.note.ensures.same)
-    (kept-after x y z (c.requires.running.ready.kept i x was) c.tick.ensures.same c.tick.ensures.waking c.note.ensures.kept) (record { room = c.note.ensures.room; leaves = c.note.ensures.leaves })) c.requires.running.ready
+    let was = read-at w c.args.i c.index_mut-process.result.now c.requires.index c.index_mut-process.ensures.value in
+    keeps-stored w _ c.tick.new.store (λ ready. keeps-noted c.tick.ensures.same c.tick.ensures.waking c.note.ensures.same c.note.ensures.kept
+    (record { room = c.note.ensures.room; leaves = c.note.ensures.leaves }) ready (one_process_moved was refl) refl) c.requires.running.ready
 
 pub returns-clause-stands : goal.returns-clause-stands
 returns-clause-stands g c doc k before arriving coming h r unticked timely few =

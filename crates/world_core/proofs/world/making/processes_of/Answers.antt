@@ -1,11 +1,12 @@
 use Rattle.std.proofs.Common.{◌≡◌, ◌+◌, ◌<◌, ◌++◌, true, false, [], length, slice_get, sym, ap, ◌∙◌, subst, arith}
 use Rattle.std.proofs.lemmas.Bool.{le-leb}
 use Rattle.std.proofs.lemmas.Option.{slice_get-get_or}
+use Rattle.kube_base.proofs.Lists.{every-end, get-front}
 use Rattle.kube_objects.specs.Document.{is_controller, waits_or}
 use Rattle.kube_objects.specs.Rules.{own_waits}
 use Rattle.world_process.specs.Processes.{IsKept, ProcessStands, clock_of}
 use Rattle.world_core.specs.Worlds.{AreKept, EachStands, GoOnTo}
-use Rattle.world_core.proofs.Lists.{every-end, length-end, slice_get-back, slice_get-front}
+use Rattle.world_core.proofs.Lists.{length-end, slice_get-back}
 use Rattle.world_core.proofs.Ranges.{not-below}
 use Rattle.world_core.proofs.world.making.processes_of.Goals as goal
 
@@ -31,7 +32,7 @@ loop-process-preserved c =
           let here = ap (λ ys. slice_get ys n) given ∙ ap (λ i. slice_get ps i) count ∙ slice_get-get_or ps c.loop-process.process-index _ within in
           subst (EachStands doc []) (sym c.in_ok-push.ensures.items)
           (every-end (λ i x. ProcessStands doc i [] x) xs new (inv.stands doc made)
-          (c.keep_turn_beat.ensures.stands doc n [] (c.in_ok-controller.ensures.stands doc n (record { me = place; settings = made.settings; process = slice_get-front doc.controllers doc.kubelets n _ here; events = made.events }) controls (sym (ap (waits_or own_waits) (ap (λ ws. slice_get ws n) made.waits ∙ ap (slice_get c.args.waits.now) (sym place) ∙ c.waits_at-own.ensures.found))))));
+          (c.keep_turn_beat.ensures.stands doc n [] (c.in_ok-controller.ensures.stands doc n (record { me = place; settings = made.settings; process = get-front doc.controllers doc.kubelets n _ here; events = made.events }) controls (sym (ap (waits_or own_waits) (ap (λ ws. slice_get ws n) made.waits ∙ ap (slice_get c.args.waits.now) (sym place) ∙ c.waits_at-own.ensures.found))))));
     }
 
 pub loop-process-2-preserved : goal.loop-process-2-preserved

@@ -29,7 +29,7 @@ returns-clause-stands c doc p made sort waits =
       up_first = ap (λ y. field (λ x. x.up) false y) (sym process);
       role = (refl, refl);
       term = subst (OwnsTerm doc p []) (sym c.in_ok-new.ensures.ok)
-          (record { settings = (c.new-term.ensures doc (identity p 0) [] refl refl (c.tick_settings.ensures.stands doc made.settings)).settings; each = λ i up. absurd (none_is i up) });
+          (record { settings = (c.new-term.ensures doc (identity p 0) [] refl refl (c.tick_settings.ensures.stands doc made.settings)).parts.settings; each = λ i up. absurd (none_is i up) });
       waking = c.new-2.ensures c.in_ok-clock.clock;
     }
 

@@ -1,6 +1,0 @@
-pub mod Traces
-pub mod Attempts
-pub mod Releases
-pub mod Stalls
-pub mod Judgements
-pub mod Evictions

@@ -1,5 +1,0 @@
-use Rattle.tick_examples.proofs.Failover as worked
-use Rattle.tick_examples.proofs.worked_failover.Goals as goal
-
-pub returns : goal.returns
-returns c = worked.dead_node_and_failover
