@@ -7,7 +7,7 @@ use serde_json::Value;
 use std::alloc::Global;
 
 /// The only controller of the documents that manifests are read in.
-const CONTROLLER: &str = "c1";
+const CONTROLLER: &[u8] = b"c1";
 
 /// Who the holder of the Lease is, if it is read.
 pub(crate) fn holder_in(alloc: Global, text: &str) -> Result<Option<String>, NoMemory> {

@@ -1,5 +1,6 @@
 // Values of one kind under namespaces and names.
-ghost use Rattle.std.specs.Prelude.{◌≡◌, ◌<◌, ◌≤◌, ◌==◌, ◌&&◌, ◌+◌, ◌*◌, ℕ, false, None, Some, length, IfSome, IfOk, OnOk, OnErr, option_copied, vec_len, if◌then◌else◌};
+ghost use Rattle.std.specs.Prelude.{◌≡◌, ◌<◌, ◌≤◌, ◌==◌, ◌&&◌, ◌+◌, ◌*◌, ℕ, false, None, Some, length, is_some, IfSome, IfOk, OnOk, OnErr, option_copied, vec_len, if◌then◌else◌};
+ghost use Rattle.std.specs.HashMap.{get};
 ghost use Rattle.key_map.specs.Rows.{own_row, place_in, place_of};
 
 use kube_base::NoMemory;
@@ -59,13 +60,13 @@ fn own_row<V>(places: &[Option<u32>], rows: &[Row<V>], space: u32, name: u32) ->
 }
 
 // How many places there are before there are values, and how many more each value allows.
-const FIRST_PLACES: usize = 4096;
+const FIRST_PLACES: usize = 16_384;
 
 const PLACES_A_VALUE: usize = 16;
 
 // Whether the places up to that of a name are too many beside so many values.
 fn is_far(name: u32, values: usize) -> bool
-    ensures { result ≡ false → name ≤ 4096 + values * 16 }
+    ensures { result ≡ false → name ≤ 16384 + values * 16 }
 {
     name as usize
         > values
@@ -137,6 +138,13 @@ impl<V: Drop> Shelf<V> {
         }
     }
 
+    // Whether a value is found by hash. Mostly none is.
+    fn is_aside(&self, place: u64) -> bool
+        ensures { result ≡ is_some (get ◌==◌ self.now.others place) }
+    {
+        !self.others.is_empty() && self.others.contains_key(&place)
+    }
+
     // The same, where the name has no row for this namespace.
     fn insert_anew(&mut self, space: u32, name: u32, value: V) -> Result<Option<V>, NoMemory>
         requires { own_row self.old.places.items self.old.rows.items space name ≡ None }
@@ -148,10 +156,7 @@ impl<V: Drop> Shelf<V> {
     {
         let place = place_of(space, name);
         let values = self.rows.len().saturating_add(self.others.len());
-        if place_in(&self.places, name).is_some()
-            || self.others.contains_key(&place)
-            || is_far(name, values)
-        {
+        if place_in(&self.places, name).is_some() || self.is_aside(place) || is_far(name, values) {
             return Ok(self.others.insert(place, value)?);
         }
         self.give_row(space, name, value)?;

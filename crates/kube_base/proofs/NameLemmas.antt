@@ -1,6 +1,6 @@
 -- Names as a list of texts, and as what an index set keeps of them.
-use Rattle.std.proofs.Common.{◌≡◌, ℕ, zero, suc, ◌+◌, ◌-◌, ◌^◌, ◌<◌, ◌≤◌, Bool, true, false, not, cond, ◌&&◌, ◌||◌, List, [], ◌∷◌, ◌++◌, Some, None, map, length, position, nat_lt, slice_get, codes, refl, sym, ap, subst, ◌∙◌, arith, length-append, length-take}
-use Rattle.std.proofs.lemmas.List.{map-append, length-map, take-append-le}
+use Rattle.std.proofs.Common.{◌≡◌, ℕ, zero, suc, ◌+◌, ◌-◌, ◌^◌, ◌<◌, ◌≤◌, Bool, true, false, not, cond, ◌&&◌, ◌||◌, List, [], ◌∷◌, ◌++◌, Some, None, length, position, nat_lt, slice_get, codes, refl, sym, ap, subst, ◌∙◌, arith, length-append, length-take}
+use Rattle.std.proofs.lemmas.List.{take-append-le}
 use Rattle.std.proofs.lemmas.List.Folds.{list_all-append}
 use Rattle.std.proofs.lemmas.List.Sums.{prefix_len-le-length}
 use Rattle.std.proofs.lemmas.Bool.Decides.{Decides-ltb}
@@ -9,67 +9,54 @@ use Rattle.std.proofs.lemmas.Str.{IsUtf8-from_is_utf8, is_utf8-from_IsUtf8}
 use Rattle.std.specs.List.{AllByRecursion, IsDistinct, list_any, list_all, position_or_len}
 use Rattle.std.specs.Str.{IsUtf8, is_utf8, chars, bytes_eq}
 use Rattle.indexmap.specs.IndexSet.{insert_key}
-use Rattle.kube_base.specs.Names.{fixed_names, number_of, number_in, with_name, AreNames, EachOnce}
+use Rattle.kube_base.specs.Names.{fixed_names, number_of, number_in, with_name, AreNames}
 
-module _ {A : Type 0} (f : A → List ℕ) where
-  pub position_or_len-map : (p : List ℕ → Bool) (ks : List A) → position_or_len p (map f ks) ≡ position_or_len (λ k. p (f k)) ks
-  position_or_len-map p [] = refl
-  position_or_len-map p (k ∷ ks) = ap (λ n. cond (not (p (f k))) (1 + n) 0) (position_or_len-map p ks)
+pub number_in-is : (names : List (List ℕ)) (text : List ℕ) → number_in names text ≡ position_or_len (bytes_eq text) names
+unfolding number_in
+number_in-is names text = refl
 
-  pub list_any-map : (p : List ℕ → Bool) (ks : List A) → list_any p (map f ks) ≡ list_any (λ k. p (f k)) ks
-  list_any-map p [] = refl
-  list_any-map p (k ∷ ks) = ap (λ b. p (f k) || b) (list_any-map p ks)
+pub number_of-is : (names : List (List ℕ)) (text : List ℕ) → number_of names text ≡ position (bytes_eq text) names
+unfolding number_of
+number_of-is names text = refl
 
-  pub number_in-map : (ks : List A) (text : List ℕ) → number_in (map f ks) text ≡ position_or_len (λ k. bytes_eq text (f k)) ks
-  unfolding number_in
-  number_in-map ks text = position_or_len-map (bytes_eq text) ks
+pub with_name-is : (names : List (List ℕ)) (text : List ℕ) → with_name names text ≡ insert_key bytes_eq names text
+unfolding with_name
+with_name-is names text = refl
 
-  pub number_of-map : (ks : List A) (text : List ℕ) → number_of (map f ks) text ≡ position (λ k. bytes_eq text (f k)) ks
-  unfolding number_of
-  number_of-map ks text = rw (position_or_len-map (bytes_eq text) ks, length-map ks f)
+held_at : (P : List ℕ → Type 0) (names : List (List ℕ)) (i : ℕ) (text : List ℕ) → AllByRecursion P names → slice_get names i ≡ Some text → P text
+held_at P [] i text all e = absurd cc
+held_at P (n ∷ ns) zero text all e = let same : n ≡ text = cc in subst P same all.0
+held_at P (n ∷ ns) (suc i) text all e = held_at P ns i text all.1 e
 
-  pub with_name-map : (ks : List A) (k : A) → with_name (map f ks) (f k) ≡ map f (insert_key (λ a b. bytes_eq (f a) (f b)) ks k)
-  unfolding with_name
-  with_name-map ks k = rw (list_any-map (bytes_eq (f k)) ks) (by (list_any (λ b. bytes_eq (f k) (f b)) ks))
-    where
-      by : (b : Bool) → cond b (map f ks) (map f ks ++ f k ∷ []) ≡ map f (cond b ks (ks ++ k ∷ []))
-      by true = refl
-      by false = sym (map-append f ks (k ∷ []))
+place : (names : List (List ℕ)) (i : ℕ) (text : List ℕ) → IsDistinct bytes_eq names → slice_get names i ≡ Some text → (position_or_len (bytes_eq text) names ≡ i) × (i < length names)
+unfolding IsDistinct
+place [] i text d e = absurd cc
+place (n ∷ ns) zero text d e =
+    let same : text ≡ n = cc in
+    let hit : bytes_eq text n ≡ true = (bytes_eq-Decides text n).1 same in
+    (ap (λ b. cond (not b) (1 + position_or_len (bytes_eq text) ns) 0) hit, omega arith)
+place (n ∷ ns) (suc i) text d e =
+    let rest = place ns i text d.1 e in
+    let other : bytes_eq n text ≡ false = held_at (λ b. bytes_eq n b ≡ false) ns i text d.0 e in
+    let miss : bytes_eq text n ≡ false = by (bytes_eq text n) refl other in
+    (ap (λ b. cond (not b) (1 + position_or_len (bytes_eq text) ns) 0) miss ∙ ap (λ m. 1 + m) rest.0 ∙ omega arith, omega (arith, rest.1))
+  where
+    by : (b : Bool) → bytes_eq text n ≡ b → bytes_eq n text ≡ false → bytes_eq text n ≡ false
+    by false e2 h = e2
+    by true e2 h =
+        let is : text ≡ n = (bytes_eq-Decides text n).0 e2 in
+        let hit : bytes_eq n text ≡ true = (bytes_eq-Decides n text).1 (sym is) in
+        absurd (let no : true ≡ false = sym hit ∙ h in cc)
 
-  held_at : (P : A → Type 0) (ks : List A) (i : ℕ) (text : List ℕ) → AllByRecursion P ks → slice_get (map f ks) i ≡ Some text → (k : A) × P k × (f k ≡ text)
-  held_at P [] i text all e = absurd cc
-  held_at P (k ∷ ks) zero text all e = (k, all.0, cc)
-  held_at P (k ∷ ks) (suc i) text all e = held_at P ks i text all.1 e
-
-  place : (ks : List A) (i : ℕ) (text : List ℕ) → IsDistinct (λ a b. bytes_eq (f a) (f b)) ks → slice_get (map f ks) i ≡ Some text → (position_or_len (bytes_eq text) (map f ks) ≡ i) × (i < length (map f ks))
-  unfolding IsDistinct
-  place [] i text d e = absurd cc
-  place (k ∷ ks) zero text d e =
-      let same : text ≡ f k = cc in
-      let hit : bytes_eq text (f k) ≡ true = (bytes_eq-Decides text (f k)).1 same in
-      (ap (λ b. cond (not b) (1 + position_or_len (bytes_eq text) (map f ks)) 0) hit, omega arith)
-  place (k ∷ ks) (suc i) text d e =
-      let rest = place ks i text d.1 e in
-      let other = held_at (λ b. bytes_eq (f k) (f b) ≡ false) ks i text d.0 e in
-      let miss : bytes_eq text (f k) ≡ false = by (bytes_eq text (f k)) refl other.0 other.1 other.2 in
-      (ap (λ b. cond (not b) (1 + position_or_len (bytes_eq text) (map f ks)) 0) miss ∙ ap (λ n. 1 + n) rest.0 ∙ omega arith, omega (arith, rest.1))
-    where
-      by : (b : Bool) → bytes_eq text (f k) ≡ b → (other : A) → bytes_eq (f k) (f other) ≡ false → f other ≡ text → bytes_eq text (f k) ≡ false
-      by false e2 other h same = e2
-      by true e2 other h same =
-          let is : text ≡ f k = (bytes_eq-Decides text (f k)).0 e2 in
-          let hit : bytes_eq (f k) (f other) ≡ true = (bytes_eq-Decides (f k) (f other)).1 (sym is ∙ sym same) in
-          absurd (let no : true ≡ false = sym hit ∙ h in cc)
-
-  -- keys that differ are each found at their own place
-  pub EachOnce-map : (ks : List A) → IsDistinct (λ a b. bytes_eq (f a) (f b)) ks → EachOnce (map f ks)
-  unfolding number_of
-  EachOnce-map ks d i text e =
-      let at = place ks i text d e in
-      found (position_or_len (bytes_eq text) (map f ks)) at.0 at.1
-    where
-      found : (n : ℕ) → n ≡ i → i < length (map f ks) → cond (nat_lt n (length (map f ks))) (Some n) None ≡ Some i
-      found n same lt = rw same (ap (λ b. cond b (Some i) None) ((Decides-ltb _ _).1 lt))
+-- texts that differ are each found at their own place
+pub number_of-held : (names : List (List ℕ)) (i : ℕ) (text : List ℕ) → IsDistinct bytes_eq names → slice_get names i ≡ Some text → number_of names text ≡ Some i
+unfolding number_of
+number_of-held names i text d e =
+    let at = place names i text d e in
+    found (position_or_len (bytes_eq text) names) at.0 at.1
+  where
+    found : (n : ℕ) → n ≡ i → i < length names → cond (nat_lt n (length names)) (Some n) None ≡ Some i
+    found n same lt = rw same (ap (λ b. cond b (Some i) None) ((Decides-ltb _ _).1 lt))
 
 found_place : (p : List ℕ → Bool) (xs : List (List ℕ)) (i : ℕ) → position p xs ≡ Some i → (position_or_len p xs ≡ i) × (position_or_len p xs < length xs)
 found_place p xs i e = by (nat_lt (position_or_len p xs) (length xs)) refl e

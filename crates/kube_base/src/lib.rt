@@ -10,6 +10,7 @@ mod names;
 mod numbers;
 mod shared_list;
 mod steps;
+mod text;
 mod times;
 
 pub use fixed::{

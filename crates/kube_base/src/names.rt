@@ -1,8 +1,9 @@
 // Numbers for names.
-ghost use Rattle.std.specs.Prelude.{◌≡◌, ◌<◌, ◌-◌, ◌^◌, length, map, slice_get, option_copied, string_bytes, IfOk, IfSome, OnOk, OnErr};
+ghost use Rattle.std.specs.Prelude.{◌≡◌, ◌<◌, ◌-◌, ◌^◌, ◌++◌, Some, length, slice_get, option_copied, IfOk, IfSome, OnOk, OnErr};
 ghost use Rattle.std.specs.Str.{IsUtf8};
 ghost use Rattle.kube_base.specs.Names.{fixed_names, number_of, number_in, with_name, AreNames, EachOnce};
 
+use crate::text::{Sought, Text};
 use crate::{NameHash, NoMemory};
 use indexmap::IndexSet;
 use std::alloc::{AllocFailed, Global};
@@ -14,18 +15,20 @@ use std::marker::Model;
 #[derive(Drop)]
 pub struct Names {
     alloc: Global,
-    texts: IndexSet<String, NameHash>,
+    texts: IndexSet<Text, NameHash>,
+    /// The number that was found last. Lists mostly have their names in one order, so the one behind it is compared first.
+    last: u32,
 }
 
 impl Model for Names {
-    ghost use Rattle.std.specs.Prelude.{ℕ, List, map, string_bytes};
+    ghost use Rattle.std.specs.Prelude.{ℕ, List};
     ghost use Rattle.kube_base.specs.Names.{AreNames};
 
     ghost Value = { List (List ℕ) };
 
-    ghost view = { λ n. map string_bytes n.texts.keys };
+    ghost view = { λ n. n.texts.keys };
 
-    ghost invariant = { λ n. AreNames (map string_bytes n.texts.keys) };
+    ghost invariant = { λ n. AreNames n.texts.keys };
 }
 
 impl Names {
@@ -41,17 +44,21 @@ impl Names {
         ensures { IfOk result (λ names. names ≡ fixed_names) }
     {
         let mut texts = IndexSet::with_hasher(alloc, hash);
-        add(alloc, &mut texts, "")?;
-        add(alloc, &mut texts, "KubeletReady")?;
-        add(alloc, &mut texts, "KubeletNotReady")?;
-        add(alloc, &mut texts, "NodeStatusUnknown")?;
-        add(alloc, &mut texts, "NodeStatusNeverUpdated")?;
-        add(alloc, &mut texts, "node.kubernetes.io/not-ready")?;
-        add(alloc, &mut texts, "node.kubernetes.io/unreachable")?;
-        add(alloc, &mut texts, "kube-system")?;
-        add(alloc, &mut texts, "kube-controller-manager")?;
-        add(alloc, &mut texts, "kube-node-lease")?;
-        Ok(Names { alloc, texts })
+        add(alloc, &mut texts, b"")?;
+        add(alloc, &mut texts, b"KubeletReady")?;
+        add(alloc, &mut texts, b"KubeletNotReady")?;
+        add(alloc, &mut texts, b"NodeStatusUnknown")?;
+        add(alloc, &mut texts, b"NodeStatusNeverUpdated")?;
+        add(alloc, &mut texts, b"node.kubernetes.io/not-ready")?;
+        add(alloc, &mut texts, b"node.kubernetes.io/unreachable")?;
+        add(alloc, &mut texts, b"kube-system")?;
+        add(alloc, &mut texts, b"kube-controller-manager")?;
+        add(alloc, &mut texts, b"kube-node-lease")?;
+        Ok(Names {
+            alloc,
+            texts,
+            last: 0,
+        })
     }
 
     /// How many names are held.
@@ -64,26 +71,30 @@ impl Names {
     }
 
     /// The number of the name. A new name gets the next number.
-    pub fn number(&mut self, text: &str) -> Result<u32, NoMemory>
+    pub fn number(&mut self, bytes: &[u8]) -> Result<u32, NoMemory>
         requires few { length self.old < 2 ^ 32 - 1 }
-        ensures number { IfOk result (λ number. number ≡ number_in self.old text.now) }
-        ensures held { OnOk result (self.new ≡ with_name self.old text.now) }
+        requires text { IsUtf8 bytes.now }
+        ensures number { IfOk result (λ number. number ≡ number_in self.old bytes.now) }
+        ensures held { OnOk result (self.new ≡ with_name self.old bytes.now) }
         ensures err { OnErr result (self.new ≡ self.old) }
     {
-        if let Some(index) = self.texts.get_index_of(text) {
-            return Ok(index as u32);
+        if let Some(number) = self.find(bytes) {
+            self.last = number;
+            return Ok(number);
         }
-        let index = add(self.alloc, &mut self.texts, text)?;
+        let index = add(self.alloc, &mut self.texts, bytes)?;
         Ok(index as u32)
     }
 
-    /// The same of a name that is handed over: a new one is kept as it is, with no copy.
-    pub fn number_given(&mut self, text: String) -> Result<u32, NoMemory>
+    /// The same of the name that both make together. It's for a new one, which is looked for and kept in one step.
+    pub fn number_joined(&mut self, front: &[u8], back: &[u8]) -> Result<u32, NoMemory>
         requires few { length self.old < 2 ^ 32 - 1 }
-        ensures number { IfOk result (λ number. number ≡ number_in self.old (string_bytes text)) }
-        ensures held { OnOk result (self.new ≡ with_name self.old (string_bytes text)) }
+        requires text { IsUtf8 (front.now ++ back.now) }
+        ensures number { IfOk result (λ number. number ≡ number_in self.old (front.now ++ back.now)) }
+        ensures held { OnOk result (self.new ≡ with_name self.old (front.now ++ back.now)) }
         ensures err { OnErr result (self.new ≡ self.old) }
     {
+        let text = Text::joined(self.alloc, front, back)?;
         let (index, _) = self.texts.insert_full(text)?;
         Ok(index as u32)
     }
@@ -100,13 +111,28 @@ impl Names {
     pub fn find(&self, bytes: &[u8]) -> Option<u32>
         ensures { result ≡ number_of self.now bytes.now }
     {
-        let texts = &self.texts;
-        let Ok(text) = str::from_utf8(bytes) else {
-            return None;
-        };
-        match texts.get_index_of(text) {
+        if let Some(number) = self.behind_last(bytes) {
+            return Some(number);
+        }
+        match self.texts.get_index_of(Sought { bytes }) {
             Some(index) => Some(index as u32),
             None => None,
+        }
+    }
+
+    /// The number behind the last one, if the text is its name.
+    fn behind_last(&self, bytes: &[u8]) -> Option<u32>
+        ensures { IfSome result (λ number. number_of self.now bytes.now ≡ Some number) }
+    {
+        let next = self.last as usize + 1;
+        if next >= self.len() {
+            return None;
+        }
+        let text = self.texts.get_index(next)?;
+        if text.bytes() == bytes {
+            Some(next as u32)
+        } else {
+            None
         }
     }
 
@@ -116,19 +142,19 @@ impl Names {
         ensures utf8 { IfSome result (λ bytes. IsUtf8 bytes.now) }
     {
         match self.texts.get_index(number as usize) {
-            Some(text) => Some(text.as_bytes()),
+            Some(text) => Some(text.bytes()),
             None => None,
         }
     }
 }
 
 /// Adds a text, and tells its place.
-fn add(alloc: Global, texts: &mut IndexSet<String, NameHash>, text: &str) -> Result<usize, NoMemory>
-    ensures place { IfOk result (λ place. place ≡ number_in (map string_bytes texts.old.keys) text.now) }
-    ensures held { OnOk result (map string_bytes texts.new.keys ≡ with_name (map string_bytes texts.old.keys) text.now) }
-    ensures err { OnErr result (map string_bytes texts.new.keys ≡ map string_bytes texts.old.keys) }
+fn add(alloc: Global, texts: &mut IndexSet<Text, NameHash>, text: &[u8]) -> Result<usize, NoMemory>
+    ensures place { IfOk result (λ place. place ≡ number_in texts.old.keys text.now) }
+    ensures held { OnOk result (texts.new.keys ≡ with_name texts.old.keys text.now) }
+    ensures err { OnErr result (texts.new.keys ≡ texts.old.keys) }
 {
-    let owned = String::from_str(alloc, text)?;
+    let owned = Text::joined(alloc, text, b"")?;
     let (index, _) = texts.insert_full(owned)?;
     Ok(index)
 }
@@ -144,16 +170,27 @@ mod tests {
             .ok()
             .ok_or("memory")?;
         assert_eq!(rt; names.len(), 10);
-        for (text, wanted) in [("n1", 10), ("n1", 10), ("", 0), ("kube-system", 7)] {
-            assert!(rt; names.len() < 12);
-            let number = names.number(text).ok().ok_or("memory")?;
+        for (text, wanted) in [
+            ("n1", 10),
+            ("n2", 11),
+            ("n1", 10),
+            ("n2", 11),
+            ("a-text-of-more-than-24-bytes", 12),
+            ("", 0),
+            ("kube-system", 7),
+        ] {
+            assert!(rt; names.len() < 14);
+            let number = names.number(text.as_bytes()).ok().ok_or("memory")?;
             assert_eq!(rt; number, wanted, "{text}");
         }
+        assert!(rt; names.len() < 14);
+        let joined = names.number_joined(b"a-text-of-more", b"-than-24-bytes");
+        assert_eq!(rt; joined, Ok(12));
         assert_eq!(rt; names.find(b"n1"), Some(10));
         assert_eq!(rt; names.find(b""), Some(0));
-        assert_eq!(rt; names.find(b"n2"), None);
+        assert_eq!(rt; names.find(b"n3"), None);
         assert_eq!(rt; names.bytes(9), Some(b"kube-node-lease".as_slice()));
-        assert_eq!(rt; names.bytes(11), None);
+        assert_eq!(rt; names.bytes(13), None);
         Ok(())
     }
 }

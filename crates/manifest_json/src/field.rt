@@ -1,5 +1,5 @@
 // Fields of a manifest's objects. A null counts as a missing key.
-ghost use Rattle.std.specs.Prelude.{◌≡◌, ◌++◌, option_and_then, string_bytes};
+ghost use Rattle.std.specs.Prelude.{◌≡◌, ◌++◌, option_and_then};
 ghost use Rattle.std.specs.Option.{option_map};
 ghost use Rattle.serde_json.specs.View.{view, items_view};
 ghost use Rattle.manifest_json.specs.Faults.{Gives};
@@ -190,22 +190,22 @@ pub fn number(names: &mut Names, text: &str) -> Result<u32, ReadFault>
     if names.len() >= u32::MAX as usize {
         return Err(ReadFault::NoMemory);
     }
-    match names.number(text) {
+    match names.number(text.as_bytes()) {
         Ok(number) => Ok(number),
         Err(_) => Err(ReadFault::NoMemory),
     }
 }
 
-/// The same of a text that is handed over.
+/// The same of the text that both make together, which is likely new.
 #[tactic(auto, unfolding(crate::specs::Fields::numbered))]
-pub fn number_given(names: &mut Names, text: String) -> Result<u32, ReadFault>
-    ensures gives { Gives (λ n. (n, names.new)) result (spec.numbered names.old (string_bytes text)) }
+pub fn number_joined(names: &mut Names, front: &str, back: &str) -> Result<u32, ReadFault>
+    ensures gives { Gives (λ n. (n, names.new)) result (spec.numbered names.old (front.now ++ back.now)) }
     ensures names { AreKept names.old names.new }
 {
     if names.len() >= u32::MAX as usize {
         return Err(ReadFault::NoMemory);
     }
-    match names.number_given(text) {
+    match names.number_joined(front.as_bytes(), back.as_bytes()) {
         Ok(number) => Ok(number),
         Err(_) => Err(ReadFault::NoMemory),
     }

@@ -16,7 +16,7 @@ mod scale;
 mod write;
 
 pub use fault::{Path, ReadFault, Refusal, fault_below};
-pub use field::{number, number_given};
+pub use field::{number, number_joined};
 pub use grammar::is_name;
 pub use kept::Kept;
 pub use list::{Listed, Objects, read_kept, read_list};

@@ -6,7 +6,7 @@ ghost use Rattle.kube_objects.specs.declared.node.Taint.{Taint};
 ghost use Rattle.pod_tools.specs.ByKey as spec;
 
 use kube_base::NoMemory;
-use kube_objects::{Taint, Toleration, TolerationList};
+use kube_objects::{Taint, Toleration, TolerationList, Tolerations};
 use std::alloc::Global;
 use taint_match::tolerates;
 
@@ -84,14 +84,14 @@ fn slot_of(mix: u64, key: u32) -> usize
 /// All tolerations of a pod, and the same by their keys.
 #[derive(Drop)]
 pub(crate) struct ByKey {
-    pub(crate) all: TolerationList,
+    pub(crate) all: Tolerations,
     slots: Slots,
     ghost right: { spec.IsRight all slots },
 }
 
 impl ByKey {
     /// These tolerations.
-    pub(crate) fn new(alloc: Global, mix: u64, all: TolerationList) -> Result<ByKey, NoMemory>
+    pub(crate) fn new(alloc: Global, mix: u64, all: Tolerations) -> Result<ByKey, NoMemory>
         ensures { IfOk result (λ by_key. by_key.all ≡ all) }
     {
         let slots = in_slots(alloc, mix, all.as_slice())?;

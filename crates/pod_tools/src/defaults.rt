@@ -8,13 +8,13 @@ use kube_objects::{Effect, Operator, Toleration, TolerationList, Tolerations};
 
 /// The tolerations with the defaults at their end: five minutes for NoExecute taints with the key `node.kubernetes.io/not-ready`,
 /// then `node.kubernetes.io/unreachable`, each unless a given toleration for that effect has that key or an empty one.
-pub fn defaulted(tolerations: &Tolerations) -> Result<TolerationList, NoMemory>
+pub fn defaulted(tolerations: &Tolerations) -> Result<Tolerations, NoMemory>
     ensures { IfOk result (λ all. all ≡ spec.defaulted tolerations.now) }
 {
     let mut all = tolerations.to_list()?;
     add_default(&mut all, NOT_READY, tolerations.as_slice())?;
     add_default(&mut all, UNREACHABLE, tolerations.as_slice())?;
-    Ok(all)
+    Tolerations::of(all)
 }
 
 fn add_default(all: &mut TolerationList, key: u32, given: &[Toleration]) -> Result<(), NoMemory>

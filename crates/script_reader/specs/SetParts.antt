@@ -1,5 +1,5 @@
 -- Sets of pods and listed objects as the code keeps them.
-use Rattle.std.specs.Prelude.{◌≡◌, ◌<◌, ◌^◌, string_bytes}
+use Rattle.std.specs.Prelude.{◌≡◌, ◌<◌, ◌^◌, ◌++◌, codes, string_bytes}
 use Rattle.manifest_json.specs.declared.list.Listed.{Listed}
 use Rattle.manifest_json.specs.declared.list.Objects.{Objects}
 use Rattle.script_reader.specs.declared.sets.Pattern.{Pattern}
@@ -8,6 +8,10 @@ use Rattle.script_reader.specs.Sets.{Alike, pods_of}
 
 abbrev pub alike : Pattern → Alike
 alike p = record { space = p.space; name = string_bytes p.name; tolerations = p.tolerations }
+
+-- the stem is what the name of each pod begins with
+abbrev pub HasStem : Pattern → Type 0
+HasStem p = string_bytes p.stem ≡ string_bytes p.name ++ codes "-"
 
 -- the sum is that of the members, and far below what its type holds
 pub record AreCounted (s : Shares) : Type 0 where

@@ -6,7 +6,7 @@ ghost use Rattle.manifest_json.specs.Kept.{Stands};
 ghost use Rattle.manifest_json.specs.Walk.{member_path};
 ghost use Rattle.script_reader.specs.Fields as fields;
 ghost use Rattle.script_reader.specs.Sets as spec;
-ghost use Rattle.script_reader.specs.SetParts.{AreCounted, alike};
+ghost use Rattle.script_reader.specs.SetParts.{AreCounted, HasStem, alike};
 
 use crate::field::{
     array_in, fault_under, member_of, namespace_at, needed_name, needed_whole, not_empty,
@@ -19,7 +19,7 @@ use kube_base::{ListOf, Names, NoMemory};
 use kube_objects::{Key, Kind, NumberList, Object, Pod, Tolerations};
 use manifest_json::codes::{MISSING_KEY, OUT_OF_RANGE, TOO_MANY, WRONG_TYPE};
 use manifest_json::fault::fault;
-use manifest_json::{Kept, Path, ReadFault, is_name, number, number_given, read_tolerations};
+use manifest_json::{Kept, Path, ReadFault, is_name, number, number_joined, read_tolerations};
 use serde_json::Value;
 use std::alloc::Global;
 
@@ -38,6 +38,8 @@ pub(crate) struct Shares {
 pub(crate) struct Pattern {
     space: u32,
     name: String,
+    /// The name, and `-` behind it.
+    stem: String,
     tolerations: Tolerations,
 }
 
@@ -152,10 +154,11 @@ fn set_at(
     let pattern = Pattern {
         space,
         name: text_of(alloc, name)?,
+        stem: stem_of(alloc, name)?,
         tolerations,
     };
     let nodes = nodes_of(alloc, on.list.as_slice())?;
-    pods_onto(alloc, names, kept, path, &pattern, nodes.as_slice())
+    pods_onto(names, kept, path, &pattern, nodes.as_slice())
 }
 
 /// A name that is short enough for a number behind it.
@@ -324,21 +327,21 @@ fn add_nodes(nodes: &mut NumberList, node: u32, pods: u32) -> Result<(), NoMemor
 
 /// Adds the pods of a set on these nodes.
 fn pods_onto(
-    alloc: Global,
     names: &mut Names,
     kept: &mut Kept,
     path: &Path,
     pattern: &Pattern,
     nodes: &[u32],
 ) -> Result<(), ReadFault>
-    requires { Stands kept.old }
+    requires stands { Stands kept.old }
+    requires stem { HasStem pattern.now }
     ensures gives { Gives (λ _. (kept.new.items, names.new)) result
         (spec.pods_onto kept.old.scale names.old path.now (alike pattern.now) 0 kept.old.items nodes.now) }
     ensures stands { OnOk result (Stands kept.new) }
     ensures scale { kept.new.scale ≡ kept.old.scale }
 {
     for (j, node) in nodes.iter().enumerate() {
-        match pod_onto(alloc, names, kept, path, pattern, j, *node) {
+        match pod_onto(names, kept, path, pattern, j, *node) {
             Ok(()) => {}
             Err(fault) => return Err(fault),
         }
@@ -349,7 +352,6 @@ fn pods_onto(
 /// Adds the J-th pod of a set.
 #[tactic(auto, unfolding(crate::specs::Sets::pod_onto))]
 fn pod_onto(
-    alloc: Global,
     names: &mut Names,
     kept: &mut Kept,
     path: &Path,
@@ -357,14 +359,15 @@ fn pod_onto(
     j: usize,
     node: u32,
 ) -> Result<(), ReadFault>
-    requires { Stands kept.old }
+    requires stands { Stands kept.old }
+    requires stem { HasStem pattern.now }
     ensures gives { Gives (λ _. (kept.new.items, names.new)) result
         (spec.pod_onto kept.old.scale names.old path.now (alike pattern.now) j kept.old.items node) }
     ensures stands { OnOk result (Stands kept.new) }
     ensures scale { kept.new.scale ≡ kept.old.scale }
 {
-    let text = pod_name(alloc, pattern.name.as_str(), j)?;
-    let name = number_given(names, text)?;
+    let mut digits = Buffer::new();
+    let name = number_joined(names, pattern.stem.as_str(), digits.format(j))?;
     let key = Key {
         kind: Kind::Pod,
         space: pattern.space,
@@ -380,15 +383,11 @@ fn text_of(alloc: Global, text: &str) -> Result<String, NoMemory>
     Ok(String::from_str(alloc, text)?)
 }
 
-/// The name of the J-th pod.
-fn pod_name(alloc: Global, name: &str, j: usize) -> Result<String, NoMemory>
-    ensures { IfOk result (λ text. string_bytes text ≡ spec.pod_name name.now j) }
+/// What the names of a set's pods begin with.
+fn stem_of(alloc: Global, name: &str) -> Result<String, NoMemory>
+    ensures { IfOk result (λ stem. string_bytes stem ≡ name.now ++ codes "-") }
 {
-    let mut digits = Buffer::new();
-    let digits = digits.format(j);
-    let mut text = String::with_capacity(alloc, name.len() + 1 + digits.len())?;
-    text.push_str(name)?;
-    text.push_str("-")?;
-    text.push_str(digits)?;
-    Ok(text)
+    let mut stem = String::from_str(alloc, name)?;
+    stem.push_str("-")?;
+    Ok(stem)
 }

@@ -79,9 +79,9 @@ fn controller_names(alloc: Global) -> Result<Names, NoMemory>
     ensures { IfOk result (λ names. names ≡ spec.controller_names) }
 {
     let mut names = Names::new(alloc)?;
-    names.number("c0")?;
-    names.number("c1")?;
-    names.number("c2")?;
+    names.number(b"c0")?;
+    names.number(b"c1")?;
+    names.number(b"c2")?;
     Ok(names)
 }
 
@@ -105,7 +105,7 @@ fn add_new(names: &mut Names, text: &str) -> Result<(), NoMemory>
     requires fresh { list_any (bytes_eq text.now) names.old ≡ false }
     ensures { OnOk result (names.new ≡ names.old ++ text.now ∷ []) }
 {
-    names.number(text)?;
+    names.number(text.as_bytes())?;
     Ok(())
 }
 

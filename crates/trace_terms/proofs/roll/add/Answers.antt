@@ -1,6 +1,6 @@
 use Rattle.std.proofs.Common.{◌∙◌, sym, ap, map}
-use Rattle.kube_base.proofs.NameLemmas.{number_in-map, with_name-map}
 use Rattle.kube_base.specs.Names.{number_in, with_name}
+use Rattle.trace_terms.proofs.RollTexts.{number_in-map, with_name-map}
 use Rattle.trace_terms.proofs.roll.add.Goals as goal
 
 pub returns-clause-place : goal.returns-clause-place

@@ -1,4 +1,4 @@
-use Rattle.std.proofs.Common.{◌∙◌, ◌==◌, Some, None, arith, cond, refl, ap}
+use Rattle.std.proofs.Common.{◌∙◌, ◌==◌, Some, arith, cond, refl, ap}
 use Rattle.key_map.specs.Rows.{place_in}
 use Rattle.key_map.proofs.Lists.{given}
 use Rattle.key_map.proofs.Shelves.{held_same, on_err, put_row}

@@ -23,9 +23,9 @@ pub returns-in_err-give_row-clause-absent : goal.returns-in_err-give_row-clause-
 returns-in_err-give_row-clause-absent g c =
     on_err c.from_residual-in_err-give_row.result
     (sym (held_aside c.args.self.now c.args.space c.args.name c.place_of-place.result c.requires c.place_of-place.ensures.fits c.place_of-place.ensures.place)
-    ∙ sym (none_found _ (sym c.contains_key.ensures ∙ c.if-contains_key.false)))
+    ∙ sym (none_found _ (sym c.is_aside.ensures ∙ c.if-is_aside.false)))
 
 pub returns-clause-old : goal.returns-clause-old
 returns-clause-old g c =
-    none_found _ (sym c.contains_key.ensures ∙ c.if-contains_key.false)
+    none_found _ (sym c.is_aside.ensures ∙ c.if-is_aside.false)
     ∙ held_aside c.args.self.now c.args.space c.args.name c.place_of-place.result c.requires c.place_of-place.ensures.fits c.place_of-place.ensures.place

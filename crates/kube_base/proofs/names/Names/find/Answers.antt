@@ -1,12 +1,9 @@
-use Rattle.std.proofs.Common.{map, string_bytes, sym}
-use Rattle.kube_base.proofs.NameLemmas.{number_of-map, number_of-absent}
+use Rattle.std.proofs.Common.{◌∙◌, sym}
+use Rattle.kube_base.proofs.NameLemmas.{number_of-is}
 use Rattle.kube_base.proofs.names.Names.find.Goals as goal
 
-pub returns-in-Some : goal.returns-in-Some
-returns-in-Some c = rw (← c.self.view_is, ← c.in-Ok.ensures.cases.0, number_of-map string_bytes c.self.inside.texts.keys c.in-Ok.text.now) c.in-Some.ensures.index
+pub returns-in-Some-get_index_of : goal.returns-in-Some-get_index_of
+returns-in-Some-get_index_of c = rw (← c.self.view_is) (c.in-Some-get_index_of.ensures.index ∙ sym (number_of-is c.self.inside.texts.keys c.args.bytes.now))
 
 pub returns-in-None : goal.returns-in-None
-returns-in-None c = rw (← c.self.view_is, ← c.in-Ok.ensures.cases.0, number_of-map string_bytes c.self.inside.texts.keys c.in-Ok.text.now) c.in-None.ensures.index
-
-pub returns-in_default : goal.returns-in_default
-returns-in_default c = rw (← c.self.view_is) (sym (number_of-absent (map string_bytes c.self.inside.texts.keys) c.args.bytes.now c.self.invariant.text c.in_default.ensures.cases.0))
+returns-in-None c = rw (← c.self.view_is) (c.in-None.ensures.index ∙ sym (number_of-is c.self.inside.texts.keys c.args.bytes.now))

@@ -1,6 +1,5 @@
-use Rattle.std.proofs.Common.{string_bytes}
-use Rattle.kube_base.proofs.NameLemmas.{EachOnce-map}
+use Rattle.kube_base.proofs.NameLemmas.{number_of-held}
 use Rattle.kube_base.proofs.names.Names.len.Goals as goal
 
 pub returns-clause-once : goal.returns-clause-once
-returns-clause-once c = rw (← c.self.view_is) (EachOnce-map string_bytes c.self.inside.texts.keys c.len.ensures.unique)
+returns-clause-once c = rw (← c.self.view_is) (λ i text. number_of-held c.self.inside.texts.keys i text c.len.ensures.unique)

@@ -1,6 +1,7 @@
 use Rattle.std.proofs.Common.{◌≡◌, Some, sym}
 use Rattle.kube_base.specs.Names.{number_of}
-use Rattle.kube_base.proofs.NameLemmas.{number_of-map, number_in-found, with_name-found}
+use Rattle.kube_base.proofs.NameLemmas.{number_in-found, with_name-found}
+use Rattle.trace_terms.proofs.RollTexts.{number_of-map}
 use Rattle.trace_terms.proofs.roll.Roll.place.Goals as goal
 
 found : (c : goal.In-Some) → number_of c.args.self.now c.args.text.now ≡ Some c.in-Some.index
